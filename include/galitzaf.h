@@ -1,0 +1,107 @@
+/* Galitzaf: Intel's VT-d remapping unit in software, proved.
+ *
+ * Link with libgalitzaf_ffi.a. No function allocates, blocks, keeps a pointer or reads anything but
+ * its arguments, and each may be called from any thread. Every length is checked: a call with a
+ * malformed argument answers GALITZAF_BAD_... and changes nothing. A length of 0 may come with any
+ * pointer that isn't null. Buffers of one call must not overlap where one of them is written.
+ */
+#ifndef GALITZAF_H
+#define GALITZAF_H
+
+#include <stddef.h>
+#include <stdint.h>
+
+#ifdef __cplusplus
+extern "C" {
+#endif
+
+/* Registers: 24 bytes, numbers little-endian.
+ *
+ *   byte 0       HAW, host address width
+ *   byte 1       MGAW, guest address width
+ *   byte 2       supported: bits 0, 1, 2 for 3, 4, 5 levels; bit 3 for 2 MiB and bit 4 for 1 GiB pages;
+ *                bit 5 for posting; bits 7:6 zero
+ *   byte 3       switches: bit 0 TE, bit 1 IRE, bit 2 EIME, bit 3 CFIS; bits 7:4 zero
+ *   byte 4       S, the interrupt table has 2^(S+1) entries
+ *   bytes 7:5    zero
+ *   bytes 15:8   root table address
+ *   bytes 23:16  interrupt remapping table address
+ *
+ * A value out of VT-d's range (HAW 35, say) is a refusal and not a malformed buffer.
+ */
+#define GALITZAF_REGISTERS_SIZE 24
+
+/* Answers: 24 bytes. Byte 0 is the kind; bytes that a kind doesn't name are zero.
+ *
+ *   GRANTED   bytes 15:8 host address                                            (memory requests)
+ *   BLOCKED   byte 1 reason, byte 2 1 where the fault may be recorded, else 0;
+ *             bytes 23:8 the 16 record bytes
+ *   REFUSED   byte 1 refusal number (1 bad registers, 2 address of the wrong kind)
+ *   PASSED    the interrupt goes on unchanged                                    (interrupts)
+ *   REMAPPED  byte 1 vector, byte 2 delivery mode, byte 3 bit 0 destination mode, bit 1 redirection
+ *             hint, bit 2 trigger mode; bytes 7:4 destination                    (interrupts)
+ *   POSTED    byte 1 1 where a notification is due, else 0; then byte 2 its vector and bytes 7:4
+ *             its destination                                                    (interrupts)
+ */
+#define GALITZAF_ANSWER_SIZE 24
+#define GALITZAF_GRANTED 0
+#define GALITZAF_BLOCKED 1
+#define GALITZAF_REFUSED 2
+#define GALITZAF_PASSED 3
+#define GALITZAF_REMAPPED 4
+#define GALITZAF_POSTED 5
+
+/* Fault records: 8 of 16 bytes. The recorder's state: byte 0 the next slot, byte 1 overflow (0 or 1). */
+#define GALITZAF_RECORDS_SIZE 128
+#define GALITZAF_RECORDER_SIZE 2
+
+/* What a call answers. */
+#define GALITZAF_OK 0x00             /* a request: the answer buffer holds its answer */
+#define GALITZAF_REFUSED_3 0x03      /* recorder: record buffer, next slot or slot out of range */
+#define GALITZAF_NO_FAULT 0x10       /* record: the answer holds no fault */
+#define GALITZAF_NOT_RECORDABLE 0x11 /* record: FPD silenced the fault */
+#define GALITZAF_DROPPED 0x12        /* record: overflow was set already */
+#define GALITZAF_OVERFLOWED 0x13     /* record: the next slot is taken, so overflow is set now */
+#define GALITZAF_WRITTEN 0x14        /* record: the fault stands in the buffer */
+#define GALITZAF_SLOT_CLEAR 0x20     /* clear a slot: no record stood there */
+#define GALITZAF_SLOT_CLEARED 0x21   /* clear a slot: a record stood there */
+#define GALITZAF_OVERFLOW_CLEAR 0x30 /* clear overflow: it was clear */
+#define GALITZAF_OVERFLOW_CLEARED 0x31 /* clear overflow: it was set */
+#define GALITZAF_BAD_REGISTERS 0x101 /* not 24 bytes, or a bit set that has to be zero */
+#define GALITZAF_BAD_ANSWER 0x102    /* not 24 bytes, or, to be recorded, none that a request left */
+#define GALITZAF_BAD_KIND 0x103      /* write is neither 0 nor 1 */
+#define GALITZAF_BAD_RECORDER 0x104  /* not 2 bytes, or overflow is neither 0 nor 1 */
+
+/* Where an untranslated request may go. source has the bus in 15:8, device and function in 7:0; write
+ * is 1 for a write, 0 for a read. */
+uint32_t galitzaf_memory_request(const uint8_t *registers, size_t registers_len,
+                                 const uint8_t *image, size_t image_len,
+                                 uint16_t source, uint64_t address, uint8_t write,
+                                 uint8_t *answer, size_t answer_len);
+
+/* What becomes of an interrupt message. A posted one changes two bits of the image at most; any other
+ * answer leaves it as it came. */
+uint32_t galitzaf_interrupt_request(const uint8_t *registers, size_t registers_len,
+                                    uint8_t *image, size_t image_len,
+                                    uint16_t source, uint64_t address, uint32_t data,
+                                    uint8_t *answer, size_t answer_len);
+
+/* Records the fault of a request's answer. */
+uint32_t galitzaf_record(const uint8_t *answer, size_t answer_len,
+                         uint8_t *records, size_t records_len,
+                         uint8_t *recorder, size_t recorder_len);
+
+/* Clears bit 127 of the record in a slot. */
+uint32_t galitzaf_clear_slot(uint8_t *records, size_t records_len,
+                             const uint8_t *recorder, size_t recorder_len,
+                             uint8_t slot);
+
+/* Clears the overflow flag. */
+uint32_t galitzaf_clear_overflow(const uint8_t *records, size_t records_len,
+                                 uint8_t *recorder, size_t recorder_len);
+
+#ifdef __cplusplus
+}
+#endif
+
+#endif
