@@ -1,0 +1,5 @@
+pub mod Bits
+pub mod Bytes
+pub mod Choice
+pub mod Memory
+pub mod Rules

@@ -1,0 +1,39 @@
+-- A request's rules: a tree whose forks are fetches and whose leaves are answers. One tree gives the answer, the named
+-- words and where a request stopped, so no two of them can disagree.
+use Prim.Native.Nat.{ℕ, zero, suc, _+_, _*_}
+use mathlib.Core.Path.{_≡_, refl, ap, sym, _∙_}
+use mathlib.Core.List.{List, [], _∷_, _++_}
+use Rattle.image.specs.Memory.{Memory, entry, onFetch}
+
+pub data Rules (A : Type 0) : Type 0 where
+  -- no more is read: this is the answer
+  answer : A → Rules A
+  -- read an entry of so many words at an address: the answer where it can't be fetched, and what follows where it can
+  fetch : (words at : ℕ) → A → (ℕ → Rules A) → Rules A
+
+-- the addresses of so many words from at
+unfoldable pub wordsFrom : ℕ → ℕ → List ℕ
+wordsFrom zero at = []
+wordsFrom (suc n) at = at ∷ wordsFrom n (at + 8)
+
+module _ {A : Type 0} where
+  -- the answer that the rules give over a memory
+  unfoldable pub run : Rules A → Memory → A
+  run (answer a) m = a
+  run (fetch words at outside next) m = onFetch (entry words m at) outside (λ e. run (next e) m)
+
+  -- the words that the rules read over a memory, in order: those of the entries that could be fetched
+  unfoldable pub named : Rules A → Memory → List ℕ
+  named (answer a) m = []
+  named (fetch words at outside next) m =
+      onFetch (entry words m at) [] (λ e. wordsFrom words at ++ named (next e) m)
+
+  -- every entry that the rules read over a memory could be fetched
+  unfoldable pub Complete : Rules A → Memory → Type 0
+  Complete (answer a) m = Unit {0}
+  Complete (fetch words at outside next) m = onFetch (entry words m at) ⊥ (λ e. Complete (next e) m)
+
+-- two memories have the same in each of these words
+unfoldable pub Alike : List ℕ → Memory → Memory → Type 0
+Alike [] m m′ = Unit {0}
+Alike (a ∷ rest) m m′ = (m a ≡ m′ a) × Alike rest m m′
