@@ -1,1 +1,4 @@
+pub mod Fields
 pub mod Local
+pub mod Pages
+pub mod Words

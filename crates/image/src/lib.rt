@@ -1,8 +1,148 @@
+// The lent run of guest memory: byte n stands at host address n. Entries of 8, 16 and 64 bytes are fetched from it, a
+// table's page is handed on as a part of it, and nothing is copied.
 ghost use mathlib.Core.Path.{_≡_};
-ghost use Prim.Native.Nat.{_<_};
+ghost use Prim.Native.Nat.{_+_, _≤_, _<_, min};
+ghost use lib.ListN.{length, take, drop};
+ghost use Rattle.image.specs.Bits.{bits};
+ghost use Rattle.image.specs.Memory.{wordAt, ofImage, entry};
+ghost use Rattle.image.specs.Entries.{fetched8, fetched16, fetched64};
+
+// An entry of 16 bytes: bits 63:0 and 127:64.
+pub struct Entry16 {
+    pub low: u64,
+    pub high: u64,
+}
+
+// An entry of 64 bytes: bits 63:0 in w0, 511:448 in w7.
+pub struct Entry64 {
+    pub w0: u64,
+    pub w1: u64,
+    pub w2: u64,
+    pub w3: u64,
+    pub w4: u64,
+    pub w5: u64,
+    pub w6: u64,
+    pub w7: u64,
+}
+
+pub enum Found8 {
+    Entry(u64),
+    Missing,
+}
+
+pub enum Found16 {
+    Entry(Entry16),
+    Missing,
+}
+
+pub enum Found64 {
+    Entry(Entry64),
+    Missing,
+}
+
+// The field of a word from bit high down to bit low; 0 where low is above high.
+pub fn field(word: u64, high: u32, low: u32) -> u64
+    ensures { λ r. ⌜ r ≡ bits word high low ⌝ }
+{
+    if 63 < low || high < low {
+        return 0;
+    }
+    let shifted = word >> low;
+    if 63 <= high {
+        return shifted;
+    }
+    shifted % (1u64 << (high - low + 1))
+}
+
+fn smaller(a: usize, b: usize) -> usize
+    ensures { λ r. ⌜ r ≡ min a b ⌝ }
+{
+    if a < b { a } else { b }
+}
+
+// The 4 KiB page of a table, as much of it as the image holds, which may be none.
+pub fn table_page(image: &[u8], table: u64) -> &[u8]
+    ensures { λ r. ⌜ now r ≡ take 4096 (drop table (now (image .entry))) ⌝ }
+{
+    let len = image.len();
+    let from = smaller(table as usize, len);
+    let to = from + smaller(4096, len - from);
+    &image[from..to]
+}
 
 fn wide(x: u8) -> u64
     ensures { λ r. ⌜ (r ≡ x) × (r < 256) ⌝ }
 {
     x as u64
+}
+
+// The word in the 8 bytes from an index.
+fn word(image: &[u8], at: usize) -> u64
+    requires { ⌜ at + 8 ≤ length (now image) ⌝ }
+    ensures { λ r. ⌜ r ≡ wordAt (now (image .entry)) at ⌝ }
+{
+    wide(image[at])
+        + 256
+            * (wide(image[at + 1])
+                + 256
+                    * (wide(image[at + 2])
+                        + 256
+                            * (wide(image[at + 3])
+                                + 256
+                                    * (wide(image[at + 4])
+                                        + 256
+                                            * (wide(image[at + 5])
+                                                + 256
+                                                    * (wide(image[at + 6])
+                                                        + 256 * wide(image[at + 7])))))))
+}
+
+pub fn fetch8(image: &[u8], at: u64) -> Found8
+    ensures { λ r. ⌜ fetched8 r ≡ entry 1 (ofImage (now (image .entry))) at ⌝ }
+{
+    if image.len() < 8 {
+        return Found8::Missing;
+    }
+    if ((image.len() - 8) as u64) < at {
+        return Found8::Missing;
+    }
+    Found8::Entry(word(image, at as usize))
+}
+
+pub fn fetch16(image: &[u8], at: u64) -> Found16
+    ensures { λ r. ⌜ fetched16 r ≡ entry 2 (ofImage (now (image .entry))) at ⌝ }
+{
+    if image.len() < 16 {
+        return Found16::Missing;
+    }
+    if ((image.len() - 16) as u64) < at {
+        return Found16::Missing;
+    }
+    let from = at as usize;
+    Found16::Entry(Entry16 {
+        low: word(image, from),
+        high: word(image, from + 8),
+    })
+}
+
+pub fn fetch64(image: &[u8], at: u64) -> Found64
+    ensures { λ r. ⌜ fetched64 r ≡ entry 8 (ofImage (now (image .entry))) at ⌝ }
+{
+    if image.len() < 64 {
+        return Found64::Missing;
+    }
+    if ((image.len() - 64) as u64) < at {
+        return Found64::Missing;
+    }
+    let from = at as usize;
+    Found64::Entry(Entry64 {
+        w0: word(image, from),
+        w1: word(image, from + 8),
+        w2: word(image, from + 16),
+        w3: word(image, from + 24),
+        w4: word(image, from + 32),
+        w5: word(image, from + 40),
+        w6: word(image, from + 48),
+        w7: word(image, from + 56),
+    })
 }

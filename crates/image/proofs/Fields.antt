@@ -1,0 +1,74 @@
+-- Fields of numbers, and of an entry in terms of its words.
+use Prim.Native.Nat.{ℕ, zero, suc, _+_, _-_, _*_, _/_, _%_, _^_, _≤_, _<_}
+use mathlib.Core.Path.{_≡_, refl, ap, sym, _∙_}
+use mathlib.Core.List.{List, [], _∷_}
+use native.Mathlib.Omega.{arith}
+use native.Mathlib.Nat.{mod-one, zero-mod, mod-eq-of-lt, div-eq-of-lt, lt-of-lt-of-le, le-refl, mul-add-mod-self-left, mul-add-div, add-comm, add-zero, div-one, one-mul}
+use native.Mathlib.Decide.{decLe}
+use lib.Pow.{pow-pos, pow-mono, pow-lt, field, shr-lt, shr-shr, mod-mod-pow}
+use Rattle.image.specs.Bits.{bits}
+use Rattle.image.specs.Entries.{spell}
+
+-- a field whose low bit is above its high bit is 0
+pub upside-down : (e : ℕ) {high low : ℕ} → high < low → bits e high low ≡ 0
+unfolding bits
+upside-down e {high} {low} h =
+    let none : suc high - low ≡ 0 = omega arith in
+    rw none (mod-one (e / 2 ^ low))
+
+-- a field past the top of the number is 0
+pub past-top : (e width high : ℕ) {low : ℕ} → e < 2 ^ width → width ≤ low → bits e high low ≡ 0
+unfolding bits
+past-top e width high {low} h past =
+    rw (div-eq-of-lt (lt-of-lt-of-le h (pow-mono past))) (zero-mod (2 ^ (suc high - low)))
+
+-- a field that reaches to the top of the number is all that is left above its low bit
+pub to-top : (e width high low : ℕ) → e < 2 ^ width → width ≤ suc high → low ≤ suc high → bits e high low ≡ e / 2 ^ low
+unfolding bits
+to-top e width high low h top ordered =
+    let sum : (suc high - low) + low ≡ suc high = omega arith in
+    mod-eq-of-lt (shr-lt (suc high - low) low (rw sum (lt-of-lt-of-le h (pow-mono top))))
+
+-- a field is the number below its top, shifted down
+pub below-top : (e high low : ℕ) → low ≤ suc high → bits e high low ≡ e % 2 ^ suc high / 2 ^ low
+unfolding bits
+below-top e high low ordered =
+    let sum : (suc high - low) + low ≡ suc high = omega arith in
+    sym (field e (suc high - low) low) ∙ ap (λ (n : ℕ). e % 2 ^ n / 2 ^ low) sum
+
+-- the whole of a number that is below 2^(high + 1)
+pub whole : (e high : ℕ) → e < 2 ^ suc high → bits e high 0 ≡ e
+whole e high h = to-top e (suc high) high 0 h (le-refl (suc high)) (omega arith) ∙ div-one e
+
+-- a power of two by a shift
+pub shifted-one : (k : ℕ) → k < 64 → (1 * 2 ^ k) % 2 ^ 64 ≡ 2 ^ k
+shifted-one k h = rw (one-mul (2 ^ k)) (mod-eq-of-lt (pow-lt h))
+
+module _ {w : ℕ} (ws : List ℕ) (word : w < 2 ^ 64) where
+  -- a field of the lowest word
+  pub in-first : (high low : ℕ) → high < 64 → bits (spell (w ∷ ws)) high low ≡ bits w high low
+  unfolding spell
+  in-first high low h = go (decLe low (suc high))
+    where
+      sum : (63 - high) + suc high ≡ 64
+      sum = omega arith
+
+      same : (w + 2 ^ 64 * spell ws) % 2 ^ suc high ≡ w % 2 ^ suc high
+      same =
+          sym (mod-mod-pow (w + 2 ^ 64 * spell ws) (63 - high) (suc high))
+          ∙ ap (λ (n : ℕ). (w + 2 ^ 64 * spell ws) % 2 ^ n % 2 ^ suc high) sum
+          ∙ ap (λ (n : ℕ). n % 2 ^ suc high) (ap (λ (n : ℕ). n % 2 ^ 64) (add-comm w (2 ^ 64 * spell ws)) ∙ mul-add-mod-self-left (2 ^ 64) (spell ws) w ∙ mod-eq-of-lt word)
+
+      go : Dec (low ≤ suc high) → bits (w + 2 ^ 64 * spell ws) high low ≡ bits w high low
+      go (yes ordered) =
+          below-top (w + 2 ^ 64 * spell ws) high low ordered ∙ ap (λ (n : ℕ). n / 2 ^ low) same ∙ sym (below-top w high low ordered)
+      go (no crossed) = upside-down (w + 2 ^ 64 * spell ws) (omega arith) ∙ sym (upside-down w (omega arith))
+
+  -- a field of the words after it
+  pub in-rest : (high low : ℕ) → bits (spell (w ∷ ws)) (64 + high) (64 + low) ≡ bits (spell ws) high low
+  unfolding spell bits
+  in-rest high low =
+      let width : suc (64 + high) - (64 + low) ≡ suc high - low = omega arith in
+      let rest : (w + 2 ^ 64 * spell ws) / 2 ^ 64 ≡ spell ws =
+      ap (λ (n : ℕ). n / 2 ^ 64) (add-comm w (2 ^ 64 * spell ws)) ∙ mul-add-div (pow-pos 64) (spell ws) w ∙ ap (λ (n : ℕ). spell ws + n) (div-eq-of-lt word) ∙ add-zero (spell ws) in
+      rw (width, ← shr-shr (w + 2 ^ 64 * spell ws) 64 low, rest)

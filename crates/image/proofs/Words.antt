@@ -1,0 +1,72 @@
+-- What stands in the image's words: one law for an entry of any number of words, where it lies in the image and where it doesn't.
+use Prim.Native.Nat.{ℕ, zero, suc, _+_, _*_, _≤_, _<_}
+use mathlib.Core.Path.{_≡_, refl, ap, sym, _∙_}
+use mathlib.Core.List.{List, [], _∷_}
+use native.Mathlib.Omega.{arith}
+use native.Mathlib.Nat.{mul-zero, add-zero, add-assoc}
+use native.Mathlib.Numerals.{add-one}
+use lib.ListN.{length, getD, take, drop}
+use lib.Seq.{drop-cons}
+use borrow.Author.Tests.{le-leb, lt-leb}
+use Rattle.image.specs.Bytes.{littleEndian}
+use Rattle.image.specs.Memory.{Fetched, missing, found, join, wordAt, ofImage, entry}
+use Rattle.image.specs.Entries.{spell}
+
+-- so many bytes from an address, and so many words
+unfoldable pub bytesFrom : List ℕ → ℕ → ℕ → List ℕ
+bytesFrom image zero at = []
+bytesFrom image (suc n) at = getD image at 0 ∷ bytesFrom image n (at + 1)
+
+unfoldable pub wordsFrom : List ℕ → ℕ → ℕ → List ℕ
+wordsFrom image zero at = []
+wordsFrom image (suc n) at = wordAt image at ∷ wordsFrom image n (at + 8)
+
+join-missing : (f : Fetched) → join f missing ≡ missing
+join-missing missing = refl
+join-missing (found w) = refl
+
+module _ (image : List ℕ) where
+  pub part : (n at : ℕ) → at + n ≤ length image → take n (drop at image) ≡ bytesFrom image n at
+  unfolding bytesFrom
+  part zero at h = refl
+  part (suc n) at h =
+      let inside : at < length image = omega arith in
+      rw (drop-cons image at 0) (ap (λ (l : List ℕ). getD image at 0 ∷ l) (rw (← add-one at) (part n (at + 1) (omega arith))))
+
+  -- a word byte by byte
+  pub spelled : (at : ℕ) → at + 8 ≤ length image
+      → wordAt image at
+      ≡ getD image at 0
+      + 256 * (getD image (at + 1) 0
+      + 256 * (getD image (at + 2) 0
+      + 256 * (getD image (at + 3) 0
+      + 256 * (getD image (at + 4) 0
+      + 256 * (getD image (at + 5) 0
+      + 256 * (getD image (at + 6) 0
+      + 256 * getD image (at + 7) 0))))))
+  unfolding wordAt littleEndian bytesFrom
+  spelled at h = rw (part 8 at h) (simp (add-assoc, mul-zero, add-zero))
+
+  -- an entry that lies whole in the image is the number that its words spell
+  pub inside : (n at : ℕ) → at + 8 * n ≤ length image → entry n (ofImage image) at ≡ found (spell (wordsFrom image n at))
+  unfolding entry ofImage spell wordsFrom
+  inside zero at h = refl
+  inside (suc n) at h =
+      let fits : at + 8 ≤ length image = omega arith in
+      rw (le-leb (at + 8) (length image) fits, inside n (at + 8) (omega arith))
+
+  -- an entry of which a byte lies outside is missing
+  pub outside : (n at : ℕ) → length image < at + 8 * suc n → entry (suc n) (ofImage image) at ≡ missing
+  unfolding entry ofImage
+  outside zero at h =
+      let past : length image < at + 8 = omega arith in
+      rw (lt-leb (at + 8) (length image) past)
+  outside (suc n) at h = rw (outside n (at + 8) (omega arith)) (join-missing (ofImage image at))
+
+  -- the same as a fetch says it: the words that it read are those of the image
+  pub fetched : (n at : ℕ) (ws : List ℕ) → at + 8 * n ≤ length image → ws ≡ wordsFrom image n at → found (spell ws) ≡ entry n (ofImage image) at
+  fetched n at ws h e = ap (λ (l : List ℕ). found (spell l)) e ∙ sym (inside n at h)
+
+pub spell-one : (w : ℕ) → spell (w ∷ []) ≡ w
+unfolding spell
+spell-one w = simp (mul-zero, add-zero)

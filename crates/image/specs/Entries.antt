@@ -1,0 +1,36 @@
+-- An entry as the words that the code holds, and what each fetch of the code says it found.
+use Prim.Native.Nat.{ℕ, _+_, _*_, _^_}
+use mathlib.Core.List.{List, [], _∷_}
+use Rattle.image.specs.Memory.{Fetched, missing, found}
+use Rattle.image.specs.declared.Entry16.{Entry16}
+use Rattle.image.specs.declared.Entry64.{Entry64}
+use Rattle.image.specs.declared.Found8.{Found8}
+use Rattle.image.specs.declared.Found8.the-variants as found8
+use Rattle.image.specs.declared.Found16.{Found16}
+use Rattle.image.specs.declared.Found16.the-variants as found16
+use Rattle.image.specs.declared.Found64.{Found64}
+use Rattle.image.specs.declared.Found64.the-variants as found64
+
+-- the number that a run of words spells, lowest word first
+unfoldable pub spell : List ℕ → ℕ
+spell [] = 0
+spell (w ∷ ws) = w + 2 ^ 64 * spell ws
+
+abbrev pub number16 : Entry16 → ℕ
+number16 e = spell (e .low ∷ e .high ∷ [])
+
+abbrev pub number64 : Entry64 → ℕ
+number64 e =
+    spell (e .w0 ∷ e .w1 ∷ e .w2 ∷ e .w3 ∷ e .w4 ∷ e .w5 ∷ e .w6 ∷ e .w7 ∷ [])
+
+abbrev pub fetched8 : Found8 → Fetched
+fetched8 (found8.Entry e) = found e
+fetched8 found8.Missing = missing
+
+abbrev pub fetched16 : Found16 → Fetched
+fetched16 (found16.Entry e) = found (number16 e)
+fetched16 found16.Missing = missing
+
+abbrev pub fetched64 : Found64 → Fetched
+fetched64 (found64.Entry e) = found (number64 e)
+fetched64 found64.Missing = missing
