@@ -1,0 +1,33 @@
+-- Powers of two and the shifts that stand for them.
+use Prim.Native.Nat.{ℕ, _-_, _*_, _/_, _%_, _^_, _<_, _≤_}
+use mathlib.Core.Path.{_≡_, refl, ap, _∙_}
+use mathlib.Core.Bool.{Bool, true, false, not}
+use native.Mathlib.Nat.{le-div-iff-mul-le, div-eq-of-lt, mod-eq-of-lt, one-mul, lt-of-lt-of-le, mul-mod-left}
+use native.Mathlib.Omega.{arith}
+use borrow.Author.Tests.{leb-true, leb-false, lt-leb, eq-eqb, ne-eqb}
+use lib.Dec.{leb, eqb}
+use lib.Pow.{pow-pos, pow-mono, pow-lt, pow-add}
+
+-- a number is at or above 2^n exactly when its bits from n up are not all clear
+pub shifted : (n a : ℕ) → not (eqb (a / 2 ^ n) 0) ≡ leb (2 ^ n) a
+shifted n a = go (leb (2 ^ n) a) refl
+  where
+    go : (t : Bool) → leb (2 ^ n) a ≡ t → not (eqb (a / 2 ^ n) 0) ≡ t
+    go true e =
+        let one : 1 ≤ a / 2 ^ n = le-div-iff-mul-le (pow-pos n) .1 (rw one-mul (leb-true _ _ e)) in
+        ap not (ne-eqb (a / 2 ^ n) 0 (λ z. omega arith))
+    go false e = ap not (eq-eqb (a / 2 ^ n) 0 (div-eq-of-lt (leb-false _ _ e)))
+
+-- no number of k bits is at or above a power past them
+pub beyond : {k n a : ℕ} → a < 2 ^ k → k ≤ n → leb (2 ^ n) a ≡ false
+beyond h l = lt-leb _ _ (lt-of-lt-of-le h (pow-mono l))
+
+-- 2^n kept in k bits is itself where n is below k
+pub kept : {k n : ℕ} → n < k → 2 ^ n % 2 ^ k ≡ 2 ^ n
+kept h = mod-eq-of-lt (pow-lt h)
+
+-- and 0 from k up
+pub lost : {k n : ℕ} → k ≤ n → 2 ^ n % 2 ^ k ≡ 0
+lost {k} {n} h =
+    let split : 2 ^ n ≡ 2 ^ (n - k) * 2 ^ k = ap (λ (x : ℕ). 2 ^ x) (omega arith) ∙ pow-add 2 (n - k) k in
+    rw split (mul-mod-left (2 ^ (n - k)) (2 ^ k))
