@@ -17,9 +17,9 @@ unfoldable pub bytesFrom : List ℕ → ℕ → ℕ → List ℕ
 bytesFrom image zero at = []
 bytesFrom image (suc n) at = getD image at 0 ∷ bytesFrom image n (at + 1)
 
-unfoldable pub wordsFrom : List ℕ → ℕ → ℕ → List ℕ
-wordsFrom image zero at = []
-wordsFrom image (suc n) at = wordAt image at ∷ wordsFrom image n (at + 8)
+unfoldable pub wordsIn : List ℕ → ℕ → ℕ → List ℕ
+wordsIn image zero at = []
+wordsIn image (suc n) at = wordAt image at ∷ wordsIn image n (at + 8)
 
 join-missing : (f : Fetched) → join f missing ≡ missing
 join-missing missing = refl
@@ -48,8 +48,8 @@ module _ (image : List ℕ) where
   spelled at h = rw (part 8 at h) (simp (add-assoc, mul-zero, add-zero))
 
   -- an entry that lies whole in the image is the number that its words spell
-  pub inside : (n at : ℕ) → at + 8 * n ≤ length image → entry n (ofImage image) at ≡ found (spell (wordsFrom image n at))
-  unfolding entry ofImage spell wordsFrom
+  pub inside : (n at : ℕ) → at + 8 * n ≤ length image → entry n (ofImage image) at ≡ found (spell (wordsIn image n at))
+  unfolding entry ofImage spell wordsIn
   inside zero at h = refl
   inside (suc n) at h =
       let fits : at + 8 ≤ length image = omega arith in
@@ -64,7 +64,7 @@ module _ (image : List ℕ) where
   outside (suc n) at h = rw (outside n (at + 8) (omega arith)) (join-missing (ofImage image at))
 
   -- the same as a fetch says it: the words that it read are those of the image
-  pub fetched : (n at : ℕ) (ws : List ℕ) → at + 8 * n ≤ length image → ws ≡ wordsFrom image n at → found (spell ws) ≡ entry n (ofImage image) at
+  pub fetched : (n at : ℕ) (ws : List ℕ) → at + 8 * n ≤ length image → ws ≡ wordsIn image n at → found (spell ws) ≡ entry n (ofImage image) at
   fetched n at ws h e = ap (λ (l : List ℕ). found (spell l)) e ∙ sym (inside n at h)
 
 pub spell-one : (w : ℕ) → spell (w ∷ []) ≡ w

@@ -1,8 +1,10 @@
 -- A request's rules: a tree whose forks are fetches and whose leaves are answers. One tree gives the answer, the named
--- words and where a request stopped, so no two of them can disagree.
-use Prim.Native.Nat.{ℕ, zero, suc, _+_, _*_}
-use mathlib.Core.Path.{_≡_, refl, ap, sym, _∙_}
+-- words and the entries that a request read, so no two of them can disagree.
+use Prim.Native.Nat.{ℕ, zero, suc, _+_}
+use mathlib.Core.Path.{_≡_}
 use mathlib.Core.List.{List, [], _∷_, _++_}
+use lib.Dec.{eqb}
+use Rattle.image.specs.Choice.{if_then_else_}
 use Rattle.image.specs.Memory.{Memory, entry, onFetch}
 
 pub data Rules (A : Type 0) : Type 0 where
@@ -22,16 +24,33 @@ module _ {A : Type 0} where
   run (answer a) m = a
   run (fetch words at outside next) m = onFetch (entry words m at) outside (λ e. run (next e) m)
 
-  -- the words that the rules read over a memory, in order: those of the entries that could be fetched
+  -- document 01's named words: the words that the rules read over a memory, in order, those of the entries that could be fetched
   unfoldable pub named : Rules A → Memory → List ℕ
   named (answer a) m = []
   named (fetch words at outside next) m =
       onFetch (entry words m at) [] (λ e. wordsFrom words at ++ named (next e) m)
 
+  -- the addresses of the fetched entries that have so many words
+  unfoldable pub entriesOf : ℕ → Rules A → Memory → List ℕ
+  entriesOf size (answer a) m = []
+  entriesOf size (fetch words at outside next) m =
+      onFetch (entry words m at) []
+      (λ e. (if eqb words size then at ∷ [] else []) ++ entriesOf size (next e) m)
+
   -- every entry that the rules read over a memory could be fetched
   unfoldable pub Complete : Rules A → Memory → Type 0
   Complete (answer a) m = Unit {0}
   Complete (fetch words at outside next) m = onFetch (entry words m at) ⊥ (λ e. Complete (next e) m)
+
+  -- every answer of the rules to an entry that couldn't be fetched is of this kind
+  unfoldable pub Outside : (A → Type 0) → Rules A → Type 0
+  Outside Kind (answer a) = Unit {0}
+  Outside Kind (fetch words at outside next) = Kind outside × ((e : ℕ) → Outside Kind (next e))
+
+-- the same rules with each answer told otherwise
+unfoldable pub mapRules : {A B : Type 0} → (A → B) → Rules A → Rules B
+mapRules f (answer a) = answer (f a)
+mapRules f (fetch words at outside next) = fetch words at (f outside) (λ e. mapRules f (next e))
 
 -- two memories have the same in each of these words
 unfoldable pub Alike : List ℕ → Memory → Memory → Type 0

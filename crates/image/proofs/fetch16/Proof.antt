@@ -3,7 +3,7 @@ use native.Mathlib.Omega.{arith}
 use mathlib.Core.Path.{_≡_, ap, sym, _∙_}
 use mathlib.Core.List.{[], _∷_}
 use native.Mathlib.Nat.{add-assoc}
-use Rattle.image.proofs.Words.{wordsFrom, fetched, outside}
+use Rattle.image.proofs.Words.{wordsIn, fetched, outside}
 use borrow.Author.Needs.{needs}
 use Rattle.image.proofs.fetch16.Statement.{statement}
 use Rattle.image.proofs.fetch16.Tie as tie
@@ -27,7 +27,7 @@ word-requires-2 : tie.Need-word-requires-2
 word-requires-2 c κs = search needs
 
 returns-3 : tie.Need-returns-3
-unfolding wordsFrom
+unfolding wordsIn
 returns-3 c =
     let a = c .before .before .before .before .before .args in
     fetched (a .image .now) 2 (a .at) (c .before .word .result ∷ c .word2 .result ∷ []) (omega arith) cc

@@ -3,7 +3,7 @@ use native.Mathlib.Omega.{arith}
 use mathlib.Core.Path.{_≡_, ap, sym, _∙_}
 use mathlib.Core.List.{[], _∷_}
 use native.Mathlib.Nat.{add-assoc}
-use Rattle.image.proofs.Words.{wordsFrom, fetched, outside}
+use Rattle.image.proofs.Words.{wordsIn, fetched, outside}
 use borrow.Author.Needs.{needs}
 use Rattle.image.proofs.fetch64.Statement.{statement}
 use Rattle.image.proofs.fetch64.Tie as tie
@@ -63,7 +63,7 @@ word-requires-8 : tie.Need-word-requires-8
 word-requires-8 c κs = search needs
 
 returns-3 : tie.Need-returns-3
-unfolding wordsFrom
+unfolding wordsIn
 returns-3 c =
     let a = c .before .before .before .before .before .before .before .before .before .before .before .args in
     fetched (a .image .now) 8 (a .at) _ (omega arith) (simp add-assoc cc)

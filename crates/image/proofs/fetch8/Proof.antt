@@ -3,7 +3,7 @@ use native.Mathlib.Omega.{arith}
 use mathlib.Core.Path.{_≡_, ap, sym, _∙_}
 use mathlib.Core.List.{[], _∷_}
 use Rattle.image.specs.Memory.{found}
-use Rattle.image.proofs.Words.{wordsFrom, fetched, outside, spell-one}
+use Rattle.image.proofs.Words.{wordsIn, fetched, outside, spell-one}
 use borrow.Author.Needs.{needs}
 use Rattle.image.proofs.fetch8.Statement.{statement}
 use Rattle.image.proofs.fetch8.Tie as tie
@@ -21,7 +21,7 @@ word-requires : tie.Need-word-requires
 word-requires c κs = search needs
 
 returns-3 : tie.Need-returns-3
-unfolding wordsFrom
+unfolding wordsIn
 returns-3 c =
     let a = c .before .before .before .before .args in
     ap found (sym (spell-one (c .word .result)))
