@@ -1,2 +1,4 @@
+pub mod Admission
+pub mod Admitted
 pub mod Registers
 pub mod Source

@@ -2,10 +2,14 @@
 ghost use mathlib.Core.Path.{_≡_};
 ghost use Rattle.registers.specs.Registers.{badRegisters, badTable, outside};
 
+mod admission;
 mod page_size;
 mod power;
 mod source_id;
 
+pub use admission::Admission;
+pub use admission::admit;
+pub use admission::in_interrupt_range;
 pub use page_size::Page1G;
 pub use page_size::Page2M;
 pub use page_size::Page4K;
