@@ -1,0 +1,59 @@
+//! A legacy Intel VT-d remapping unit, read off the rules (document 01) as
+//! literally as possible.
+//!
+//! This is a second program, written apart from the proved one, to compare
+//! answers with. It follows the paper sentence by sentence, in the paper's
+//! order and the paper's bit numbers; the sentences stand as comments beside
+//! the lines that follow them. It is neither quick nor clever. It answers any
+//! registers, any image and any request without panicking.
+
+#![forbid(unsafe_code)]
+
+mod bits;
+mod record;
+mod registers;
+
+pub use record::Fault;
+pub use registers::Registers;
+
+/// What a request is answered.
+#[derive(Clone, Debug, PartialEq, Eq)]
+pub enum Outcome {
+    /// A memory request may go to this host address.
+    Granted(u64),
+    /// A fault stopped the request.
+    Blocked(Fault),
+    /// The unit says no by house number, 1 or 2.
+    Refused(u8),
+    /// An interrupt is passed unchanged.
+    Passed,
+    /// An interrupt is remapped.
+    Remapped {
+        /// Destination mode.
+        destination_mode: bool,
+        /// Redirection hint.
+        redirection_hint: bool,
+        /// Trigger.
+        trigger: bool,
+        /// Delivery mode.
+        delivery: u8,
+        /// Vector.
+        vector: u8,
+        /// Destination.
+        destination: u32,
+    },
+    /// An interrupt is posted, with a notice where one is due.
+    Posted {
+        /// The notice, if due.
+        notice: Option<Notice>,
+    },
+}
+
+/// The notice that goes with a post.
+#[derive(Clone, Debug, PartialEq, Eq)]
+pub struct Notice {
+    /// Vector.
+    pub vector: u8,
+    /// Destination.
+    pub destination: u32,
+}

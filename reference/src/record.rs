@@ -1,0 +1,74 @@
+//! "The fault slip": a fault answers its reason, whether it may be recorded,
+//! and 16 record bytes.
+
+use crate::bits::{bits, put};
+
+/// A fault as answered.
+#[derive(Clone, Debug, PartialEq, Eq)]
+pub struct Fault {
+    /// Intel's reason number.
+    pub reason: u8,
+    /// Whether it may be recorded.
+    pub recordable: bool,
+    /// The 16 record bytes.
+    pub record: [u8; 16],
+}
+
+/// FPD silences 02h to 07h, 0Bh, 0Ch (context) and 22h, 24h, 26h to 28h
+/// (interrupt entry); others are always recordable.
+///
+/// `fpd` is bit 1 of the context or interrupt entry, and false as long as no
+/// such entry was fetched.
+fn recordable(reason: u8, fpd: bool) -> bool {
+    let silenced_by_context = matches!(reason, 0x02..=0x07 | 0x0B | 0x0C);
+    let silenced_by_interrupt_entry = matches!(reason, 0x22 | 0x24 | 0x26..=0x28);
+    !(fpd && (silenced_by_context || silenced_by_interrupt_entry))
+}
+
+/// The fault of a memory request.
+pub fn memory_fault(reason: u8, fpd: bool, source: u16, address: u64, write: bool) -> Fault {
+    let mut record = [0; 16];
+    // Address 63:12 in place.
+    put(&mut record, 63, 12, bits(&address.to_le_bytes(), 63, 12));
+    // Source 79:64.
+    put(&mut record, 79, 64, u128::from(source));
+    // Reason 103:96.
+    put(&mut record, 103, 96, u128::from(reason));
+    // Bit 126 set for a read.
+    if !write {
+        put(&mut record, 126, 126, 1);
+    }
+    // Bit 127 set; the rest 0.
+    put(&mut record, 127, 127, 1);
+    Fault {
+        reason,
+        recordable: recordable(reason, fpd),
+        record,
+    }
+}
+
+/// The fault of an interrupt.
+pub fn interrupt_fault(reason: u8, fpd: bool, source: u16, index: u128) -> Fault {
+    let mut record = [0; 16];
+    // The interrupt index in 63:48 (65,535 if larger; 0 for 20h and 25h).
+    let index_written = if reason == 0x20 || reason == 0x25 {
+        0
+    } else if index > 65_535 {
+        65_535
+    } else {
+        index
+    };
+    put(&mut record, 63, 48, index_written);
+    // Source 79:64.
+    put(&mut record, 79, 64, u128::from(source));
+    // Reason 103:96.
+    put(&mut record, 103, 96, u128::from(reason));
+    // Bit 126 is for a read, which an interrupt is not.
+    // Bit 127 set; the rest 0.
+    put(&mut record, 127, 127, 1);
+    Fault {
+        reason,
+        recordable: recordable(reason, fpd),
+        record,
+    }
+}
