@@ -11,9 +11,11 @@
 
 mod bits;
 mod record;
+mod recorder;
 mod registers;
 
 pub use record::Fault;
+pub use recorder::{clear_overflow, clear_slot, record, Call, Recorder};
 pub use registers::Registers;
 
 /// What a request is answered.
