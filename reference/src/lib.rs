@@ -10,13 +10,18 @@
 #![forbid(unsafe_code)]
 
 mod bits;
+mod image;
+mod memory;
 mod record;
 mod recorder;
 mod registers;
+pub mod slips;
 
+pub use memory::{memory_request, memory_request_with, named_words_memory, walked_entries};
 pub use record::Fault;
 pub use recorder::{clear_overflow, clear_slot, record, Call, Recorder};
 pub use registers::Registers;
+pub use slips::Slip;
 
 /// What a request is answered.
 #[derive(Clone, Debug, PartialEq, Eq)]
