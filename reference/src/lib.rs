@@ -11,12 +11,14 @@
 
 mod bits;
 mod image;
+mod interrupts;
 mod memory;
 mod record;
 mod recorder;
 mod registers;
 pub mod slips;
 
+pub use interrupts::{interrupt_request, interrupt_request_with, named_words_interrupt};
 pub use memory::{memory_request, memory_request_with, named_words_memory, walked_entries};
 pub use record::Fault;
 pub use recorder::{clear_overflow, clear_slot, record, Call, Recorder};
