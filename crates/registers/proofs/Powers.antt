@@ -1,12 +1,14 @@
 -- Powers of two and the shifts that stand for them.
-use Prim.Native.Nat.{ℕ, _-_, _*_, _/_, _%_, _^_, _<_, _≤_}
-use mathlib.Core.Path.{_≡_, refl, ap, _∙_}
+use Prim.Native.Nat.{ℕ, suc, _-_, _*_, _/_, _%_, _^_, _<_, _≤_}
+use mathlib.Core.Path.{_≡_, refl, sym, ap, _∙_}
 use mathlib.Core.Bool.{Bool, true, false, not}
-use native.Mathlib.Nat.{le-div-iff-mul-le, div-eq-of-lt, mod-eq-of-lt, one-mul, lt-of-lt-of-le, mul-mod-left}
+use native.Mathlib.Nat.{le-div-iff-mul-le, div-eq-of-lt, mod-eq-of-lt, one-mul, div-one, lt-of-lt-of-le, mul-mod-left}
 use native.Mathlib.Omega.{arith}
 use borrow.Author.Tests.{leb-true, leb-false, lt-leb, eq-eqb, ne-eqb}
 use lib.Dec.{leb, eqb}
 use lib.Pow.{pow-pos, pow-mono, pow-lt, pow-add}
+use Rattle.image.specs.Bits.{bits, anySet}
+use Rattle.image.proofs.Fields.{below-top, whole}
 
 -- a number is at or above 2^n exactly when its bits from n up are not all clear
 pub shifted : (n a : ℕ) → not (eqb (a / 2 ^ n) 0) ≡ leb (2 ^ n) a
@@ -17,6 +19,19 @@ shifted n a = go (leb (2 ^ n) a) refl
         let one : 1 ≤ a / 2 ^ n = le-div-iff-mul-le (pow-pos n) .1 (rw one-mul (leb-true _ _ e)) in
         ap not (ne-eqb (a / 2 ^ n) 0 (λ z. omega arith))
     go false e = ap not (eq-eqb (a / 2 ^ n) 0 (div-eq-of-lt (leb-false _ _ e)))
+
+-- some bit of high:low is set exactly when what stands in high:0 is at or above 2^low
+pub field-above : (e : ℕ) {high low : ℕ} → low ≤ suc high → anySet e high low ≡ leb (2 ^ low) (bits e high 0)
+field-above e {high} {low} ordered =
+    let part = e % 2 ^ suc high in
+    let all : bits e high 0 ≡ part = below-top e high 0 (omega arith) ∙ div-one part in
+    ap (λ (n : ℕ). not (eqb n 0)) (below-top e high low ordered)
+    ∙ shifted low part
+    ∙ ap (leb (2 ^ low)) (sym all)
+
+-- the same of a whole number that ends at bit high, as an address with its bits from HAW to 63
+pub top-above : {e high low : ℕ} → e < 2 ^ suc high → low ≤ suc high → anySet e high low ≡ leb (2 ^ low) e
+top-above {e} {high} {low} h ordered = field-above e ordered ∙ ap (leb (2 ^ low)) (whole e high h)
 
 -- no number of k bits is at or above a power past them
 pub beyond : {k n a : ℕ} → a < 2 ^ k → k ≤ n → leb (2 ^ n) a ≡ false
