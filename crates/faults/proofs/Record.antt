@@ -1,0 +1,87 @@
+-- The record of two words, the fields of the upper one put together from bit 64.
+use Prim.Native.Nat.{ℕ, _+_, _*_, _/_, _^_, _<_}
+use mathlib.Core.Path.{_≡_, ap, sym, _∙_}
+use mathlib.Core.List.{[], _∷_}
+use mathlib.Core.Bool.{Bool, true, false, not}
+use native.Mathlib.Nat.{mul-add, mul-comm, mul-left-comm, mul-zero, add-zero}
+use native.Mathlib.Omega.{arith}
+use Rattle.image.specs.Bits.{bits, inPlace}
+use Rattle.image.specs.Entries.{spell}
+use Rattle.faults.specs.declared.fault.Fault.{Fault}
+use Rattle.faults.specs.Fault.{faultOf, highWord}
+use Rattle.faults.specs.Reason.{numberOf-injective}
+use Rattle.faults.specs.Record.{
+  FaultAnswer,
+  fromBit64,
+  recordable,
+  silenced,
+  memoryRecord,
+  memoryFault,
+  indexField,
+  interruptRecord,
+  interruptFault,
+}
+
+spread : (w s n a r t : ℕ) → w * (s + n * a + r + t) ≡ s * w + n * (w * a) + w * r + w * t
+spread w s n a r t =
+    rw (mul-add w (s + n * a + r) t, mul-add w (s + n * a) r, mul-add w s (n * a), mul-comm w s, mul-left-comm w n a)
+
+pub two-words : (low high : ℕ) → spell (low ∷ high ∷ []) ≡ low + 2 ^ 64 * high
+unfolding spell
+two-words low high = simp (mul-zero, add-zero)
+
+-- two words are told by the number that they spell
+pub two-words-injective : {a b c d : ℕ} → a < 2 ^ 64 → c < 2 ^ 64
+    → spell (a ∷ b ∷ []) ≡ spell (c ∷ d ∷ []) → (a ≡ c) × (b ≡ d)
+two-words-injective {a} {b} {c} {d} ha hc e =
+    let sums = sym (two-words a b) ∙ e ∙ two-words c d in
+    (omega arith, omega arith)
+
+-- a fault is told by its answer: no two structs stand for the same
+pub faultOf-injective : (f g : Fault) → f .low < 2 ^ 64 → g .low < 2 ^ 64 → faultOf f ≡ faultOf g → f ≡ g
+faultOf-injective f g hf hg e i =
+    let words = two-words-injective hf hg (ap (λ (a : FaultAnswer). a .contents) e) in
+    record {
+      reason = numberOf-injective (f .reason) (g .reason) (ap (λ (a : FaultAnswer). a .reason) e) i;
+      recordable = e i .recordable;
+      low = words .0 i;
+      high = words .1 i;
+    }
+
+upper : (low source number : ℕ) (read : Bool)
+    → spell (low ∷ highWord source number read ∷ []) ≡ low + fromBit64 source number read
+unfolding fromBit64
+upper low source number true =
+    rw (two-words, spread (2 ^ 64) source number (2 ^ 32) (2 ^ 62) (2 ^ 63))
+upper low source number false =
+    rw (two-words, spread (2 ^ 64) source number (2 ^ 32) 0 (2 ^ 63))
+
+-- an address with its low 12 bits cleared has bits 63:12 in place
+pub aligned : (address : ℕ) → address < 2 ^ 64 → address / 4096 * 4096 ≡ inPlace address 63 12
+unfolding bits
+aligned address h = omega arith
+
+module _ (fpd : Bool) (source : ℕ) {reason number high : ℕ} {may : Bool} (numbered : number ≡ reason)
+    (told : may ≡ recordable fpd number) where
+  answered : (low : ℕ) (read : Bool) → high ≡ highWord source number read
+      → _≡_ {A = FaultAnswer}
+      (record { reason = reason; recordable = may; contents = spell (low ∷ high ∷ []) })
+      (record { reason = reason; recordable = recordable fpd reason; contents = low + fromBit64 source reason read })
+  answered low read word = rw (told, word, upper low source number read, numbered)
+
+  pub memory-answered : (address : ℕ) (write : Bool) → address < 2 ^ 64
+      → high ≡ highWord source number (not write)
+      → _≡_ {A = FaultAnswer}
+      (record { reason = reason; recordable = may; contents = spell ((address / 4096 * 4096) ∷ high ∷ []) })
+      (memoryFault reason fpd source address write)
+  unfolding memoryFault memoryRecord
+  memory-answered address write fits word = rw (← aligned address fits) (answered _ (not write) word)
+
+  pub interrupt-answered : (index : ℕ) {field : ℕ} → field ≡ indexField number index
+      → high ≡ highWord source number false
+      → _≡_ {A = FaultAnswer}
+      (record { reason = reason; recordable = may; contents = spell ((field * 2 ^ 48) ∷ high ∷ []) })
+      (interruptFault reason fpd source index)
+  unfolding interruptFault interruptRecord
+  interrupt-answered index placed word =
+      rw (placed) (answered (indexField number index * 2 ^ 48) false word ∙ rw numbered)

@@ -1,0 +1,88 @@
+// A blocked request's answer, with its record.
+ghost use mathlib.Core.Path.{_≡_};
+ghost use Prim.Native.Nat.{_^_, _<_};
+ghost use Rattle.faults.specs.Fault.{faultOf, highWord};
+ghost use Rattle.faults.specs.Reason.{numberOf};
+ghost use Rattle.faults.specs.Record.{within, silenced, recordable, indexField, memoryFault, interruptFault};
+use crate::reason::Reason;
+use registers::SourceId;
+
+// The record's 128 bits are two words, bit 64 the lowest of high.
+pub struct Fault {
+    pub reason: Reason,
+    pub recordable: bool,
+    pub low: u64,
+    pub high: u64,
+}
+
+fn lies_within(low: u8, high: u8, n: u8) -> bool
+    ensures { λ r. ⌜ r ≡ within low high n ⌝ }
+{
+    (low <= n) & (n <= high)
+}
+
+fn is_silenced(number: u8) -> bool
+    ensures { λ r. ⌜ r ≡ silenced number ⌝ }
+{
+    lies_within(0x02, 0x07, number)
+        | lies_within(0x0B, 0x0C, number)
+        | (number == 0x22)
+        | (number == 0x24)
+        | lies_within(0x26, 0x28, number)
+}
+
+// A reason that FPD doesn't silence is always recordable.
+fn may_record(fpd: bool, number: u8) -> bool
+    ensures { λ r. ⌜ r ≡ recordable fpd number ⌝ }
+{
+    !(fpd & is_silenced(number))
+}
+
+// Bits 127:64 of a record.
+fn high_word(source: u16, number: u8, read: bool) -> u64
+    ensures { λ r. ⌜ r ≡ highWord source number read ⌝ }
+{
+    let word = source as u64 + number as u64 * 0x1_0000_0000 + 0x8000_0000_0000_0000;
+    if read {
+        word + 0x4000_0000_0000_0000
+    } else {
+        word
+    }
+}
+
+pub fn memory_fault(reason: Reason, fpd: bool, source: SourceId, address: u64, write: bool) -> Fault
+    ensures { λ r. ⌜ faultOf r ≡ memoryFault (numberOf reason) fpd (source .id) address write ⌝ }
+{
+    let number = reason.number();
+    Fault {
+        reason,
+        recordable: may_record(fpd, number),
+        low: address / 4096 * 4096,
+        high: high_word(source.id, number, !write),
+    }
+}
+
+// The index of a record: none for a request without one.
+fn recorded_index(number: u8, index: u32) -> u64
+    ensures { λ r. ⌜ (r ≡ indexField number index) × (r < 2 ^ 16) ⌝ }
+{
+    if (number == 0x20) | (number == 0x25) {
+        0
+    } else if 65535 < index {
+        65535
+    } else {
+        index as u64
+    }
+}
+
+pub fn interrupt_fault(reason: Reason, fpd: bool, source: SourceId, index: u32) -> Fault
+    ensures { λ r. ⌜ faultOf r ≡ interruptFault (numberOf reason) fpd (source .id) index ⌝ }
+{
+    let number = reason.number();
+    Fault {
+        reason,
+        recordable: may_record(fpd, number),
+        low: recorded_index(number, index) * 0x1_0000_0000_0000,
+        high: high_word(source.id, number, false),
+    }
+}
