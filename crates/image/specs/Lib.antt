@@ -1,5 +1,6 @@
 pub mod Bits
 pub mod Bytes
+pub mod Check
 pub mod Choice
 pub mod Entries
 pub mod Memory
