@@ -1,0 +1,355 @@
+//! What the unit answers.
+
+use core::fmt;
+
+use crate::fault::{Fault, FaultRecord, Reason};
+use crate::ffi::{self, ANSWER_SIZE};
+
+/// A call that was refused, by number. Nothing was changed, and nothing is to be recorded.
+///
+/// ```
+/// use galitzaf::Refusal;
+///
+/// assert_eq!(Refusal::from(2), Refusal::WrongAddress);
+/// assert_eq!(Refusal::BadRegisters.number(), 1);
+/// ```
+#[derive(Clone, Copy, Debug, PartialEq, Eq, Hash)]
+#[non_exhaustive]
+pub enum Refusal {
+    /// 1: a register is outside VT-d's range.
+    BadRegisters,
+    /// 2: a memory request in FEE00000h to FEEFFFFFh, or an interrupt outside of it.
+    WrongAddress,
+    /// 3: the record buffer isn't 128 bytes, or the next slot or a slot to clear is above 7.
+    BadRecorder,
+    /// A number that this version doesn't name. Number 0 is for an archive that doesn't keep to the header
+    /// this crate was written for, so that even then nothing is granted or delivered.
+    Other(u8),
+}
+
+impl Refusal {
+    pub(crate) const INTERFACE: Self = Self::Other(0);
+
+    /// Its number.
+    pub const fn number(self) -> u8 {
+        match self {
+            Self::BadRegisters => 1,
+            Self::WrongAddress => 2,
+            Self::BadRecorder => 3,
+            Self::Other(number) => number,
+        }
+    }
+}
+
+impl From<u8> for Refusal {
+    fn from(number: u8) -> Self {
+        match number {
+            1 => Self::BadRegisters,
+            2 => Self::WrongAddress,
+            3 => Self::BadRecorder,
+            _ => Self::Other(number),
+        }
+    }
+}
+
+impl fmt::Display for Refusal {
+    fn fmt(&self, f: &mut fmt::Formatter<'_>) -> fmt::Result {
+        match self {
+            Self::BadRegisters => f.write_str("refusal 1: bad registers"),
+            Self::WrongAddress => f.write_str("refusal 2: address of the wrong kind"),
+            Self::BadRecorder => f.write_str("refusal 3: bad recorder, record buffer or slot"),
+            Self::Other(number) => write!(f, "refusal {number}"),
+        }
+    }
+}
+
+impl core::error::Error for Refusal {}
+
+/// What becomes of a memory request.
+#[derive(Clone, Copy, Debug, PartialEq, Eq, Hash)]
+#[must_use]
+pub enum MemoryAnswer {
+    /// It may go to this host address.
+    Granted(u64),
+    /// It is blocked by a fault.
+    Blocked(Fault),
+    /// It was refused.
+    Refused(Refusal),
+}
+
+impl MemoryAnswer {
+    /// The host address, if granted.
+    pub const fn granted(&self) -> Option<u64> {
+        match self {
+            Self::Granted(address) => Some(*address),
+            _ => None,
+        }
+    }
+
+    /// The fault, if blocked.
+    pub const fn fault(&self) -> Option<&Fault> {
+        match self {
+            Self::Blocked(fault) => Some(fault),
+            _ => None,
+        }
+    }
+
+    pub(crate) fn decode(bytes: [u8; ANSWER_SIZE]) -> Self {
+        let raw = Raw::of(bytes);
+        match raw.kind {
+            ffi::GRANTED => Self::Granted(raw.low),
+            ffi::BLOCKED => Self::Blocked(raw.fault()),
+            ffi::REFUSED => Self::Refused(Refusal::from(raw.one)),
+            _ => Self::Refused(Refusal::INTERFACE),
+        }
+    }
+}
+
+impl<'a> From<&'a MemoryAnswer> for Option<&'a Fault> {
+    fn from(answer: &'a MemoryAnswer) -> Self {
+        answer.fault()
+    }
+}
+
+/// How a remapped interrupt is delivered, in the APIC's encoding of 3 bits.
+///
+/// ```
+/// use galitzaf::DeliveryMode;
+///
+/// assert_eq!(DeliveryMode::NMI.bits(), 4);
+/// ```
+#[derive(Clone, Copy, Debug, PartialEq, Eq, Hash)]
+pub struct DeliveryMode(u8);
+
+impl DeliveryMode {
+    /// To every processor named, by the vector.
+    pub const FIXED: Self = Self(0);
+    /// To the one of lowest priority among them.
+    pub const LOWEST_PRIORITY: Self = Self(1);
+    /// System management interrupt.
+    pub const SMI: Self = Self(2);
+    /// Non-maskable interrupt.
+    pub const NMI: Self = Self(4);
+    /// INIT.
+    pub const INIT: Self = Self(5);
+    /// As from an external interrupt controller.
+    pub const EXT_INT: Self = Self(7);
+
+    /// The encoding. Never 3 or 6, which are reserved and blocked with 24h.
+    pub const fn bits(self) -> u8 {
+        self.0
+    }
+}
+
+/// How a destination is read.
+#[derive(Clone, Copy, Debug, PartialEq, Eq, Hash)]
+pub enum DestinationMode {
+    /// An APIC id.
+    Physical,
+    /// A logical destination.
+    Logical,
+}
+
+/// How an interrupt is triggered.
+#[derive(Clone, Copy, Debug, PartialEq, Eq, Hash)]
+pub enum TriggerMode {
+    /// By an edge.
+    Edge,
+    /// By a level.
+    Level,
+}
+
+/// An interrupt as its remapping entry has it delivered.
+#[derive(Clone, Copy, Debug, PartialEq, Eq, Hash)]
+pub struct Remapped {
+    /// The vector.
+    pub vector: u8,
+    /// The delivery mode (DLM).
+    pub delivery_mode: DeliveryMode,
+    /// The destination mode (DM).
+    pub destination_mode: DestinationMode,
+    /// The redirection hint (RH).
+    pub redirection_hint: bool,
+    /// The trigger mode (TM).
+    pub trigger_mode: TriggerMode,
+    /// The destination (DST): an x2APIC id with EIME, else an 8-bit APIC id.
+    pub destination: u32,
+}
+
+/// The notification of a posted interrupt: fixed, edge-triggered, to a physical destination.
+#[derive(Clone, Copy, Debug, PartialEq, Eq, Hash)]
+pub struct Notification {
+    /// The notification vector (NV).
+    pub vector: u8,
+    /// The notification destination (NDST): an x2APIC id with EIME, else an 8-bit APIC id.
+    pub destination: u32,
+}
+
+/// What becomes of an interrupt message.
+#[derive(Clone, Copy, Debug, PartialEq, Eq, Hash)]
+#[must_use]
+pub enum InterruptAnswer {
+    /// It goes on unchanged.
+    Passed,
+    /// It is delivered as the entry says.
+    Remapped(Remapped),
+    /// It was posted to a descriptor in the image; the notification, where one is due, is to be sent.
+    Posted(Option<Notification>),
+    /// It is blocked by a fault.
+    Blocked(Fault),
+    /// It was refused.
+    Refused(Refusal),
+}
+
+impl InterruptAnswer {
+    /// The fault, if blocked.
+    pub const fn fault(&self) -> Option<&Fault> {
+        match self {
+            Self::Blocked(fault) => Some(fault),
+            _ => None,
+        }
+    }
+
+    pub(crate) fn decode(bytes: [u8; ANSWER_SIZE]) -> Self {
+        let raw = Raw::of(bytes);
+        match raw.kind {
+            ffi::PASSED => Self::Passed,
+            ffi::REMAPPED => Self::Remapped(raw.remapped()),
+            ffi::POSTED => Self::Posted(raw.notification()),
+            ffi::BLOCKED => Self::Blocked(raw.fault()),
+            ffi::REFUSED => Self::Refused(Refusal::from(raw.one)),
+            _ => Self::Refused(Refusal::INTERFACE),
+        }
+    }
+}
+
+impl<'a> From<&'a InterruptAnswer> for Option<&'a Fault> {
+    fn from(answer: &'a InterruptAnswer) -> Self {
+        answer.fault()
+    }
+}
+
+/// An answer's bytes, taken apart.
+struct Raw {
+    kind: u8,
+    one: u8,
+    two: u8,
+    three: u8,
+    destination: u32,
+    low: u64,
+    high: u64,
+}
+
+impl Raw {
+    fn of(bytes: [u8; ANSWER_SIZE]) -> Self {
+        let [kind, one, two, three, d0, d1, d2, d3, l0, l1, l2, l3, l4, l5, l6, l7, h0, h1, h2, h3, h4, h5, h6, h7] =
+            bytes;
+        Self {
+            kind,
+            one,
+            two,
+            three,
+            destination: u32::from_le_bytes([d0, d1, d2, d3]),
+            low: u64::from_le_bytes([l0, l1, l2, l3, l4, l5, l6, l7]),
+            high: u64::from_le_bytes([h0, h1, h2, h3, h4, h5, h6, h7]),
+        }
+    }
+
+    fn fault(&self) -> Fault {
+        let record = FaultRecord::from_words([self.low, self.high]);
+        Fault::new(Reason::from(self.one), self.two != 0, record)
+    }
+
+    fn remapped(&self) -> Remapped {
+        let flag = |bit: u8| self.three & bit != 0;
+        Remapped {
+            vector: self.one,
+            delivery_mode: DeliveryMode(self.two),
+            destination_mode: if flag(1) {
+                DestinationMode::Logical
+            } else {
+                DestinationMode::Physical
+            },
+            redirection_hint: flag(2),
+            trigger_mode: if flag(4) {
+                TriggerMode::Level
+            } else {
+                TriggerMode::Edge
+            },
+            destination: self.destination,
+        }
+    }
+
+    fn notification(&self) -> Option<Notification> {
+        (self.one != 0).then_some(Notification {
+            vector: self.two,
+            destination: self.destination,
+        })
+    }
+}
+
+#[cfg(test)]
+mod tests {
+    use super::*;
+
+    fn bytes(head: [u8; 8]) -> [u8; ANSWER_SIZE] {
+        let mut bytes = [0; ANSWER_SIZE];
+        bytes[..8].copy_from_slice(&head);
+        bytes
+    }
+
+    #[test]
+    fn every_field_of_a_remapped_interrupt_is_read() {
+        let answer = |flags| InterruptAnswer::decode(bytes([4, 0x41, 5, flags, 1, 2, 3, 4]));
+        let plain = Remapped {
+            vector: 0x41,
+            delivery_mode: DeliveryMode::INIT,
+            destination_mode: DestinationMode::Physical,
+            redirection_hint: false,
+            trigger_mode: TriggerMode::Edge,
+            destination: 0x0403_0201,
+        };
+        let (mut logical, mut hinted, mut level) = (plain, plain, plain);
+        logical.destination_mode = DestinationMode::Logical;
+        hinted.redirection_hint = true;
+        level.trigger_mode = TriggerMode::Level;
+        assert_eq!(answer(0), InterruptAnswer::Remapped(plain));
+        assert_eq!(answer(1), InterruptAnswer::Remapped(logical));
+        assert_eq!(answer(2), InterruptAnswer::Remapped(hinted));
+        assert_eq!(answer(4), InterruptAnswer::Remapped(level));
+    }
+
+    #[test]
+    fn a_notification_is_read_only_where_one_is_due() {
+        let answer = |due| InterruptAnswer::decode(bytes([5, due, 0xF2, 0, 7, 0, 0, 1]));
+        let notification = Notification {
+            vector: 0xF2,
+            destination: 0x0100_0007,
+        };
+        assert_eq!(answer(0), InterruptAnswer::Posted(None));
+        assert_eq!(answer(1), InterruptAnswer::Posted(Some(notification)));
+    }
+
+    #[test]
+    fn a_kind_that_does_not_belong_is_refused() {
+        for kind in 0..=u8::MAX {
+            let raw = bytes([kind, 1, 0, 0, 0, 0, 0, 0]);
+            if kind > ffi::REFUSED {
+                let refused = MemoryAnswer::Refused(Refusal::Other(0));
+                assert_eq!(MemoryAnswer::decode(raw), refused, "{kind}");
+            }
+            if kind == ffi::GRANTED || kind > ffi::POSTED {
+                let refused = InterruptAnswer::Refused(Refusal::Other(0));
+                assert_eq!(InterruptAnswer::decode(raw), refused, "{kind}");
+            }
+        }
+    }
+
+    #[test]
+    fn refusals_keep_their_numbers() {
+        for number in 0..=u8::MAX {
+            assert_eq!(Refusal::from(number).number(), number);
+        }
+        assert_eq!(Refusal::from(3), Refusal::BadRecorder);
+    }
+}

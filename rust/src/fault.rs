@@ -1,0 +1,297 @@
+//! Faults and their records.
+
+use core::fmt;
+
+use crate::ffi::{ANSWER_SIZE, BLOCKED};
+use crate::SourceId;
+
+macro_rules! reasons {
+    ($($(#[$doc:meta])* $name:ident = $number:literal,)*) => {
+        /// Why a request was blocked, by Intel's fault reason numbers.
+        ///
+        /// ```
+        /// use galitzaf::Reason;
+        ///
+        /// assert_eq!(Reason::from(0x21), Reason::IndexOutOfRange);
+        /// assert_eq!(Reason::ReadDenied.number(), 0x06);
+        /// assert_eq!(Reason::ReadDenied.to_string(), "06h ReadDenied");
+        /// ```
+        #[derive(Clone, Copy, Debug, PartialEq, Eq, Hash)]
+        #[non_exhaustive]
+        pub enum Reason {
+            $($(#[$doc])* $name,)*
+            /// A number that this version doesn't name.
+            Other(u8),
+        }
+
+        impl Reason {
+            /// Every reason that has a name, by number.
+            pub const NAMED: &'static [Reason] = &[$(Reason::$name,)*];
+
+            /// Intel's number.
+            pub const fn number(self) -> u8 {
+                match self {
+                    $(Reason::$name => $number,)*
+                    Reason::Other(number) => number,
+                }
+            }
+        }
+
+        impl From<u8> for Reason {
+            fn from(number: u8) -> Self {
+                match number {
+                    $($number => Reason::$name,)*
+                    _ => Reason::Other(number),
+                }
+            }
+        }
+    };
+}
+
+reasons! {
+    /// 01h: the root entry isn't present.
+    RootNotPresent = 0x01,
+    /// 02h: the context entry isn't present.
+    ContextNotPresent = 0x02,
+    /// 03h: the context entry has an unsupported width (AW) or a bad type (TT).
+    ContextInvalid = 0x03,
+    /// 04h: the address is beyond the guest width.
+    AddressOverflow = 0x04,
+    /// 05h: a page entry doesn't allow the write.
+    WriteDenied = 0x05,
+    /// 06h: a page entry doesn't allow the read.
+    ReadDenied = 0x06,
+    /// 07h: a page entry can't be fetched.
+    PageEntryAccess = 0x07,
+    /// 08h: the root entry can't be fetched.
+    RootAccess = 0x08,
+    /// 09h: the context entry can't be fetched.
+    ContextAccess = 0x09,
+    /// 0Ah: a reserved bit of the root entry is set.
+    RootReserved = 0x0A,
+    /// 0Bh: a reserved bit of the context entry is set.
+    ContextReserved = 0x0B,
+    /// 0Ch: a reserved bit of a page entry is set.
+    PageEntryReserved = 0x0C,
+    /// 20h: a reserved bit of an interrupt request is set.
+    RequestReserved = 0x20,
+    /// 21h: the interrupt index is beyond the table.
+    IndexOutOfRange = 0x21,
+    /// 22h: the interrupt remapping table entry (IRTE) isn't present.
+    IrteNotPresent = 0x22,
+    /// 23h: the IRTE can't be fetched.
+    IrteAccess = 0x23,
+    /// 24h: a reserved bit of the IRTE is set.
+    IrteReserved = 0x24,
+    /// 25h: a compatibility-format interrupt where none is allowed.
+    CompatibilityBlocked = 0x25,
+    /// 26h: the IRTE isn't for this source.
+    SourceRejected = 0x26,
+    /// 27h: the posted interrupt descriptor can't be fetched.
+    DescriptorAccess = 0x27,
+    /// 28h: a reserved bit of the posted interrupt descriptor is set.
+    DescriptorReserved = 0x28,
+}
+
+impl fmt::Display for Reason {
+    fn fmt(&self, f: &mut fmt::Formatter<'_>) -> fmt::Result {
+        write!(f, "{:02X}h", self.number())?;
+        match self {
+            Reason::Other(_) => Ok(()),
+            named => write!(f, " {named:?}"),
+        }
+    }
+}
+
+/// The fault of a blocked request. Only requests make one.
+///
+/// ```
+/// use galitzaf::{MemoryAnswer, MemoryRequest, Reason, SourceId, Unit};
+/// # use galitzaf::{Levels, Registers};
+/// # let unit = Unit::new(&Registers {
+/// #     haw: 39, mgaw: 48, levels: Levels { four: true, ..Levels::NONE }, te: true, ..Registers::default()
+/// # });
+///
+/// // With no memory at all, the root entry can't be fetched.
+/// let answer = unit.memory(&[], MemoryRequest::write(SourceId::from(0x0310), 0x1234));
+/// let MemoryAnswer::Blocked(fault) = answer else { panic!("{answer:?}") };
+/// assert_eq!(fault.reason(), Reason::RootAccess);
+/// assert!(fault.recordable());
+/// assert_eq!(fault.record().words(), [0x1000, 0x8000_0008_0000_0310]);
+/// ```
+#[derive(Clone, Copy, Debug, PartialEq, Eq, Hash)]
+pub struct Fault {
+    reason: Reason,
+    recordable: bool,
+    record: FaultRecord,
+}
+
+impl Fault {
+    pub(crate) const fn new(reason: Reason, recordable: bool, record: FaultRecord) -> Self {
+        Self {
+            reason,
+            recordable,
+            record,
+        }
+    }
+
+    /// Why the request was blocked.
+    pub const fn reason(&self) -> Reason {
+        self.reason
+    }
+
+    /// Whether it may be recorded: not if fault processing is disabled (FPD) in the entry concerned.
+    pub const fn recordable(&self) -> bool {
+        self.recordable
+    }
+
+    /// The record that belongs to it, whether it may be recorded or not.
+    pub const fn record(&self) -> FaultRecord {
+        self.record
+    }
+
+    /// The answer that it came from, as the C interface has it.
+    pub(crate) fn to_answer(self) -> [u8; ANSWER_SIZE] {
+        let [b0, b1, b2, b3, b4, b5, b6, b7, b8, b9, b10, b11, b12, b13, b14, b15] =
+            self.record.bytes();
+        let (reason, recordable) = (self.reason.number(), u8::from(self.recordable));
+        [
+            BLOCKED, reason, recordable, 0, 0, 0, 0, 0, //
+            b0, b1, b2, b3, b4, b5, b6, b7, //
+            b8, b9, b10, b11, b12, b13, b14, b15,
+        ]
+    }
+}
+
+impl fmt::Display for Fault {
+    fn fmt(&self, f: &mut fmt::Formatter<'_>) -> fmt::Result {
+        let [low, high] = self.record.words();
+        write!(f, "fault {}, record {low:016X} {high:016X}", self.reason)?;
+        if self.recordable {
+            Ok(())
+        } else {
+            f.write_str(", not recorded")
+        }
+    }
+}
+
+/// A fault record of 128 bits, as VT-d's fault recording registers hold it.
+///
+/// ```
+/// use galitzaf::{FaultRecord, Reason, SourceId};
+///
+/// let record = FaultRecord::from_words([0x4020_2000, 0xC000_0006_0000_0310]);
+/// assert!(record.is_standing() && record.is_read());
+/// assert_eq!(record.reason(), Reason::ReadDenied);
+/// assert_eq!(record.source(), SourceId::new(0x03, 0x10));
+/// assert_eq!(record.page_address(), 0x4020_2000);
+/// ```
+#[derive(Clone, Copy, Debug, Default, PartialEq, Eq, Hash)]
+pub struct FaultRecord([u8; 16]);
+
+impl FaultRecord {
+    /// The record in these 16 bytes, little-endian.
+    pub const fn from_bytes(bytes: [u8; 16]) -> Self {
+        Self(bytes)
+    }
+
+    /// The record in these two words, bits 63:0 first.
+    pub const fn from_words([low, high]: [u64; 2]) -> Self {
+        let [l0, l1, l2, l3, l4, l5, l6, l7] = low.to_le_bytes();
+        let [h0, h1, h2, h3, h4, h5, h6, h7] = high.to_le_bytes();
+        Self([
+            l0, l1, l2, l3, l4, l5, l6, l7, h0, h1, h2, h3, h4, h5, h6, h7,
+        ])
+    }
+
+    /// Its bytes, little-endian.
+    pub const fn bytes(self) -> [u8; 16] {
+        self.0
+    }
+
+    /// Its two words, bits 63:0 first.
+    pub const fn words(self) -> [u64; 2] {
+        let [l0, l1, l2, l3, l4, l5, l6, l7, h0, h1, h2, h3, h4, h5, h6, h7] = self.0;
+        [
+            u64::from_le_bytes([l0, l1, l2, l3, l4, l5, l6, l7]),
+            u64::from_le_bytes([h0, h1, h2, h3, h4, h5, h6, h7]),
+        ]
+    }
+
+    /// F, bit 127: a fault stands here that nobody cleared.
+    pub const fn is_standing(self) -> bool {
+        let [.., last] = self.0;
+        last & 0x80 != 0
+    }
+
+    /// T, bit 126: set for a read request.
+    pub const fn is_read(self) -> bool {
+        let [.., last] = self.0;
+        last & 0x40 != 0
+    }
+
+    /// FR, bits 103:96: the reason.
+    pub fn reason(self) -> Reason {
+        let [_, _, _, _, _, _, _, _, _, _, _, _, reason, _, _, _] = self.0;
+        Reason::from(reason)
+    }
+
+    /// SID, bits 79:64: who asked.
+    pub const fn source(self) -> SourceId {
+        let [_, _, _, _, _, _, _, _, devfn, bus, ..] = self.0;
+        SourceId::new(bus, devfn)
+    }
+
+    /// FI, bits 63:12: the page of a memory request's address.
+    pub const fn page_address(self) -> u64 {
+        let [low, _] = self.words();
+        low & !0xFFF
+    }
+
+    /// FI, bits 63:48: an interrupt's index, 65,535 if it was larger and 0 where the fault came before it.
+    pub const fn interrupt_index(self) -> u16 {
+        let [_, _, _, _, _, _, i0, i1, ..] = self.0;
+        u16::from_le_bytes([i0, i1])
+    }
+}
+
+#[cfg(test)]
+mod tests {
+    use super::*;
+
+    #[test]
+    fn reasons_keep_their_numbers() {
+        for number in 0..=u8::MAX {
+            let reason = Reason::from(number);
+            assert_eq!(reason.number(), number);
+            let named = (0x01..=0x0C).contains(&number) || (0x20..=0x28).contains(&number);
+            assert_eq!(Reason::NAMED.contains(&reason), named, "{number:02X}h");
+        }
+    }
+
+    #[test]
+    fn a_record_has_each_field_in_its_place() {
+        let words = [0x0123_4567_89AB_C000, 0x4000_0021_0000_FF08];
+        let record = FaultRecord::from_words(words);
+        assert_eq!(record.words(), words);
+        assert_eq!(FaultRecord::from_bytes(record.bytes()), record);
+        assert_eq!(record.page_address(), 0x0123_4567_89AB_C000);
+        assert_eq!(record.interrupt_index(), 0x0123);
+        assert_eq!(record.source(), SourceId::new(0xFF, 0x08));
+        assert_eq!(record.reason(), Reason::IndexOutOfRange);
+        assert!(record.is_read() && !record.is_standing());
+        let standing = FaultRecord::from_words([0, 1 << 63]);
+        assert!(standing.is_standing() && !standing.is_read());
+    }
+
+    #[test]
+    fn a_fault_goes_back_into_its_answer() {
+        let record = FaultRecord::from_words([0x0706_0504_0302_0100, 0x0F0E_0D0C_0B0A_0908]);
+        for recordable in [false, true] {
+            let answer = Fault::new(Reason::ReadDenied, recordable, record).to_answer();
+            let head = [1, 0x06, u8::from(recordable), 0, 0, 0, 0, 0];
+            assert_eq!(answer[..8], head);
+            assert_eq!(answer[8..], record.bytes());
+        }
+    }
+}

@@ -1,0 +1,192 @@
+//! The fault recorder.
+
+use crate::ffi::{self, ANSWER_SIZE, RECORDER_SIZE};
+use crate::{Fault, FaultRecord, Refusal};
+
+/// What became of a fault that was handed to the recorder.
+#[derive(Clone, Copy, Debug, PartialEq, Eq, Hash)]
+pub enum Recorded {
+    /// The answer held no fault.
+    NoFault,
+    /// The fault may not be recorded (FPD).
+    NotRecordable,
+    /// Overflow was set already: dropped.
+    Dropped,
+    /// The next slot was taken: overflow is set now, and the fault dropped.
+    Overflowed,
+    /// It stands in the buffer.
+    Written,
+}
+
+/// The recorder's own state, beside the records.
+#[derive(Clone, Copy, Debug, Default, PartialEq, Eq, Hash)]
+pub struct RecorderState {
+    /// The slot that the next fault goes to, 0 to 7.
+    pub next_slot: u8,
+    /// A fault was dropped since overflow was last cleared (PFO).
+    pub overflow: bool,
+}
+
+/// The records of faults: eight slots of 16 bytes, filled in turn.
+///
+/// The buffer is its own, 128 bytes, or lent: `Recorder<&mut [u8]>` keeps its records wherever a
+/// hypervisor shows them to its guest. Any buffer and state may be given; where they don't fit, each call is
+/// refused and changes nothing.
+///
+/// ```
+/// use galitzaf::{MemoryRequest, Reason, Recorded, Recorder, SourceId, Unit};
+/// # use galitzaf::{Levels, Registers};
+/// # let unit = Unit::new(&Registers {
+/// #     haw: 39, mgaw: 48, levels: Levels { four: true, ..Levels::NONE }, te: true, ..Registers::default()
+/// # });
+///
+/// let mut recorder = Recorder::new();
+/// let answer = unit.memory(&[], MemoryRequest::read(SourceId::from(0x0310), 0x1000));
+/// assert_eq!(recorder.record(&answer), Ok(Recorded::Written));
+///
+/// let (slot, record) = recorder.standing().next().unwrap();
+/// assert_eq!((slot, record.reason()), (0, Reason::RootAccess));
+///
+/// assert_eq!(recorder.clear_slot(slot), Ok(true));
+/// assert_eq!(recorder.standing().count(), 0);
+/// ```
+#[derive(Clone, Copy, Debug, PartialEq, Eq, Hash)]
+pub struct Recorder<B = [u8; 128]> {
+    records: B,
+    state: RecorderState,
+}
+
+impl Recorder {
+    /// A recorder with no records.
+    pub const fn new() -> Self {
+        Self {
+            records: [0; 128],
+            state: RecorderState {
+                next_slot: 0,
+                overflow: false,
+            },
+        }
+    }
+}
+
+impl Default for Recorder {
+    fn default() -> Self {
+        Self::new()
+    }
+}
+
+impl<B> Recorder<B> {
+    /// A recorder over a given buffer and state, as saved or lent.
+    ///
+    /// ```
+    /// use galitzaf::{Recorder, RecorderState, Refusal};
+    ///
+    /// let mut page = [0; 4096];
+    /// let lent = Recorder::with(&mut page[0x100..0x180], RecorderState::default());
+    /// assert_eq!(lent.standing().count(), 0);
+    ///
+    /// let mut short = Recorder::with([0; 127], RecorderState::default());
+    /// assert_eq!(short.clear_overflow(), Err(Refusal::BadRecorder));
+    /// ```
+    pub const fn with(records: B, state: RecorderState) -> Self {
+        Self { records, state }
+    }
+
+    /// The state, to be saved with the buffer.
+    pub const fn state(&self) -> RecorderState {
+        self.state
+    }
+
+    /// The buffer and the state.
+    pub fn into_parts(self) -> (B, RecorderState) {
+        (self.records, self.state)
+    }
+}
+
+impl<B: AsRef<[u8]>> Recorder<B> {
+    /// The buffer.
+    pub fn records(&self) -> &[u8] {
+        self.records.as_ref()
+    }
+
+    /// The records that stand (bit 127 set), each with its slot, by slot.
+    pub fn standing(&self) -> impl Iterator<Item = (u8, FaultRecord)> + '_ {
+        let slots = self.records.as_ref().chunks_exact(16);
+        (0u8..8).zip(slots).filter_map(|(slot, bytes)| {
+            let record = FaultRecord::from_bytes(bytes.try_into().ok()?);
+            record.is_standing().then_some((slot, record))
+        })
+    }
+
+    /// Clears the overflow flag; true where it was set.
+    ///
+    /// # Errors
+    ///
+    /// [`Refusal::BadRecorder`] where the buffer isn't 128 bytes or the next slot is above 7.
+    pub fn clear_overflow(&mut self) -> Result<bool, Refusal> {
+        let mut state = pack(self.state);
+        let said = ffi::clear_overflow(self.records.as_ref(), &mut state);
+        self.state = unpack(state);
+        match said {
+            ffi::OVERFLOW_CLEARED => Ok(true),
+            ffi::OVERFLOW_CLEAR => Ok(false),
+            _ => Err(refusal(said)),
+        }
+    }
+}
+
+impl<B: AsMut<[u8]>> Recorder<B> {
+    /// Records the fault of an answer, or a fault by itself.
+    ///
+    /// # Errors
+    ///
+    /// [`Refusal::BadRecorder`] where the buffer isn't 128 bytes or the next slot is above 7.
+    pub fn record<'a>(&mut self, fault: impl Into<Option<&'a Fault>>) -> Result<Recorded, Refusal> {
+        // All zeros is an answer without a fault. It goes to the library too, which looks at the buffer and
+        // the state before it looks at the answer.
+        let answer = fault.into().map_or([0; ANSWER_SIZE], |f| f.to_answer());
+        let mut state = pack(self.state);
+        let said = ffi::record(&answer, self.records.as_mut(), &mut state);
+        self.state = unpack(state);
+        match said {
+            ffi::NO_FAULT => Ok(Recorded::NoFault),
+            ffi::NOT_RECORDABLE => Ok(Recorded::NotRecordable),
+            ffi::DROPPED => Ok(Recorded::Dropped),
+            ffi::OVERFLOWED => Ok(Recorded::Overflowed),
+            ffi::WRITTEN => Ok(Recorded::Written),
+            _ => Err(refusal(said)),
+        }
+    }
+
+    /// Clears bit 127 of the record in a slot; true where it was set.
+    ///
+    /// # Errors
+    ///
+    /// [`Refusal::BadRecorder`] where the buffer isn't 128 bytes or the slot or the next slot is above 7.
+    pub fn clear_slot(&mut self, slot: u8) -> Result<bool, Refusal> {
+        let said = ffi::clear_slot(self.records.as_mut(), &pack(self.state), slot);
+        match said {
+            ffi::SLOT_CLEARED => Ok(true),
+            ffi::SLOT_CLEAR => Ok(false),
+            _ => Err(refusal(said)),
+        }
+    }
+}
+
+fn refusal(said: u32) -> Refusal {
+    match said {
+        ffi::REFUSED_3 => Refusal::BadRecorder,
+        _ => Refusal::INTERFACE,
+    }
+}
+
+fn pack(state: RecorderState) -> [u8; RECORDER_SIZE] {
+    [state.next_slot, u8::from(state.overflow)]
+}
+
+fn unpack([next_slot, overflow]: [u8; RECORDER_SIZE]) -> RecorderState {
+    RecorderState {
+        next_slot,
+        overflow: overflow != 0,
+    }
+}
