@@ -1,0 +1,136 @@
+//! The twelve cases of document 01's bench image, through the C interface.
+
+mod common;
+
+use common::{bench_image, BENCH, SOURCE};
+use galitzaf::{
+    DeliveryMode, DestinationMode, Fault, InterruptAnswer, InterruptRequest, MemoryAnswer,
+    MemoryRequest, Notification, Reason, Remapped, SourceId, TriggerMode, Unit,
+};
+
+fn read(source: SourceId, address: u64) -> MemoryAnswer {
+    Unit::new(&BENCH).memory(&bench_image(), MemoryRequest::read(source, address))
+}
+
+fn interrupt(source: SourceId, address: u64, data: u32) -> InterruptAnswer {
+    let mut image = bench_image();
+    let request = InterruptRequest::new(source, address, data);
+    let answer = Unit::new(&BENCH).interrupt(&mut image, request);
+    assert_eq!(image, bench_image());
+    answer
+}
+
+/// The reason and the record's words. Nothing in the bench image has FPD set.
+fn told(fault: Option<&Fault>) -> (u8, [u64; 2]) {
+    let fault = fault.expect("a fault");
+    assert!(fault.recordable());
+    (fault.reason().number(), fault.record().words())
+}
+
+#[test]
+fn case_01() {
+    assert_eq!(read(SOURCE, 0x4020_1ABC).granted(), Some(0x1234_5ABC));
+}
+
+#[test]
+fn case_02() {
+    let request = MemoryRequest::write(SOURCE, 0x4020_1ABC);
+    let answer = Unit::new(&BENCH).memory(&bench_image(), request);
+    let words = [0x4020_1000, 0x8000_0005_0000_0310];
+    assert_eq!(told(answer.fault()), (0x05, words));
+}
+
+#[test]
+fn case_03() {
+    let answer = read(SOURCE, 0x4020_2000);
+    let words = [0x4020_2000, 0xC000_0006_0000_0310];
+    assert_eq!(told(answer.fault()), (0x06, words));
+}
+
+#[test]
+fn case_04() {
+    assert_eq!(read(SOURCE, 0x4041_2345).granted(), Some(0x4061_2345));
+}
+
+#[test]
+fn cases_05_and_06() {
+    for (address, reason) in [
+        (0x4060_0000, Reason::PageEntryAccess),
+        (0x4080_0000, Reason::PageEntryReserved),
+    ] {
+        let answer = read(SOURCE, address);
+        assert_eq!(answer.fault().map(Fault::reason), Some(reason));
+    }
+}
+
+#[test]
+fn case_07() {
+    assert_eq!(read(SOURCE, 0x40BF_F000).granted(), Some(0x2345_6000));
+    let image = bench_image();
+    let request = MemoryRequest::read(SOURCE, 0x40BF_F000);
+    let answer = Unit::new(&BENCH).memory(&image[..32_767], request);
+    let reason = answer.fault().map(Fault::reason);
+    assert_eq!(reason, Some(Reason::PageEntryAccess));
+}
+
+#[test]
+fn cases_08_and_09() {
+    for (source, address, reason) in [
+        (0x0310, 0x7F_FFFF_FFFF, Reason::ReadDenied),
+        (0x0310, 0x80_0000_0000, Reason::AddressOverflow),
+        (0x0410, 0x4020_1ABC, Reason::RootNotPresent),
+        (0x0311, 0x4020_1ABC, Reason::ContextNotPresent),
+    ] {
+        let answer = read(SourceId::from(source), address);
+        assert_eq!(answer.fault().map(Fault::reason), Some(reason));
+    }
+}
+
+#[test]
+fn case_10() {
+    let remapped = Remapped {
+        vector: 0x41,
+        delivery_mode: DeliveryMode::FIXED,
+        destination_mode: DestinationMode::Physical,
+        redirection_hint: false,
+        trigger_mode: TriggerMode::Edge,
+        destination: 7,
+    };
+    let answer = interrupt(SOURCE, 0xFEE0_0050, 0);
+    assert_eq!(answer, InterruptAnswer::Remapped(remapped));
+    let answer = interrupt(SourceId::from(0x0311), 0xFEE0_0050, 0);
+    let reason = answer.fault().map(Fault::reason);
+    assert_eq!(reason, Some(Reason::SourceRejected));
+}
+
+/// The index is 65,538. Held in 16 bits it would be 2, and case 10's entry delivered.
+#[test]
+fn case_11() {
+    let answer = interrupt(SOURCE, 0xFEEF_FFFC, 3);
+    let words = [0xFFFF_0000_0000_0000, 0x8000_0021_0000_0310];
+    assert_eq!(told(answer.fault()), (0x21, words));
+    let fault = answer.fault().expect("a fault");
+    assert_eq!(fault.record().interrupt_index(), 65_535);
+}
+
+#[test]
+fn case_12() {
+    let unit = Unit::new(&BENCH);
+    let request = InterruptRequest::new(SOURCE, 0xFEE0_0090, 0);
+    let mut image = bench_image();
+    let notification = Notification {
+        vector: 0xF2,
+        destination: 7,
+    };
+    let answer = unit.interrupt(&mut image, request);
+    assert_eq!(answer, InterruptAnswer::Posted(Some(notification)));
+
+    let mut posted = bench_image();
+    posted[0x6406] = 2;
+    posted[0x6420] = 1;
+    assert_eq!(image, posted);
+
+    let answer = unit.interrupt(&mut image, request);
+    assert_eq!(answer, InterruptAnswer::Posted(None));
+    assert_eq!(image, posted);
+}
