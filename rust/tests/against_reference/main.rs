@@ -1,0 +1,13 @@
+//! Pseudo-random requests, valid and broken, against the second reading of document 01 in `reference/`.
+
+#[path = "../common/mod.rs"]
+mod common;
+mod image;
+mod interrupts;
+mod memory;
+mod met;
+mod outcome;
+mod registers;
+
+/// Cases of each kind.
+const CASES: usize = 100_000;
