@@ -3,7 +3,7 @@
 ghost use mathlib.Core.Path.{_≡_};
 ghost use Prim.Native.Nat.{_+_, _≤_, _<_, min};
 ghost use lib.ListN.{length, take, drop};
-ghost use Rattle.image.specs.Bits.{bits};
+ghost use Rattle.image.specs.Bits.{bits, inPlace};
 ghost use Rattle.image.specs.Memory.{wordAt, ofImage, entry};
 ghost use Rattle.image.specs.Entries.{fetched8, fetched16, fetched64};
 
@@ -52,6 +52,16 @@ pub fn field(word: u64, high: u32, low: u32) -> u64
         return shifted;
     }
     shifted % (1u64 << (high - low + 1))
+}
+
+// The field in its place, every other bit 0.
+pub fn in_place(word: u64, high: u32, low: u32) -> u64
+    ensures { λ r. ⌜ r ≡ inPlace word high low ⌝ }
+{
+    if 63 < low {
+        return 0;
+    }
+    field(word, high, low) << low
 }
 
 fn smaller(a: usize, b: usize) -> usize
