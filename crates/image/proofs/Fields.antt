@@ -5,6 +5,7 @@ use mathlib.Core.List.{List, [], _∷_}
 use native.Mathlib.Omega.{arith}
 use native.Mathlib.Nat.{mod-one, zero-mod, mod-eq-of-lt, div-eq-of-lt, lt-of-lt-of-le, le-refl, mul-add-mod-self-left, mul-add-div, add-comm, add-zero, div-one, one-mul, le-trans, mod-le, mul-le-mul-right, div-mul-le-self}
 use native.Mathlib.Decide.{decLe}
+use lib.Dec.{lit<}
 use lib.Pow.{pow-pos, pow-mono, pow-lt, field, shr-lt, shr-shr, mod-mod-pow}
 use Rattle.image.specs.Bits.{bits}
 use Rattle.image.specs.Entries.{spell}
@@ -78,3 +79,16 @@ module _ {w : ℕ} (ws : List ℕ) (word : w < 2 ^ 64) where
       let rest : (w + 2 ^ 64 * spell ws) / 2 ^ 64 ≡ spell ws =
       ap (λ (n : ℕ). n / 2 ^ 64) (add-comm w (2 ^ 64 * spell ws)) ∙ mul-add-div (pow-pos 64) (spell ws) w ∙ ap (λ (n : ℕ). spell ws + n) (div-eq-of-lt word) ∙ add-zero (spell ws) in
       rw (width, ← shr-shr (w + 2 ^ 64 * spell ws) 64 low, rest)
+
+-- an entry of 16 bytes: a field of its low word, a field of its high word, and all of the high word
+module _ {low-word high-word : ℕ} (l : low-word < 2 ^ 64) (h : high-word < 2 ^ 64) where
+  pub low-field : (high low : ℕ) → high < 64
+      → bits (spell (low-word ∷ high-word ∷ [])) high low ≡ bits low-word high low
+  low-field = in-first (high-word ∷ []) l
+
+  pub high-field : (high low : ℕ) → high < 64
+      → bits (spell (low-word ∷ high-word ∷ [])) (64 + high) (64 + low) ≡ bits high-word high low
+  high-field high low top = in-rest (high-word ∷ []) l high low ∙ in-first [] h high low top
+
+  pub high-whole : bits (spell (low-word ∷ high-word ∷ [])) 127 64 ≡ high-word
+  high-whole = high-field 63 0 (lit< tt) ∙ whole high-word 63 h
