@@ -1,0 +1,12 @@
+ghost use mathlib.Core.Path.{_≡_};
+use registers::SourceId;
+
+mod fields;
+mod request;
+mod source;
+
+pub struct InterruptRequest {
+    pub source: SourceId,
+    pub address: u64,
+    pub data: u32,
+}
