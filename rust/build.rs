@@ -71,8 +71,8 @@ fn make(root: &Path) -> Result<(), String> {
     let installed = env::split_paths(&paths).any(|dir| dir.join("rt").is_file());
     if !installed {
         return Err(format!(
-            "there is no target/staticlib/{ARCHIVE} and no `rt` on PATH to make it. Install the Rattle \
-             toolchain, or set GALITZAF_LIB_DIR to a folder that has {ARCHIVE}"
+            "there is no target/staticlib/{ARCHIVE} and no `rt` on PATH to make it. Install the \
+             Rattle toolchain, or set GALITZAF_LIB_DIR to a folder that has {ARCHIVE}"
         ));
     }
     let made = Command::new("rt")

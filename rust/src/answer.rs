@@ -2,6 +2,7 @@
 
 use core::fmt;
 
+use crate::bytes::split;
 use crate::fault::{Fault, FaultRecord, Reason};
 use crate::ffi::{self, ANSWER_SIZE};
 
@@ -22,8 +23,8 @@ pub enum Refusal {
     WrongAddress,
     /// 3: the record buffer isn't 128 bytes, or the next slot or a slot to clear is above 7.
     BadRecorder,
-    /// A number that this version doesn't name. Number 0 is for an archive that doesn't keep to the header
-    /// this crate was written for, so that even then nothing is granted or delivered.
+    /// A number that this version doesn't name. Number 0 is for an archive that doesn't keep to the
+    /// header this crate was written for, so that even then nothing is granted or delivered.
     Other(u8),
 }
 
@@ -193,7 +194,8 @@ pub enum InterruptAnswer {
     Passed,
     /// It is delivered as the entry says.
     Remapped(Remapped),
-    /// It was posted to a descriptor in the image; the notification, where one is due, is to be sent.
+    /// It was posted to a descriptor in the image; the notification, where one is due, is to be
+    /// sent.
     Posted(Option<Notification>),
     /// It is blocked by a fault.
     Blocked(Fault),
@@ -242,16 +244,16 @@ struct Raw {
 
 impl Raw {
     fn of(bytes: [u8; ANSWER_SIZE]) -> Self {
-        let [kind, one, two, three, d0, d1, d2, d3, l0, l1, l2, l3, l4, l5, l6, l7, h0, h1, h2, h3, h4, h5, h6, h7] =
-            bytes;
+        let [head, low, high] = split(bytes);
+        let [kind, one, two, three, destination @ ..] = head;
         Self {
             kind,
             one,
             two,
             three,
-            destination: u32::from_le_bytes([d0, d1, d2, d3]),
-            low: u64::from_le_bytes([l0, l1, l2, l3, l4, l5, l6, l7]),
-            high: u64::from_le_bytes([h0, h1, h2, h3, h4, h5, h6, h7]),
+            destination: u32::from_le_bytes(destination),
+            low: u64::from_le_bytes(low),
+            high: u64::from_le_bytes(high),
         }
     }
 

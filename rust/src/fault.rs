@@ -2,6 +2,7 @@
 
 use core::fmt;
 
+use crate::bytes::join;
 use crate::ffi::{ANSWER_SIZE, BLOCKED};
 use crate::SourceId;
 
@@ -109,7 +110,11 @@ impl fmt::Display for Reason {
 /// use galitzaf::{MemoryAnswer, MemoryRequest, Reason, SourceId, Unit};
 /// # use galitzaf::{Levels, Registers};
 /// # let unit = Unit::new(&Registers {
-/// #     haw: 39, mgaw: 48, levels: Levels { four: true, ..Levels::NONE }, te: true, ..Registers::default()
+/// #     haw: 39,
+/// #     mgaw: 48,
+/// #     levels: Levels { four: true, ..Levels::NONE },
+/// #     te: true,
+/// #     ..Registers::default()
 /// # });
 ///
 /// // With no memory at all, the root entry can't be fetched.
@@ -140,7 +145,8 @@ impl Fault {
         self.reason
     }
 
-    /// Whether it may be recorded: not if fault processing is disabled (FPD) in the entry concerned.
+    /// Whether it may be recorded: not if fault processing is disabled (FPD) in the entry
+    /// concerned.
     pub const fn recordable(&self) -> bool {
         self.recordable
     }
@@ -152,14 +158,10 @@ impl Fault {
 
     /// The answer that it came from, as the C interface has it.
     pub(crate) fn to_answer(self) -> [u8; ANSWER_SIZE] {
-        let [b0, b1, b2, b3, b4, b5, b6, b7, b8, b9, b10, b11, b12, b13, b14, b15] =
-            self.record.bytes();
         let (reason, recordable) = (self.reason.number(), u8::from(self.recordable));
-        [
-            BLOCKED, reason, recordable, 0, 0, 0, 0, 0, //
-            b0, b1, b2, b3, b4, b5, b6, b7, //
-            b8, b9, b10, b11, b12, b13, b14, b15,
-        ]
+        let head = [BLOCKED, reason, recordable, 0, 0, 0, 0, 0];
+        let [low, high] = self.record.words().map(u64::to_le_bytes);
+        join([head, low, high])
     }
 }
 
@@ -187,71 +189,67 @@ impl fmt::Display for Fault {
 /// assert_eq!(record.page_address(), 0x4020_2000);
 /// ```
 #[derive(Clone, Copy, Debug, Default, PartialEq, Eq, Hash)]
-pub struct FaultRecord([u8; 16]);
+pub struct FaultRecord(u128);
 
 impl FaultRecord {
     /// The record in these 16 bytes, little-endian.
     pub const fn from_bytes(bytes: [u8; 16]) -> Self {
-        Self(bytes)
+        Self(u128::from_le_bytes(bytes))
     }
 
     /// The record in these two words, bits 63:0 first.
-    pub const fn from_words([low, high]: [u64; 2]) -> Self {
-        let [l0, l1, l2, l3, l4, l5, l6, l7] = low.to_le_bytes();
-        let [h0, h1, h2, h3, h4, h5, h6, h7] = high.to_le_bytes();
-        Self([
-            l0, l1, l2, l3, l4, l5, l6, l7, h0, h1, h2, h3, h4, h5, h6, h7,
-        ])
+    pub fn from_words([low, high]: [u64; 2]) -> Self {
+        Self(u128::from(high) << 64 | u128::from(low))
     }
 
     /// Its bytes, little-endian.
     pub const fn bytes(self) -> [u8; 16] {
-        self.0
+        self.0.to_le_bytes()
     }
 
     /// Its two words, bits 63:0 first.
     pub const fn words(self) -> [u64; 2] {
-        let [l0, l1, l2, l3, l4, l5, l6, l7, h0, h1, h2, h3, h4, h5, h6, h7] = self.0;
-        [
-            u64::from_le_bytes([l0, l1, l2, l3, l4, l5, l6, l7]),
-            u64::from_le_bytes([h0, h1, h2, h3, h4, h5, h6, h7]),
-        ]
+        [self.word_from(0), self.word_from(64)]
     }
 
     /// F, bit 127: a fault stands here that nobody cleared.
     pub const fn is_standing(self) -> bool {
-        let [.., last] = self.0;
-        last & 0x80 != 0
+        self.0 >> 127 & 1 == 1
     }
 
     /// T, bit 126: set for a read request.
     pub const fn is_read(self) -> bool {
-        let [.., last] = self.0;
-        last & 0x40 != 0
+        self.0 >> 126 & 1 == 1
     }
 
     /// FR, bits 103:96: the reason.
     pub fn reason(self) -> Reason {
-        let [_, _, _, _, _, _, _, _, _, _, _, _, reason, _, _, _] = self.0;
+        let [reason, ..] = self.word_from(96).to_le_bytes();
         Reason::from(reason)
     }
 
     /// SID, bits 79:64: who asked.
     pub const fn source(self) -> SourceId {
-        let [_, _, _, _, _, _, _, _, devfn, bus, ..] = self.0;
+        let [devfn, bus, ..] = self.word_from(64).to_le_bytes();
         SourceId::new(bus, devfn)
     }
 
     /// FI, bits 63:12: the page of a memory request's address.
     pub const fn page_address(self) -> u64 {
-        let [low, _] = self.words();
-        low & !0xFFF
+        self.word_from(0) & !0xFFF
     }
 
-    /// FI, bits 63:48: an interrupt's index, 65,535 if it was larger and 0 where the fault came before it.
+    /// FI, bits 63:48: an interrupt's index, 65,535 if it was larger and 0 where the fault came
+    /// before it.
     pub const fn interrupt_index(self) -> u16 {
-        let [_, _, _, _, _, _, i0, i1, ..] = self.0;
-        u16::from_le_bytes([i0, i1])
+        let [low, high, ..] = self.word_from(48).to_le_bytes();
+        u16::from_le_bytes([low, high])
+    }
+
+    /// The 64 bits from a place, which is below 128.
+    const fn word_from(self, place: u32) -> u64 {
+        let [a, b, c, d, e, f, g, h, ..] = self.0.wrapping_shr(place).to_le_bytes();
+        u64::from_le_bytes([a, b, c, d, e, f, g, h])
     }
 }
 

@@ -1,8 +1,8 @@
 //! The C interface of `include/galitzaf.h`, and the crate's only unsafe code.
 //!
-//! Each wrapper takes slices and arrays, so that every pointer it passes on is valid for its length, and
-//! `&mut` keeps a written buffer apart from every other of the call. Beyond that the library asks nothing:
-//! it checks every length and value itself.
+//! Each wrapper takes slices and arrays, so that every pointer it passes on is valid for its
+//! length, and `&mut` keeps a written buffer apart from every other of the call. Beyond that the
+//! library asks nothing: it checks every length and value itself.
 
 #![allow(unsafe_code)]
 
@@ -91,8 +91,8 @@ pub(crate) fn memory_request(
     write: bool,
 ) -> Option<[u8; ANSWER_SIZE]> {
     let mut answer = [0; ANSWER_SIZE];
-    // SAFETY: each pointer and length is that of a live slice or array. `answer` is the only one written,
-    // and a local, so that it overlaps no other. None is kept after the call.
+    // SAFETY: each pointer and length is that of a live slice or array. `answer` is the only one
+    // written, and a local, so that it overlaps no other. None is kept after the call.
     let status = unsafe {
         galitzaf_memory_request(
             registers.as_ptr(),
@@ -118,8 +118,9 @@ pub(crate) fn interrupt_request(
     data: u32,
 ) -> Option<[u8; ANSWER_SIZE]> {
     let mut answer = [0; ANSWER_SIZE];
-    // SAFETY: each pointer and length is that of a live slice or array. `image` and `answer` are written:
-    // the one is lent by `&mut`, the other a local, so that neither overlaps another. None is kept.
+    // SAFETY: each pointer and length is that of a live slice or array. `image` and `answer` are
+    // written: the one is lent by `&mut`, the other a local, so that neither overlaps another. None
+    // is kept.
     let status = unsafe {
         galitzaf_interrupt_request(
             registers.as_ptr(),
@@ -142,8 +143,8 @@ pub(crate) fn record(
     records: &mut [u8],
     recorder: &mut [u8; RECORDER_SIZE],
 ) -> u32 {
-    // SAFETY: each pointer and length is that of a live slice or array. The two that are written are lent
-    // by `&mut`, so that neither overlaps another. None is kept after the call.
+    // SAFETY: each pointer and length is that of a live slice or array. The two that are written
+    // are lent by `&mut`, so that neither overlaps another. None is kept after the call.
     unsafe {
         galitzaf_record(
             answer.as_ptr(),
@@ -158,8 +159,8 @@ pub(crate) fn record(
 
 /// What the library said to clearing a slot.
 pub(crate) fn clear_slot(records: &mut [u8], recorder: &[u8; RECORDER_SIZE], slot: u8) -> u32 {
-    // SAFETY: each pointer and length is that of a live slice or array. `records`, which is written, is
-    // lent by `&mut`, so that it overlaps no other. None is kept after the call.
+    // SAFETY: each pointer and length is that of a live slice or array. `records`, which is
+    // written, is lent by `&mut`, so that it overlaps no other. None is kept after the call.
     unsafe {
         galitzaf_clear_slot(
             records.as_mut_ptr(),
@@ -173,8 +174,8 @@ pub(crate) fn clear_slot(records: &mut [u8], recorder: &[u8; RECORDER_SIZE], slo
 
 /// What the library said to clearing the overflow flag.
 pub(crate) fn clear_overflow(records: &[u8], recorder: &mut [u8; RECORDER_SIZE]) -> u32 {
-    // SAFETY: each pointer and length is that of a live slice or array. `recorder`, which is written, is
-    // lent by `&mut`, so that it overlaps no other. None is kept after the call.
+    // SAFETY: each pointer and length is that of a live slice or array. `recorder`, which is
+    // written, is lent by `&mut`, so that it overlaps no other. None is kept after the call.
     unsafe {
         galitzaf_clear_overflow(
             records.as_ptr(),

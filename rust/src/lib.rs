@@ -1,12 +1,13 @@
 //! Intel's VT-d remapping unit in software, proved.
 //!
-//! A hypervisor that plays the unit for its guests hands over the unit's registers, a lent run of guest
-//! memory and a device's request. Back comes where the request may go: a host address, a remapped or posted
-//! interrupt, or the exact fault with its record. Legacy mode, by the rules of Intel's specification; the
-//! code behind it is written in Rattle, and each function is proved to give that one answer.
+//! A hypervisor that plays the unit for its guests hands over the unit's registers, a lent run of
+//! guest memory and a device's request. Back comes where the request may go: a host address, a
+//! remapped or posted interrupt, or the exact fault with its record. Legacy mode, by the rules of
+//! Intel's specification; the code behind it is written in Rattle, and each function is proved to
+//! give that one answer.
 //!
-//! Nothing has to be checked beforehand and nothing panics: any registers, any memory and any request get
-//! an answer. The crate needs neither `std` nor an allocator.
+//! Nothing has to be checked beforehand and nothing panics: any registers, any memory and any
+//! request get an answer. The crate needs neither `std` nor an allocator.
 //!
 //! ```
 //! use galitzaf::{Levels, MemoryAnswer, MemoryRequest, Reason, Registers, SourceId, Unit};
@@ -20,8 +21,8 @@
 //!     ..Registers::default()
 //! });
 //!
-//! // Guest memory: bus 3 has a context table at 2000h, in which 02.0 has page tables from 3000h. They map
-//! // one page, 40201000h, for reads.
+//! // Guest memory: bus 3 has a context table at 2000h, in which 02.0 has page tables from 3000h.
+//! // They map one page, 40201000h, for reads.
 //! let mut image = vec![0; 0x8000];
 //! for (address, word) in [
 //!     (0x1030, 0x2001u64), (0x2100, 0x3001), (0x2108, 0x501),
@@ -56,6 +57,7 @@
 )]
 
 mod answer;
+mod bytes;
 mod fault;
 mod ffi;
 mod recorder;

@@ -30,14 +30,18 @@ pub struct RecorderState {
 /// The records of faults: eight slots of 16 bytes, filled in turn.
 ///
 /// The buffer is its own, 128 bytes, or lent: `Recorder<&mut [u8]>` keeps its records wherever a
-/// hypervisor shows them to its guest. Any buffer and state may be given; where they don't fit, each call is
-/// refused and changes nothing.
+/// hypervisor shows them to its guest. Any buffer and state may be given; where they don't fit,
+/// each call is refused and changes nothing.
 ///
 /// ```
 /// use galitzaf::{MemoryRequest, Reason, Recorded, Recorder, SourceId, Unit};
 /// # use galitzaf::{Levels, Registers};
 /// # let unit = Unit::new(&Registers {
-/// #     haw: 39, mgaw: 48, levels: Levels { four: true, ..Levels::NONE }, te: true, ..Registers::default()
+/// #     haw: 39,
+/// #     mgaw: 48,
+/// #     levels: Levels { four: true, ..Levels::NONE },
+/// #     te: true,
+/// #     ..Registers::default()
 /// # });
 ///
 /// let mut recorder = Recorder::new();
@@ -142,8 +146,8 @@ impl<B: AsMut<[u8]>> Recorder<B> {
     ///
     /// [`Refusal::BadRecorder`] where the buffer isn't 128 bytes or the next slot is above 7.
     pub fn record<'a>(&mut self, fault: impl Into<Option<&'a Fault>>) -> Result<Recorded, Refusal> {
-        // All zeros is an answer without a fault. It goes to the library too, which looks at the buffer and
-        // the state before it looks at the answer.
+        // All zeros is an answer without a fault. It goes to the library too, which looks at the
+        // buffer and the state before it looks at the answer.
         let answer = fault.into().map_or([0; ANSWER_SIZE], |f| f.to_answer());
         let mut state = pack(self.state);
         let said = ffi::record(&answer, self.records.as_mut(), &mut state);
@@ -162,7 +166,8 @@ impl<B: AsMut<[u8]>> Recorder<B> {
     ///
     /// # Errors
     ///
-    /// [`Refusal::BadRecorder`] where the buffer isn't 128 bytes or the slot or the next slot is above 7.
+    /// [`Refusal::BadRecorder`] where the buffer isn't 128 bytes or the slot or the next slot is
+    /// above 7.
     pub fn clear_slot(&mut self, slot: u8) -> Result<bool, Refusal> {
         let said = ffi::clear_slot(self.records.as_mut(), &pack(self.state), slot);
         match said {

@@ -1,8 +1,10 @@
 //! The unit's registers.
 
+use crate::bytes::join;
 use crate::ffi::REGISTERS_SIZE;
 
-/// The numbers of page table levels that a unit supports, as SAGAW of VT-d's capability register names them.
+/// The numbers of page table levels that a unit supports, as SAGAW of VT-d's capability register
+/// names them.
 ///
 /// ```
 /// use galitzaf::Levels;
@@ -83,7 +85,7 @@ impl Registers {
     /// The C interface's form of them, whatever the values.
     pub fn to_bytes(&self) -> [u8; REGISTERS_SIZE] {
         let Levels { three, four, five } = self.levels;
-        let supported = bits([
+        let supported = bits(&[
             three,
             four,
             five,
@@ -91,19 +93,16 @@ impl Registers {
             self.pages_1g,
             self.posting,
         ]);
-        let switches = bits([self.te, self.ire, self.eime, self.cfis, false, false]);
-        let [r0, r1, r2, r3, r4, r5, r6, r7] = self.root_table.to_le_bytes();
-        let [i0, i1, i2, i3, i4, i5, i6, i7] = self.interrupt_table.to_le_bytes();
-        [
-            self.haw, self.mgaw, supported, switches, self.s, 0, 0, 0, //
-            r0, r1, r2, r3, r4, r5, r6, r7, //
-            i0, i1, i2, i3, i4, i5, i6, i7,
-        ]
+        let switches = bits(&[self.te, self.ire, self.eime, self.cfis]);
+        let head = [self.haw, self.mgaw, supported, switches, self.s, 0, 0, 0];
+        let tables = [self.root_table, self.interrupt_table];
+        let [root, interrupt] = tables.map(u64::to_le_bytes);
+        join([head, root, interrupt])
     }
 }
 
 /// A byte of flags, the first in bit 0.
-fn bits(flags: [bool; 6]) -> u8 {
+fn bits(flags: &[bool]) -> u8 {
     flags
         .iter()
         .rev()

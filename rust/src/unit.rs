@@ -6,8 +6,8 @@ use crate::{Refusal, Registers};
 
 /// A remapping unit: its registers, ready to answer requests over any image of guest memory.
 ///
-/// It keeps nothing else. The image is lent to each request, byte n of it being host address n, and every
-/// table is read from it anew.
+/// It keeps nothing else. The image is lent to each request, byte n of it being host address n, and
+/// every table is read from it anew.
 #[derive(Clone, Copy, Debug, PartialEq, Eq, Hash)]
 pub struct Unit {
     registers: [u8; REGISTERS_SIZE],
@@ -44,8 +44,9 @@ impl Unit {
         )
     }
 
-    /// What becomes of an interrupt. Posting one sets its vector's request bit in the image and, where a
-    /// notification is due, the descriptor's ON bit; any other answer leaves the image as it came.
+    /// What becomes of an interrupt. Posting one sets its vector's request bit in the image and,
+    /// where a notification is due, the descriptor's ON bit; any other answer leaves the image as
+    /// it came.
     ///
     /// ```
     /// use galitzaf::{InterruptAnswer, InterruptRequest, Levels, Registers, SourceId, Unit};

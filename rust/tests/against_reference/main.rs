@@ -1,4 +1,5 @@
-//! Pseudo-random requests, valid and broken, against the second reading of document 01 in `reference/`.
+//! Pseudo-random requests, valid and broken, against the second reading of document 01 in
+//! `reference/`.
 
 #[path = "../common/mod.rs"]
 mod common;
