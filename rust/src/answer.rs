@@ -67,6 +67,13 @@ impl fmt::Display for Refusal {
 impl core::error::Error for Refusal {}
 
 /// What becomes of a memory request.
+///
+/// ```
+/// use galitzaf::{MemoryAnswer, Refusal};
+///
+/// assert_eq!(MemoryAnswer::Granted(0x1234_5ABC).granted(), Some(0x1234_5ABC));
+/// assert_eq!(MemoryAnswer::Refused(Refusal::WrongAddress).granted(), None);
+/// ```
 #[derive(Clone, Copy, Debug, PartialEq, Eq, Hash)]
 #[must_use]
 pub enum MemoryAnswer {
@@ -187,6 +194,23 @@ pub struct Notification {
 }
 
 /// What becomes of an interrupt message.
+///
+/// ```
+/// use galitzaf::{InterruptAnswer, Notification};
+///
+/// /// The vector to raise now, and where.
+/// fn raised(answer: InterruptAnswer) -> Option<(u8, u32)> {
+///     match answer {
+///         InterruptAnswer::Remapped(to) => Some((to.vector, to.destination)),
+///         InterruptAnswer::Posted(notification) => notification.map(|n| (n.vector, n.destination)),
+///         _ => None,
+///     }
+/// }
+///
+/// let notification = Notification { vector: 0xF2, destination: 7 };
+/// assert_eq!(raised(InterruptAnswer::Posted(Some(notification))), Some((0xF2, 7)));
+/// assert_eq!(raised(InterruptAnswer::Posted(None)), None);
+/// ```
 #[derive(Clone, Copy, Debug, PartialEq, Eq, Hash)]
 #[must_use]
 pub enum InterruptAnswer {
