@@ -4,11 +4,12 @@ use mathlib.Core.Path.{_≡_, refl, sym, ap, _∙_}
 use mathlib.Core.Bool.{Bool, true, false, not}
 use native.Mathlib.Nat.{le-div-iff-mul-le, div-eq-of-lt, mod-eq-of-lt, one-mul, div-one, lt-of-lt-of-le, mul-mod-left}
 use native.Mathlib.Omega.{arith}
+use native.Mathlib.Decide.{decLe}
 use borrow.Author.Tests.{leb-true, leb-false, lt-leb, eq-eqb, ne-eqb}
 use lib.Dec.{leb, eqb}
 use lib.Pow.{pow-pos, pow-mono, pow-lt, pow-add}
 use Rattle.image.specs.Bits.{bits, anySet}
-use Rattle.image.proofs.Fields.{below-top, whole}
+use Rattle.image.proofs.Fields.{upside-down, below-top, whole}
 
 -- a number is at or above 2^n exactly when its bits from n up are not all clear
 pub shifted : (n a : ℕ) → not (eqb (a / 2 ^ n) 0) ≡ leb (2 ^ n) a
@@ -36,6 +37,14 @@ top-above {e} {high} {low} h ordered = field-above e ordered ∙ ap (leb (2 ^ lo
 -- no number of k bits is at or above a power past them
 pub beyond : {k n a : ℕ} → a < 2 ^ k → k ≤ n → leb (2 ^ n) a ≡ false
 beyond h l = lt-leb _ _ (lt-of-lt-of-le h (pow-mono l))
+
+-- in a word, some bit from n to 63 is set exactly when the word is at or above 2^n, for any n: address bits from HAW up
+pub from-bit : (n : ℕ) {w : ℕ} → w < 2 ^ 64 → anySet w 63 n ≡ leb (2 ^ n) w
+from-bit n {w} h = go (decLe n 64)
+  where
+    go : Dec (n ≤ 64) → anySet w 63 n ≡ leb (2 ^ n) w
+    go (yes within) = top-above h within
+    go (no past) = rw (upside-down w {high = 63} {low = n} (omega arith)) (sym (beyond {k = 64} {n = n} h (omega arith)))
 
 -- 2^n kept in k bits is itself where n is below k
 pub kept : {k n : ℕ} → n < k → 2 ^ n % 2 ^ k ≡ 2 ^ n
