@@ -2,10 +2,35 @@
 use Rattle.image.specs.Check.{Check, stop, go}
 use Rattle.faults.specs.Reason.{numberOf}
 use Rattle.interrupts.specs.Request.{Format, compatibility, remappable}
+use Rattle.interrupts.specs.Irte as irte
+use Rattle.interrupts.specs.declared.irte.Irte.{Irte}
+use Rattle.interrupts.specs.declared.irte.Irte.the-variants.{Remaps, Posts}
+use Rattle.interrupts.specs.declared.irte.IrteCheck.{IrteCheck}
+use Rattle.interrupts.specs.declared.irte.IrteCheck.the-variants.{Valid, Reserved}
+use Rattle.interrupts.specs.declared.irte.Remapped.{Remapped}
 use Rattle.interrupts.specs.declared.request.RequestCheck.{RequestCheck}
-use Rattle.interrupts.specs.declared.request.RequestCheck.the-variants as request
+use Rattle.interrupts.specs.declared.request.RequestCheck.the-variants.{Compatibility, Remappable, Fault}
 
 abbrev pub requestChecked : RequestCheck → Check Format
-requestChecked request.Compatibility = go compatibility
-requestChecked (request.Remappable index) = go (remappable index)
-requestChecked (request.Fault reason) = stop (numberOf reason)
+requestChecked Compatibility = go compatibility
+requestChecked (Remappable index) = go (remappable index)
+requestChecked (Fault reason) = stop (numberOf reason)
+
+abbrev pub remappedOf : Remapped → irte.Remapped
+remappedOf r =
+    record {
+      destinationMode = r .«destination_mode»;
+      redirectionHint = r .«redirection_hint»;
+      trigger = r .trigger;
+      delivery = r .delivery;
+      vector = r .vector;
+      destination = r .destination;
+    }
+
+abbrev pub askedOf : Irte → irte.Irte
+askedOf (Remaps r) = irte.remaps (remappedOf r)
+askedOf (Posts vector descriptor) = irte.posts vector descriptor
+
+abbrev pub irteChecked : IrteCheck → Check irte.Irte
+irteChecked (Valid i) = go (askedOf i)
+irteChecked Reserved = stop 0x24

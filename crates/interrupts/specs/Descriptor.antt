@@ -1,9 +1,9 @@
 -- The posted interrupt descriptor, 64 bytes: request bits 255:0, ON 256, SN 257, the notice's vector 279:272 and destination.
 use Prim.Native.Nat.{ℕ}
-use mathlib.Core.Bool.{Bool, not, _&&_}
+use mathlib.Core.Bool.{Bool, not, _&&_, _||_}
 use Rattle.image.specs.Bits.{bits, bit, anySet}
 use Rattle.image.specs.Check.{Check, stop, go}
-use Rattle.image.specs.Choice.{if_then_else_, _or_}
+use Rattle.image.specs.Choice.{if_then_else_}
 
 pub data Notice : Type 0 where
   silent : Notice
@@ -11,12 +11,12 @@ pub data Notice : Type 0 where
 
 abbrev pub reservedDescriptor : (eime : Bool) (d : ℕ) → Bool
 reservedDescriptor eime d =
-    anySet d 271 258 or anySet d 287 280 or anySet d 511 320 or not eime && (anySet d 295 288 or anySet d 319 304)
+    anySet d 271 258 || anySet d 287 280 || anySet d 511 320 || not eime && (anySet d 295 288 || anySet d 319 304)
 
 -- a notice is due where ON and SN are both clear
 abbrev pub noticeOf : (eime : Bool) (d : ℕ) → Notice
 noticeOf eime d =
-    if bit d 256 or bit d 257 then silent
+    if bit d 256 || bit d 257 then silent
     else notice (bits d 279 272) (if eime then bits d 319 288 else bits d 303 296)
 
 unfoldable pub descriptorCheck : (eime : Bool) (d : ℕ) → Check Notice

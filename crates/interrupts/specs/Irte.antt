@@ -1,10 +1,10 @@
 -- The interrupt remapping table entry, 16 bytes: a remapped one, or with bit 15 a posted one.
 use Prim.Native.Nat.{ℕ, _+_, _*_, _^_}
-use mathlib.Core.Bool.{Bool, not, _&&_}
+use mathlib.Core.Bool.{Bool, not, _&&_, _||_}
 use lib.Dec.{eqb}
 use Rattle.image.specs.Bits.{bits, bit, anySet}
 use Rattle.image.specs.Check.{Check, stop, go}
-use Rattle.image.specs.Choice.{if_then_else_, _or_}
+use Rattle.image.specs.Choice.{if_then_else_}
 use Rattle.registers.specs.declared.Registers.{Registers}
 use Rattle.interrupts.specs.Source.{sourceAllowed}
 
@@ -17,21 +17,21 @@ abbrev pub descriptorAddress : (e : ℕ) → ℕ
 descriptorAddress e = bits e 63 38 * 2 ^ 6 + bits e 127 96 * 2 ^ 32
 
 abbrev pub reservedInAll : (posting : Bool) (e : ℕ) → Bool
-reservedInAll posting e = eqb (bits e 83 82) 3 or bit e 15 && not posting
+reservedInAll posting e = eqb (bits e 83 82) 3 || bit e 15 && not posting
 
 abbrev pub reservedInRemapped : (eime : Bool) (e : ℕ) → Bool
 reservedInRemapped eime e =
-    anySet e 14 12 or anySet e 31 24 or anySet e 127 84 or eqb (bits e 7 5) 3 or eqb (bits e 7 5) 6
-    or not eime && (anySet e 39 32 or anySet e 63 48)
+    anySet e 14 12 || anySet e 31 24 || anySet e 127 84 || eqb (bits e 7 5) 3 || eqb (bits e 7 5) 6
+    || not eime && (anySet e 39 32 || anySet e 63 48)
 
 abbrev pub reservedInPosted : (haw e : ℕ) → Bool
 reservedInPosted haw e =
-    anySet e 7 2 or anySet e 13 12 or anySet e 37 24 or anySet e 95 84 or anySet (descriptorAddress e) 63 haw
+    anySet e 7 2 || anySet e 13 12 || anySet e 37 24 || anySet e 95 84 || anySet (descriptorAddress e) 63 haw
 
 unfoldable pub reservedIrte : Registers → (e : ℕ) → Bool
 reservedIrte registers e =
     reservedInAll (registers .posting) e
-    or (if bit e 15 then reservedInPosted (registers .haw) e else reservedInRemapped (registers .eime) e)
+    || (if bit e 15 then reservedInPosted (registers .haw) e else reservedInRemapped (registers .eime) e)
 
 -- the remapped answer
 pub record Remapped : Type 0 where
@@ -42,6 +42,10 @@ pub record Remapped : Type 0 where
   pub vector : ℕ
   pub destination : ℕ
 
+-- x2APIC destinations have all 32 bits
+abbrev pub destinationOf : (eime : Bool) (e : ℕ) → ℕ
+destinationOf eime e = if eime then bits e 63 32 else bits e 47 40
+
 abbrev pub remappedBy : (eime : Bool) (e : ℕ) → Remapped
 remappedBy eime e =
     record {
@@ -50,7 +54,7 @@ remappedBy eime e =
       trigger = bit e 4;
       delivery = bits e 7 5;
       vector = bits e 23 16;
-      destination = if eime then bits e 63 32 else bits e 47 40;
+      destination = destinationOf eime e;
     }
 
 -- what an entry asks for: the remapped answer, or a post of a vector to the descriptor at an address
@@ -62,6 +66,7 @@ abbrev pub irteOf : (eime : Bool) (e : ℕ) → Irte
 irteOf eime e =
     if bit e 15 then posts (bits e 23 16) (descriptorAddress e) else remaps (remappedBy eime e)
 
+-- present, reserved, source: the first that fails stops it
 unfoldable pub irteCheck : Registers → (source e : ℕ) → Check Irte
 irteCheck registers source e =
     if not (bit e 0) then stop 0x22

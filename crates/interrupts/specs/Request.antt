@@ -1,9 +1,9 @@
 -- The two formats of an interrupt request, and the index that one of the remappable format has.
 use Prim.Native.Nat.{ℕ, _+_, _*_, _^_}
-use mathlib.Core.Bool.{not}
+use mathlib.Core.Bool.{not, _||_}
 use Rattle.image.specs.Bits.{bits, bit, anySet}
 use Rattle.image.specs.Check.{Check, stop, go}
-use Rattle.image.specs.Choice.{if_then_else_, _or_}
+use Rattle.image.specs.Choice.{if_then_else_}
 use Rattle.registers.specs.declared.Registers.{Registers}
 
 -- bits 19:5, with bit 2 as bit 15
@@ -20,7 +20,7 @@ pub data Format : Type 0 where
 unfoldable pub requestCheck : Registers → (address message : ℕ) → Check Format
 requestCheck registers address message =
     if not (bit address 4) then
-    (if registers .eime or not (registers .cfis) then stop 0x25 else go compatibility)
+    (if registers .eime || not (registers .cfis) then stop 0x25 else go compatibility)
     else if not (bit address 3) then go (remappable (handleOf address))
     else if anySet message 31 16 then stop 0x20
     else go (remappable (handleOf address + bits message 15 0))

@@ -1,17 +1,16 @@
 // Fields of entries and descriptors by their bit numbers in the whole. Each lies in one word.
-ghost use mathlib.Core.Bool.{true};
+ghost use mathlib.Core.Bool.{true, _||_};
 ghost use mathlib.Core.Path.{_≡_};
 ghost use Prim.Native.Nat.{_≤_, _<_};
 ghost use lib.Dec.{leb, ltb};
 ghost use Rattle.image.specs.Bits.{bits, bit, anySet};
-ghost use Rattle.image.specs.Choice.{_or_};
 ghost use Rattle.image.specs.Entries.{number16, number64};
 use image::Entry16;
 use image::Entry64;
 use image::field;
 
 pub fn irte_bits(e: Entry16, high: u32, low: u32) -> u64
-    requires { ⌜ (ltb high 64 or leb 64 low) ≡ true ⌝ }
+    requires { ⌜ (ltb high 64 || leb 64 low) ≡ true ⌝ }
     ensures { λ r. ⌜ r ≡ bits (number16 e) high low ⌝ }
 {
     if high < 64 {
@@ -27,7 +26,7 @@ pub fn irte_bit(e: Entry16, place: u32) -> bool
 }
 
 pub fn irte_any_set(e: Entry16, high: u32, low: u32) -> bool
-    requires { ⌜ (ltb high 64 or leb 64 low) ≡ true ⌝ }
+    requires { ⌜ (ltb high 64 || leb 64 low) ≡ true ⌝ }
     ensures { λ r. ⌜ r ≡ anySet (number16 e) high low ⌝ }
 {
     irte_bits(e, high, low) != 0

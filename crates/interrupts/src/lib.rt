@@ -2,6 +2,7 @@ ghost use mathlib.Core.Path.{_≡_};
 use registers::SourceId;
 
 mod fields;
+mod irte;
 mod request;
 mod source;
 

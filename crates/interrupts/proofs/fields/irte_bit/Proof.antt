@@ -1,17 +1,16 @@
 -- One bit lies in one word.
 use Prim.Native.Nat.{ℕ}
-use mathlib.Core.Bool.{Bool, true, false}
+use mathlib.Core.Bool.{Bool, true, false, _||_}
 use mathlib.Core.Path.{_≡_, refl}
 use borrow.Author.Tests.{ltb-false, le-leb}
 use lib.Dec.{leb, ltb}
-use Rattle.image.specs.Choice.{_or_}
 use Rattle.interrupts.proofs.fields.irte_bit.Statement.{statement}
 use Rattle.interrupts.proofs.fields.irte_bit.Tie as tie
 
-one-word : (place : ℕ) → (ltb place 64 or leb 64 place) ≡ true
+one-word : (place : ℕ) → (ltb place 64 || leb 64 place) ≡ true
 one-word place = go (ltb place 64) refl
   where
-    go : (t : Bool) → ltb place 64 ≡ t → (t or leb 64 place) ≡ true
+    go : (t : Bool) → ltb place 64 ≡ t → (t || leb 64 place) ≡ true
     go true e = refl
     go false e = le-leb 64 place (ltb-false place 64 e)
 

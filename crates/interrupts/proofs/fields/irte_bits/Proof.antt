@@ -1,5 +1,5 @@
 use Prim.Native.Nat.{ℕ, _-_, _^_, _≤_, _<_}
-use mathlib.Core.Bool.{true}
+use mathlib.Core.Bool.{true, _||_}
 use mathlib.Core.List.{[], _∷_}
 use mathlib.Core.Path.{_≡_, ap, sym, _∙_}
 use Rattle.image.specs.Bits.{bits}
@@ -7,7 +7,6 @@ use Rattle.image.proofs.Words.{spell-one}
 use native.Mathlib.Omega.{arith}
 use borrow.Author.Tests.{leb-true, le-ltb}
 use lib.Dec.{leb, ltb}
-use Rattle.image.specs.Choice.{_or_}
 use Rattle.image.proofs.Fields.{low-field}
 use Rattle.interrupts.proofs.Words.{from-64}
 use borrow.Author.Needs.{needs}
@@ -24,7 +23,7 @@ returns c =
     let high : s .args .e .high < 2 ^ 64 = omega arith in
     c .field .ensures ∙ sym (low-field low high (s .args .high) (s .args .low) (c .before .if1 .taken))
 
-above : {high low : ℕ} → (ltb high 64 or leb 64 low) ≡ true → 64 ≤ high → 64 ≤ low
+above : {high low : ℕ} → (ltb high 64 || leb 64 low) ≡ true → 64 ≤ high → 64 ≤ low
 above {high} {low} h up = leb-true _ _ (rw (le-ltb high 64 up) at h)
 
 sub-field : tie.Need-sub-field
