@@ -1,3 +1,5 @@
 pub mod Fault
 pub mod Reason
 pub mod Record
+pub mod Recorder
+pub mod Slots

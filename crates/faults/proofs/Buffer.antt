@@ -1,0 +1,99 @@
+-- The slots of a buffer as the code reads and writes them, byte by byte.
+use Prim.Native.Nat.{ℕ, zero, suc, _+_, _*_, _/_, _%_, _^_, _<_, _≤_}
+use mathlib.Core.Path.{_≡_, refl, ap, sym, _∙_}
+use mathlib.Core.Bool.{Bool, true, false}
+use mathlib.Core.List.{List, [], _∷_, _++_, append-assoc, append-nil}
+use native.Mathlib.Nat.{le-refl, add-assoc, add-suc, pow-succ', mul-assoc, mul-add, mul-zero, add-zero, zero-add, one-mul, mul-comm, add-comm, div-div-eq-div-mul, add-mul-div-left, add-mul-mod-self-left, mod-eq-of-lt, div-eq-of-lt, one-le-pow}
+use native.Mathlib.Omega.{arith}
+use native.Mathlib.Decide.{decLe}
+use borrow.Author.Tests.{le-leb, lt-leb, eq-eqb}
+use lib.Arith.{mod-mul}
+use lib.Dec.{leb, eqb, lit<}
+use lib.ListN.{length, getD, set, take, drop, length-take, length-drop, length-append, drop-of-length-le}
+use lib.Seq.{take-at, drop-at, drop-drop, take-take, take-add, set-split, append-snoc, getD-drop, length-take-le}
+use Rattle.image.specs.Bits.{bits, bit}
+use Rattle.image.specs.Bytes.{littleEndian, bytesOf}
+use Rattle.image.specs.Entries.{spell}
+use Rattle.faults.specs.Slots.{recordAt, withRecord, standing, clear127}
+use Rattle.faults.proofs.Bytes.{length-bytesOf, one-byte, bytes-beside, last-byte, bytes-below, bytes-back}
+use Rattle.faults.proofs.Record.{two-words}
+
+-- a second run of bytes right behind a first, in a buffer: both are one run
+pub behind : (buffer : List ℕ) (at n m : ℕ) (xs ys : List ℕ) → length xs ≡ n → at + n ≤ length buffer → {first : List ℕ}
+    → first ≡ take at buffer ++ xs ++ drop (at + n) buffer
+    → take (at + n) first ++ ys ++ drop (at + n + m) first ≡ take at buffer ++ (xs ++ ys) ++ drop (at + n + m) buffer
+behind buffer at n m xs ys sized fits laid =
+    let head : length (take at buffer ++ xs) ≡ at + n = simp (length-append, length-take-le at buffer (omega arith), sized) in
+    rw (laid, take-at (take at buffer ++ xs) (drop (at + n) buffer) (at + n) head, ← drop-drop m (at + n) (take at buffer ++ xs ++ drop (at + n) buffer), drop-at (take at buffer ++ xs) (drop (at + n) buffer) (at + n) head, drop-drop m (at + n) buffer, append-assoc (take at buffer) xs ys)
+
+-- a record of two words, stored one behind the other
+pub two-stored : (buffer : List ℕ) (slot low high : ℕ) → 16 * slot + 16 ≤ length buffer → low < 2 ^ 64 → {first : List ℕ}
+    → first ≡ take (16 * slot) buffer ++ bytesOf 8 low ++ drop (16 * slot + 8) buffer
+    → take (16 * slot + 8) first ++ bytesOf 8 high ++ drop (16 * slot + 8 + 8) first
+    ≡ withRecord buffer slot (spell (low ∷ high ∷ []))
+unfolding withRecord
+two-stored buffer slot low high fits small laid =
+    behind buffer (16 * slot) 8 8 (bytesOf 8 low) (bytesOf 8 high) (length-bytesOf 8 low) (omega arith) laid
+    ∙ rw (two-words low high, bytes-beside 8 8 low high small, add-assoc (16 * slot) 8 8)
+
+-- a buffer of one slot is its record
+pub only-slot : (buffer : List ℕ) (contents : ℕ) → length buffer ≡ 16 → withRecord buffer 0 contents ≡ bytesOf 16 contents
+unfolding withRecord
+only-slot buffer contents sized =
+    rw (drop-of-length-le buffer {i = 16} (omega arith), append-nil (bytesOf 16 contents))
+
+-- the top bit of a run of bytes is that of its last byte
+top-bit : (n low last : ℕ) → low < 256 ^ n → (low + 256 ^ n * last) / (256 ^ n * 128) ≡ last / 128
+top-bit n low last h =
+    sym (div-div-eq-div-mul (low + 256 ^ n * last) (256 ^ n) 128)
+    ∙ rw (add-mul-div-left low last (one-le-pow n 256 (lit< tt)), div-eq-of-lt h, zero-add)
+
+byte-top : (b : ℕ) → b < 256 → leb 128 b ≡ eqb (b / 128 % 2) 1
+byte-top b h = go (decLe 128 b)
+  where
+    go : Dec (128 ≤ b) → leb 128 b ≡ eqb (b / 128 % 2) 1
+    go (yes set) =
+        let one : b / 128 % 2 ≡ 1 = omega arith in
+        rw (le-leb 128 b set, eq-eqb (b / 128 % 2) 1 one)
+    go (no clear) =
+        let none : b / 128 % 2 ≡ 0 = omega arith in
+        rw (lt-leb 128 b (omega arith), none)
+
+-- clearing the top bit of a run of bytes clears that of its last byte
+top-cleared : (n low last : ℕ) → low < 256 ^ n → (low + 256 ^ n * last) % (256 ^ n * 128) ≡ low + 256 ^ n * (last % 128)
+top-cleared n low last h =
+    let pos : 0 < 256 ^ n = one-le-pow n 256 (lit< tt) in
+    rw (mul-comm (256 ^ n) 128, mod-mul (low + 256 ^ n * last) {m = 128} {c = 256 ^ n} (lit< tt) pos, add-mul-div-left low last pos, div-eq-of-lt h, zero-add, add-mul-mod-self-left low (256 ^ n) last, mod-eq-of-lt h, mul-comm (last % 128) (256 ^ n))
+    (add-comm (256 ^ n * (last % 128)) low)
+
+-- a store as a run of bytes of which it is the last
+set-last : (buffer : List ℕ) (at n value : ℕ) → at + n < length buffer
+    → set buffer (at + n) value ≡ take at buffer ++ (take n (drop at buffer) ++ value ∷ []) ++ drop (at + suc n) buffer
+set-last buffer at n value h =
+    rw (set-split buffer (at + n) value h, take-add at n buffer, ← append-assoc (take at buffer) (take n (drop at buffer)) (value ∷ []), append-snoc (take at buffer ++ take n (drop at buffer)) value (drop (at + suc n) buffer), add-suc at n)
+
+module _ (buffer : List ℕ) (slot : ℕ) (fits : 16 * slot + 16 ≤ length buffer) (bytes : (i : ℕ) → getD buffer i 0 < 256) where
+  below : littleEndian (take 15 (drop (16 * slot) buffer)) < 256 ^ 15
+  below = bytes-below 15 (drop (16 * slot) buffer) (λ i. rw getD-drop (bytes (16 * slot + i)))
+
+  -- a slot's record by its last byte
+  record-split : recordAt buffer slot
+      ≡ littleEndian (take 15 (drop (16 * slot) buffer)) + 256 ^ 15 * getD buffer (16 * slot + 15) 0
+  unfolding recordAt
+  record-split =
+      rw (last-byte 15 (drop (16 * slot) buffer) (rw length-drop (omega arith)), getD-drop)
+
+  pub standing-byte : leb 128 (getD buffer (16 * slot + 15) 0) ≡ standing buffer slot
+  unfolding standing bits
+  standing-byte =
+      rw (record-split, top-bit 15 (littleEndian (take 15 (drop (16 * slot) buffer))) (getD buffer (16 * slot + 15) 0) below)
+      (byte-top (getD buffer (16 * slot + 15) 0) (bytes (16 * slot + 15)))
+
+  pub cleared-byte : set buffer (16 * slot + 15) (getD buffer (16 * slot + 15) 0 % 128)
+      ≡ withRecord buffer slot (clear127 (recordAt buffer slot))
+  unfolding withRecord
+  cleared-byte =
+      let last = getD buffer (16 * slot + 15) 0 in
+      let rest = drop (16 * slot) buffer in
+      rw (record-split, top-cleared 15 (littleEndian (take 15 rest)) last below, ← bytes-beside 15 1 (littleEndian (take 15 rest)) (last % 128) below, bytes-back 15 rest (rw length-drop (omega arith)) (λ i. rw getD-drop (bytes (16 * slot + i))), one-byte (last % 128) (omega arith))
+      (set-last buffer (16 * slot) 15 (last % 128) (omega arith))

@@ -1,0 +1,116 @@
+-- Numbers as runs of bytes, over the number of bytes.
+use Prim.Native.Nat.{ℕ, zero, suc, _+_, _*_, _/_, _%_, _^_, _<_, _≤_}
+use mathlib.Core.Path.{_≡_, refl, ap, sym, _∙_}
+use mathlib.Core.List.{List, [], _∷_, _++_}
+use native.Mathlib.Nat.{
+  le-refl,
+  add-zero,
+  zero-add,
+  mul-zero,
+  mul-add,
+  add-assoc,
+  suc-add,
+  one-mul,
+  mul-assoc,
+  div-one,
+  div-div-eq-div-mul,
+  div-lt-iff-lt-mul,
+  add-mul-mod-self-left,
+  add-mul-div-left,
+  add-comm,
+  mul-comm,
+  mod-one,
+  mod-eq-of-lt,
+  div-eq-of-lt,
+  one-le-pow,
+  pow-suc,
+  pow-succ',
+}
+use native.Mathlib.Numerals.{add-one}
+use native.Mathlib.Omega.{arith}
+use lib.Arith.{mod-mul}
+use lib.Dec.{lit<}
+use lib.ListN.{length, getD, set, take, drop}
+use lib.Seq.{paste, paste-suc, take-all}
+use Rattle.image.specs.Bytes.{littleEndian, bytesOf}
+
+pub length-bytesOf : (n value : ℕ) → length (bytesOf n value) ≡ n
+unfolding bytesOf
+length-bytesOf zero value = refl
+length-bytesOf (suc n) value = ap suc (length-bytesOf n (value / 256))
+
+pub one-byte : (b : ℕ) → b < 256 → bytesOf 1 b ≡ b ∷ []
+unfolding bytesOf
+one-byte b h = rw (mod-eq-of-lt h)
+
+pub byteOf : (n value i : ℕ) → i < n → getD (bytesOf n value) i 0 ≡ value / 256 ^ i % 256
+unfolding bytesOf
+byteOf zero value i h = absurd (omega arith)
+byteOf (suc n) value zero h = simp div-one
+byteOf (suc n) value (suc i) h = byteOf n (value / 256) i (omega arith) ∙ rw (div-div-eq-div-mul, ← pow-succ' 256 i)
+
+-- all bytes of a number laid into a buffer
+pub all-bytes : (buffer : List ℕ) (at n value i : ℕ) → i ≡ n
+    → paste buffer at (bytesOf n value) i ≡ take at buffer ++ bytesOf n value ++ drop (at + n) buffer
+all-bytes buffer at n value i end =
+    let whole : length (bytesOf n value) ≤ n = rw length-bytesOf (le-refl n) in
+    rw (end, take-all n (bytesOf n value) whole)
+
+-- a store of the next byte, in a run of stores that lays a number's bytes into a buffer
+pub next-byte : (buffer : List ℕ) (at n value i : ℕ) → at + n ≤ length buffer → i < n → {now : List ℕ} {rest : ℕ}
+    → now ≡ paste buffer at (bytesOf n value) i → rest ≡ value / 256 ^ i
+    → set now (at + i) (rest % 256) ≡ paste buffer at (bytesOf n value) (i + 1)
+next-byte buffer at n value i fits more stored left =
+    let inside : i < length (bytesOf n value) = rw length-bytesOf more in
+    rw (stored, left, ← byteOf n value i more, add-one i)
+    (paste-suc buffer at (bytesOf n value) i 0 (omega arith) inside)
+
+pub next-rest : (value i : ℕ) {rest : ℕ} → rest ≡ value / 256 ^ i → rest / 256 ≡ value / 256 ^ (i + 1)
+next-rest value i left = rw (left, div-div-eq-div-mul, add-one i, pow-suc 256 i)
+
+-- the bytes of two numbers side by side are those of one
+pub bytes-beside : (n m low high : ℕ) → low < 256 ^ n → bytesOf n low ++ bytesOf m high ≡ bytesOf (n + m) (low + 256 ^ n * high)
+unfolding bytesOf
+bytes-beside zero m low high h =
+    let none : low ≡ 0 = omega arith in
+    rw (none, zero-add m, one-mul, zero-add)
+bytes-beside (suc n) m low high h =
+    let split : low + 256 ^ suc n * high ≡ low + 256 * (256 ^ n * high) = rw (pow-succ' 256 n, mul-assoc) in
+    let below : low / 256 < 256 ^ n = div-lt-iff-lt-mul (lit< tt) .1 (rw pow-suc at h) in
+    rw (suc-add n m, split, add-mul-mod-self-left low 256 (256 ^ n * high), add-mul-div-left low (256 ^ n * high) (lit< tt))
+    (ap (λ (l : List ℕ). low % 256 ∷ l) (bytes-beside n m (low / 256) high below))
+
+-- a run of bytes by its last byte
+pub last-byte : (n : ℕ) (xs : List ℕ) → n < length xs
+    → littleEndian (take (suc n) xs) ≡ littleEndian (take n xs) + 256 ^ n * getD xs n 0
+unfolding littleEndian
+last-byte n [] h = absurd (omega arith)
+last-byte zero (x ∷ xs) h = simp (mul-zero, add-zero, one-mul, zero-add)
+last-byte (suc n) (x ∷ xs) h =
+    rw (last-byte n xs (omega arith), mul-add, ← add-assoc, ← mul-assoc, ← pow-succ' 256 n)
+
+pub bytes-below : (n : ℕ) (xs : List ℕ) → ((i : ℕ) → getD xs i 0 < 256) → littleEndian (take n xs) < 256 ^ n
+unfolding littleEndian
+bytes-below zero xs bytes = lit< tt
+bytes-below (suc n) [] bytes = one-le-pow (suc n) 256 (lit< tt)
+bytes-below (suc n) (x ∷ xs) bytes =
+    let first = bytes 0 in
+    let rest = bytes-below n xs (λ i. bytes (suc i)) in
+    rw (pow-succ' 256 n) (omega arith)
+
+-- the number that bytes spell has those bytes, and the bytes of a number spell what they hold of it
+pub bytes-back : (n : ℕ) (xs : List ℕ) → n ≤ length xs → ((i : ℕ) → getD xs i 0 < 256)
+    → bytesOf n (littleEndian (take n xs)) ≡ take n xs
+unfolding bytesOf littleEndian
+bytes-back zero xs h bytes = refl
+bytes-back (suc n) [] h bytes = absurd (omega arith)
+bytes-back (suc n) (x ∷ xs) h bytes =
+    rw (add-mul-mod-self-left x 256 (littleEndian (take n xs)), add-mul-div-left x (littleEndian (take n xs)) (lit< tt), mod-eq-of-lt (bytes 0), div-eq-of-lt (bytes 0), zero-add)
+    (ap (λ (l : List ℕ). x ∷ l) (bytes-back n xs (omega arith) (λ i. bytes (suc i))))
+
+pub number-back : (n value : ℕ) → littleEndian (bytesOf n value) ≡ value % 256 ^ n
+unfolding bytesOf littleEndian
+number-back zero value = sym (mod-one value)
+number-back (suc n) value =
+    rw (number-back n (value / 256), pow-suc 256 n, mod-mul value {m = 256 ^ n} {c = 256} (one-le-pow n 256 (lit< tt)) (lit< tt))
+    (add-comm (value % 256) _ ∙ rw (mul-comm 256 (value / 256 % 256 ^ n)))
