@@ -7,16 +7,16 @@ use native.Mathlib.Nat.{le-refl, add-assoc, add-suc, pow-succ', mul-assoc, mul-a
 use native.Mathlib.Omega.{arith}
 use native.Mathlib.Decide.{decLe}
 use borrow.Author.Tests.{le-leb, lt-leb, eq-eqb}
-use lib.Arith.{mod-mul}
 use lib.Dec.{leb, eqb, lit<}
 use lib.ListN.{length, getD, set, take, drop, length-take, length-drop, length-append, drop-of-length-le}
 use lib.Seq.{take-at, drop-at, drop-drop, take-take, take-add, set-split, append-snoc, getD-drop, length-take-le}
 use Rattle.image.specs.Bits.{bits, bit}
 use Rattle.image.specs.Bytes.{littleEndian, bytesOf}
 use Rattle.image.specs.Entries.{spell}
-use Rattle.faults.specs.Slots.{recordAt, withRecord, standing, clear127}
+use Rattle.faults.specs.Slots.{recordAt, withRecord, standing, clear127, set127}
 use Rattle.faults.proofs.Bytes.{length-bytesOf, one-byte, bytes-beside, last-byte, bytes-below, bytes-back}
 use Rattle.faults.proofs.Record.{two-words}
+use Rattle.faults.proofs.Digits.{upper-div, upper-mod}
 
 -- a second run of bytes right behind a first, in a buffer: both are one run
 pub behind : (buffer : List ℕ) (at n m : ℕ) (xs ys : List ℕ) → length xs ≡ n → at + n ≤ length buffer → {first : List ℕ}
@@ -36,17 +36,17 @@ two-stored buffer slot low high fits small laid =
     behind buffer (16 * slot) 8 8 (bytesOf 8 low) (bytesOf 8 high) (length-bytesOf 8 low) (omega arith) laid
     ∙ rw (two-words low high, bytes-beside 8 8 low high small, add-assoc (16 * slot) 8 8)
 
+-- bit 127 is set where bit 63 of the high word is
+pub marked : (low high : ℕ) → low < 2 ^ 64 → spell (low ∷ (high % 2 ^ 63 + 2 ^ 63) ∷ []) ≡ set127 (spell (low ∷ high ∷ []))
+marked low high small =
+    rw (two-words low (high % 2 ^ 63 + 2 ^ 63), two-words low high, upper-mod (2 ^ 64) (2 ^ 63) low high (lit< tt) small, mul-add)
+    (sym (add-assoc low (2 ^ 64 * (high % 2 ^ 63)) (2 ^ 127)))
+
 -- a buffer of one slot is its record
 pub only-slot : (buffer : List ℕ) (contents : ℕ) → length buffer ≡ 16 → withRecord buffer 0 contents ≡ bytesOf 16 contents
 unfolding withRecord
 only-slot buffer contents sized =
     rw (drop-of-length-le buffer {i = 16} (omega arith), append-nil (bytesOf 16 contents))
-
--- the top bit of a run of bytes is that of its last byte
-top-bit : (n low last : ℕ) → low < 256 ^ n → (low + 256 ^ n * last) / (256 ^ n * 128) ≡ last / 128
-top-bit n low last h =
-    sym (div-div-eq-div-mul (low + 256 ^ n * last) (256 ^ n) 128)
-    ∙ rw (add-mul-div-left low last (one-le-pow n 256 (lit< tt)), div-eq-of-lt h, zero-add)
 
 byte-top : (b : ℕ) → b < 256 → leb 128 b ≡ eqb (b / 128 % 2) 1
 byte-top b h = go (decLe 128 b)
@@ -58,13 +58,6 @@ byte-top b h = go (decLe 128 b)
     go (no clear) =
         let none : b / 128 % 2 ≡ 0 = omega arith in
         rw (lt-leb 128 b (omega arith), none)
-
--- clearing the top bit of a run of bytes clears that of its last byte
-top-cleared : (n low last : ℕ) → low < 256 ^ n → (low + 256 ^ n * last) % (256 ^ n * 128) ≡ low + 256 ^ n * (last % 128)
-top-cleared n low last h =
-    let pos : 0 < 256 ^ n = one-le-pow n 256 (lit< tt) in
-    rw (mul-comm (256 ^ n) 128, mod-mul (low + 256 ^ n * last) {m = 128} {c = 256 ^ n} (lit< tt) pos, add-mul-div-left low last pos, div-eq-of-lt h, zero-add, add-mul-mod-self-left low (256 ^ n) last, mod-eq-of-lt h, mul-comm (last % 128) (256 ^ n))
-    (add-comm (256 ^ n * (last % 128)) low)
 
 -- a store as a run of bytes of which it is the last
 set-last : (buffer : List ℕ) (at n value : ℕ) → at + n < length buffer
@@ -86,7 +79,7 @@ module _ (buffer : List ℕ) (slot : ℕ) (fits : 16 * slot + 16 ≤ length buff
   pub standing-byte : leb 128 (getD buffer (16 * slot + 15) 0) ≡ standing buffer slot
   unfolding standing bits
   standing-byte =
-      rw (record-split, top-bit 15 (littleEndian (take 15 (drop (16 * slot) buffer))) (getD buffer (16 * slot + 15) 0) below)
+      rw (record-split, upper-div (256 ^ 15) 128 (littleEndian (take 15 (drop (16 * slot) buffer))) (getD buffer (16 * slot + 15) 0) below)
       (byte-top (getD buffer (16 * slot + 15) 0) (bytes (16 * slot + 15)))
 
   pub cleared-byte : set buffer (16 * slot + 15) (getD buffer (16 * slot + 15) 0 % 128)
@@ -95,5 +88,5 @@ module _ (buffer : List ℕ) (slot : ℕ) (fits : 16 * slot + 16 ≤ length buff
   cleared-byte =
       let last = getD buffer (16 * slot + 15) 0 in
       let rest = drop (16 * slot) buffer in
-      rw (record-split, top-cleared 15 (littleEndian (take 15 rest)) last below, ← bytes-beside 15 1 (littleEndian (take 15 rest)) (last % 128) below, bytes-back 15 rest (rw length-drop (omega arith)) (λ i. rw getD-drop (bytes (16 * slot + i))), one-byte (last % 128) (omega arith))
+      rw (record-split, upper-mod (256 ^ 15) 128 (littleEndian (take 15 rest)) last (lit< tt) below, ← bytes-beside 15 1 (littleEndian (take 15 rest)) (last % 128) below, bytes-back 15 rest (rw length-drop (omega arith)) (λ i. rw getD-drop (bytes (16 * slot + i))), one-byte (last % 128) (omega arith))
       (set-last buffer (16 * slot) 15 (last % 128) (omega arith))

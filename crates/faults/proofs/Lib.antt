@@ -1,3 +1,5 @@
 pub mod Buffer
 pub mod Bytes
+pub mod Digits
 pub mod Record
+pub mod Recording

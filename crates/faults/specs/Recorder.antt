@@ -51,15 +51,15 @@ leaves answer buffer next overflow =
     record { answer = answer; state = record { buffer = buffer; next = next; overflow = overflow } }
 
 -- number 3, checked first by every call: the buffer isn't 16 bytes a slot, or the next slot is above the last
-abbrev pub outOfPlace : ℕ → List ℕ → ℕ → Bool
-outOfPlace slots buffer next = not (eqb (length buffer) (16 * slots)) || leb slots next
+abbrev pub outOfPlace : ℕ → ℕ → ℕ → Bool
+outOfPlace slots len next = not (eqb len (16 * slots)) || leb slots next
 
 module _ (slots : ℕ) (buffer : List ℕ) (next : ℕ) (overflow : Bool) where
   -- a fault that is not recordable changes nothing; with overflow set it is dropped; where the next slot's bit 127 is set,
   -- overflow is set and it is dropped; else it is written, with bit 127 set whatever was handed in, and the next slot advances
   unfoldable pub recording : Bool → ℕ → After
   recording recordable contents =
-      if outOfPlace slots buffer next then leaves refused buffer next overflow
+      if outOfPlace slots (length buffer) next then leaves refused buffer next overflow
       else if not recordable then leaves notRecordable buffer next overflow
       else if overflow then leaves dropped buffer next overflow
       else if standing buffer next then leaves overflowed buffer next true
@@ -68,13 +68,13 @@ module _ (slots : ℕ) (buffer : List ℕ) (next : ℕ) (overflow : Bool) where
   -- clearing a slot clears its bit 127 only; number 3 too where the slot is above the last
   unfoldable pub clearing : ℕ → After
   clearing slot =
-      if outOfPlace slots buffer next || leb slots slot then leaves refused buffer next overflow
+      if outOfPlace slots (length buffer) next || leb slots slot then leaves refused buffer next overflow
       else if standing buffer slot
       then leaves slotCleared (withRecord buffer slot (clear127 (recordAt buffer slot))) next overflow
       else leaves slotClear buffer next overflow
 
   unfoldable pub clearingOverflow : After
   clearingOverflow =
-      if outOfPlace slots buffer next then leaves refused buffer next overflow
+      if outOfPlace slots (length buffer) next then leaves refused buffer next overflow
       else if overflow then leaves overflowCleared buffer next false
       else leaves overflowClear buffer next overflow

@@ -1,6 +1,8 @@
-// What a blocked request leaves: its reason, whether it may be recorded, and its record.
+// What a blocked request leaves: its reason, whether it may be recorded, and its record; and the recorder that keeps eight
+// of them in a lent buffer.
 mod fault;
 mod reason;
+mod recorder;
 mod slots;
 
 pub use fault::Fault;
@@ -8,3 +10,9 @@ pub use fault::interrupt_fault;
 pub use fault::memory_fault;
 pub use fault::record_bytes;
 pub use reason::Reason;
+pub use recorder::Recorder;
+pub use recorder::RecorderAnswer;
+pub use recorder::RecorderStep;
+pub use recorder::after_clear;
+pub use recorder::after_clear_overflow;
+pub use recorder::after_record;
