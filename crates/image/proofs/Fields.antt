@@ -3,7 +3,7 @@ use Prim.Native.Nat.{ℕ, zero, suc, _+_, _-_, _*_, _/_, _%_, _^_, _≤_, _<_}
 use mathlib.Core.Path.{_≡_, refl, ap, sym, _∙_}
 use mathlib.Core.List.{List, [], _∷_}
 use native.Mathlib.Omega.{arith}
-use native.Mathlib.Nat.{mod-one, zero-mod, mod-eq-of-lt, div-eq-of-lt, lt-of-lt-of-le, le-refl, mul-add-mod-self-left, mul-add-div, add-comm, add-zero, div-one, one-mul, le-trans, mod-le, mul-le-mul-right, div-mul-le-self}
+use native.Mathlib.Nat.{mod-one, zero-mod, mod-lt, mod-eq-of-lt, div-eq-of-lt, lt-of-lt-of-le, le-refl, mul-add-mod-self-left, mul-add-div, add-comm, add-zero, div-one, one-mul, le-trans, mod-le, mul-le-mul-right, div-mul-le-self}
 use native.Mathlib.Decide.{decLe}
 use lib.Dec.{lit<}
 use lib.Pow.{pow-pos, pow-mono, pow-lt, field, shr-lt, shr-shr, mod-mod-pow}
@@ -40,6 +40,11 @@ below-top e high low ordered =
 -- the whole of a number that is below 2^(high + 1)
 pub whole : (e high : ℕ) → e < 2 ^ suc high → bits e high 0 ≡ e
 whole e high h = to-top e (suc high) high 0 h (le-refl (suc high)) (omega arith) ∙ div-one e
+
+-- a field of so many bits is below that power of two
+pub fits : (e high low : ℕ) → bits e high low < 2 ^ (suc high - low)
+unfolding bits
+fits e high low = mod-lt (e / 2 ^ low) (pow-pos (suc high - low))
 
 -- a field in its place is at most the number
 pub in-place-le : (e high low : ℕ) → bits e high low * 2 ^ low ≤ e

@@ -1,0 +1,21 @@
+use Prim.Native.Nat.{ℕ, _+_, _<_, _^_}
+use mathlib.Core.Path.{_≡_, refl, ap, ap₂, sym, _∙_}
+use native.Mathlib.Omega.{arith}
+use lib.Dec.{eqb, lit<}
+use Rattle.image.proofs.Fields.{low-field, high-field, high-whole}
+use borrow.Author.Needs.{needs}
+use Rattle.dma.proofs.context.fault_processing_disabled.Statement.{statement}
+use Rattle.dma.proofs.context.fault_processing_disabled.Tie as tie
+
+field-requires : tie.Need-field-requires
+field-requires c κs = search needs
+
+returns : tie.Need-returns
+returns c =
+    let s = c .before in
+    let low : s .args .e .low < 2 ^ 64 = omega arith in
+    let high : s .args .e .high < 2 ^ 64 = omega arith in
+    ap (λ (n : ℕ). eqb n 1) (c .field .ensures ∙ sym (low-field low high 1 1 (lit< tt)))
+
+pub fault-processing-disabled-spec : {M : Type 1} → statement M
+fault-processing-disabled-spec = tie.close (tie.spec field-requires returns)

@@ -1,0 +1,27 @@
+use Prim.Native.Nat.{ℕ, _+_, _<_, _^_}
+use mathlib.Core.Path.{_≡_, refl, ap, ap₂, sym, _∙_}
+use native.Mathlib.Omega.{arith}
+use lib.Dec.{eqb, lit<}
+use Rattle.image.proofs.Fields.{low-field, high-field, high-whole}
+use Rattle.dma.specs.Root.{rootReserved}
+use Rattle.dma.proofs.Address.{from-haw}
+use borrow.Author.Needs.{needs}
+use Rattle.dma.proofs.root.root_reserved.Statement.{statement}
+use Rattle.dma.proofs.root.root_reserved.Tie as tie
+
+field-requires : tie.Need-field-requires
+field-requires c κs = search needs
+
+at-or-above-power-requires : tie.Need-at-or-above-power-requires
+at-or-above-power-requires c κs = search needs
+
+returns : tie.Need-returns
+unfolding rootReserved
+returns c =
+    let s = c .before .before .before in
+    let low : s .args .e .low < 2 ^ 64 = omega arith in
+    let high : s .args .e .high < 2 ^ 64 = omega arith in
+    rw (low-field low high 11 1 (lit< tt), high-whole low high, low-field low high 63 (s .args .haw) (lit< tt), from-haw (s .args .haw) low, c .before .before .field .ensures, c .at-or-above-power .ensures)
+
+pub root-reserved-spec : {M : Type 1} → statement M
+root-reserved-spec = tie.close (tie.spec field-requires at-or-above-power-requires returns)

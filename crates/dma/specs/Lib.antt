@@ -1,0 +1,6 @@
+pub mod Checked
+pub mod Context
+pub mod Page
+pub mod Root
+pub mod Translation
+pub mod Walk

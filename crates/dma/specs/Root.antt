@@ -1,0 +1,16 @@
+-- Document 01, "Root entry": root table + 16 × bus, 16 bytes.
+use Prim.Native.Nat.{ℕ}
+use mathlib.Core.Bool.{Bool, not}
+use Rattle.image.specs.Bits.{bit, anySet, inPlace}
+use Rattle.image.specs.Choice.{if_then_else_, _or_}
+use Rattle.image.specs.Check.{Check, stop, go}
+
+unfoldable pub rootReserved : (haw e : ℕ) → Bool
+rootReserved haw e = anySet e 11 1 or anySet e 127 64 or anySet e 63 haw
+
+-- the context table's address
+unfoldable pub rootCheck : (haw e : ℕ) → Check ℕ
+rootCheck haw e =
+    if not (bit e 0) then stop 0x01
+    else if rootReserved haw e then stop 0x0A
+    else go (inPlace e 63 12)

@@ -1,0 +1,48 @@
+-- Document 01, "Memory requests, step by step": from the root entry to a host address or a fault, as one rules tree.
+use Prim.Native.Nat.{ℕ, _+_, _*_, _^_, min}
+use mathlib.Core.Bool.{Bool, false}
+use lib.Dec.{leb}
+use Rattle.image.specs.Choice.{if_then_else_}
+use Rattle.image.specs.Rules.{Rules, answer, fetch}
+use Rattle.registers.specs.Source.{busOf, devfnOf}
+use Rattle.registers.specs.declared.Registers.{Registers}
+use Rattle.image.specs.Check.{onCheck}
+use Rattle.dma.specs.Root.{rootCheck}
+use Rattle.dma.specs.Context.{Context, contextCheck, faultProcessingDisabled}
+use Rattle.dma.specs.Page.{pageCheck, largePage, hostAddress}
+use Rattle.dma.specs.Walk.{Step, done, down, walkRules}
+
+-- a host address, or a fault with FPD as it was read by then
+pub data Translation : Type 0 where
+  at : ℕ → Translation
+  fault : (reason : ℕ) (fpd : Bool) → Translation
+
+module _ (registers : Registers) (address : ℕ) (write : Bool) where
+  -- a large page ends the walk, any other entry leads one level down
+  abbrev pub pageStep : (fpd : Bool) (level e : ℕ) → Step Translation
+  pageStep fpd level e =
+      onCheck (pageCheck registers write level e) (λ reason. done (fault reason fpd))
+      (λ frame. if largePage level e then done (at (hostAddress level frame address)) else down frame)
+
+  abbrev pub pageRules : (fpd : Bool) (level table : ℕ) → Rules Translation
+  pageRules fpd =
+      walkRules address (fault 0x07 fpd) (pageStep fpd) (λ frame. at (hostAddress 1 frame address))
+
+  -- X is the smaller of MGAW and AW's 39, 48 or 57 bits. Pass-through then returns the address itself
+  unfoldable pub widthRules : (fpd : Bool) → Context → Rules Translation
+  widthRules fpd context =
+      if leb (2 ^ min (registers .mgaw) (12 + 9 * context .levels)) address then answer (fault 0x04 fpd)
+      else if context .passes then answer (at address)
+      else pageRules fpd (context .levels) (context .table)
+
+  unfoldable pub contextRules : (source table : ℕ) → Rules Translation
+  contextRules source table =
+      fetch 2 (table + 16 * devfnOf source) (fault 0x09 false)
+      (λ e.
+        onCheck (contextCheck registers e) (λ reason. answer (fault reason (faultProcessingDisabled e)))
+        (widthRules (faultProcessingDisabled e)))
+
+  unfoldable pub rootRules : (source : ℕ) → Rules Translation
+  rootRules source =
+      fetch 2 (registers .«root_table» + 16 * busOf source) (fault 0x08 false)
+      (λ e. onCheck (rootCheck (registers .haw) e) (λ reason. answer (fault reason false)) (contextRules source))

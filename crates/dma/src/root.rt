@@ -1,0 +1,36 @@
+// The root entry: 16 bytes for each bus, in the page of the root table.
+ghost use mathlib.Core.Path.{_≡_};
+ghost use Rattle.image.specs.Entries.{number16};
+ghost use Rattle.dma.specs.Root.{rootReserved, rootCheck};
+ghost use Rattle.dma.specs.Checked.{rootChecked};
+
+use crate::entry::present;
+use crate::entry::table_address;
+use faults::Reason;
+use image::Entry16;
+use image::field;
+use registers::at_or_above_power;
+
+pub enum RootCheck {
+    // The context table's address.
+    Table(u64),
+    Fault(Reason),
+}
+
+fn root_reserved(haw: u8, e: Entry16) -> bool
+    ensures { λ r. ⌜ r ≡ rootReserved haw (number16 e) ⌝ }
+{
+    (field(e.low, 11, 1) != 0) | ((e.high != 0) | at_or_above_power(e.low, haw as u32))
+}
+
+pub fn root_check(haw: u8, e: Entry16) -> RootCheck
+    ensures { λ r. ⌜ rootChecked r ≡ rootCheck haw (number16 e) ⌝ }
+{
+    if !present(e) {
+        return RootCheck::Fault(Reason::RootNotPresent);
+    }
+    if root_reserved(haw, e) {
+        return RootCheck::Fault(Reason::RootReserved);
+    }
+    RootCheck::Table(table_address(e))
+}
