@@ -1,2 +1,5 @@
 pub mod Address
 pub mod Reserved
+pub mod Stages
+pub mod Stepped
+pub mod Steps

@@ -1,27 +1,16 @@
--- What the code's entry checks say, in document 01's numbers.
-use Prim.Native.Nat.{ℕ}
+-- What the code's enums say, in document 01's numbers.
 use Rattle.faults.specs.Reason.{numberOf}
-use Rattle.image.specs.Check.{Check, stop, go}
-use Rattle.dma.specs.Context.{Context}
-use Rattle.dma.specs.declared.root.RootCheck.{RootCheck}
-use Rattle.dma.specs.declared.root.RootCheck.the-variants as root
-use Rattle.dma.specs.declared.context.Context.{Context as ContextData}
-use Rattle.dma.specs.declared.context.ContextCheck.{ContextCheck}
-use Rattle.dma.specs.declared.context.ContextCheck.the-variants as context
-use Rattle.dma.specs.declared.page.PageCheck.{PageCheck}
-use Rattle.dma.specs.declared.page.PageCheck.the-variants as page
+use Rattle.dma.specs.Translation.{Translation, at, fault}
+use Rattle.dma.specs.Walk.{Step, done, down}
+use Rattle.dma.specs.declared.translation.Translation.{Translation as TranslationCode}
+use Rattle.dma.specs.declared.translation.Translation.the-variants as translation
+use Rattle.dma.specs.declared.page.Step.{Step as StepCode}
+use Rattle.dma.specs.declared.page.Step.the-variants as step
 
-abbrev pub rootChecked : RootCheck → Check ℕ
-rootChecked (root.Table table) = go table
-rootChecked (root.Fault reason) = stop (numberOf reason)
+abbrev pub translationOf : TranslationCode → Translation
+translationOf (translation.At address) = at address
+translationOf (translation.Fault reason fpd) = fault (numberOf reason) fpd
 
-abbrev pub contextOf : ContextData → Context
-contextOf c = record { levels = c .levels; passes = c .passes; table = c .table }
-
-abbrev pub contextChecked : ContextCheck → Check Context
-contextChecked (context.Leads c) = go (contextOf c)
-contextChecked (context.Fault reason) = stop (numberOf reason)
-
-abbrev pub pageChecked : PageCheck → Check ℕ
-pageChecked (page.Frame frame) = go frame
-pageChecked (page.Fault reason) = stop (numberOf reason)
+abbrev pub stepOf : StepCode → Step Translation
+stepOf (step.Done t) = done (translationOf t)
+stepOf (step.Down table) = down table

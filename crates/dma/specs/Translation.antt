@@ -1,21 +1,27 @@
 -- Document 01, "Memory requests, step by step": from the root entry to a host address or a fault, as one rules tree.
 use Prim.Native.Nat.{ℕ, _+_, _*_, _^_, min}
 use mathlib.Core.Bool.{Bool, false}
-use lib.Dec.{leb}
+use lib.Dec.{eqb, leb}
 use Rattle.image.specs.Choice.{if_then_else_}
+use Rattle.image.specs.Memory.{Memory}
 use Rattle.image.specs.Rules.{Rules, answer, fetch}
 use Rattle.registers.specs.Source.{busOf, devfnOf}
 use Rattle.registers.specs.declared.Registers.{Registers}
-use Rattle.image.specs.Check.{onCheck}
+use Rattle.image.specs.Check.{Check, stop, go, onCheck}
 use Rattle.dma.specs.Root.{rootCheck}
-use Rattle.dma.specs.Context.{Context, contextCheck, faultProcessingDisabled}
+use Rattle.dma.specs.Context.{contextCheck, levelsOf, translationType, faultProcessingDisabled}
 use Rattle.dma.specs.Page.{pageCheck, largePage, hostAddress}
-use Rattle.dma.specs.Walk.{Step, done, down, walkRules}
+use Rattle.dma.specs.Walk.{Step, done, down, walkRules, stepOver}
 
 -- a host address, or a fault with FPD as it was read by then
 pub data Translation : Type 0 where
   at : ℕ → Translation
   fault : (reason : ℕ) (fpd : Bool) → Translation
+
+-- what an entry's check says, told as a translation
+abbrev pub checked : (fpd : Bool) → Check ℕ → Translation
+checked fpd (stop reason) = fault reason fpd
+checked fpd (go address) = at address
 
 module _ (registers : Registers) (address : ℕ) (write : Bool) where
   -- a large page ends the walk, any other entry leads one level down
@@ -24,23 +30,29 @@ module _ (registers : Registers) (address : ℕ) (write : Bool) where
       onCheck (pageCheck registers write level e) (λ reason. done (fault reason fpd))
       (λ frame. if largePage level e then done (at (hostAddress level frame address)) else down frame)
 
+  -- one level over a memory
+  abbrev pub pageOver : (fpd : Bool) → Memory → (below table : ℕ) → Step Translation
+  pageOver fpd =
+      stepOver address (fault 0x07 fpd) (pageStep fpd) (λ frame. at (hostAddress 1 frame address))
+
   abbrev pub pageRules : (fpd : Bool) (level table : ℕ) → Rules Translation
   pageRules fpd =
       walkRules address (fault 0x07 fpd) (pageStep fpd) (λ frame. at (hostAddress 1 frame address))
 
   -- X is the smaller of MGAW and AW's 39, 48 or 57 bits. Pass-through then returns the address itself
-  unfoldable pub widthRules : (fpd : Bool) → Context → Rules Translation
-  widthRules fpd context =
-      if leb (2 ^ min (registers .mgaw) (12 + 9 * context .levels)) address then answer (fault 0x04 fpd)
-      else if context .passes then answer (at address)
-      else pageRules fpd (context .levels) (context .table)
+  unfoldable pub widthRules : (e table : ℕ) → Rules Translation
+  widthRules e table =
+      if leb (2 ^ min (registers .mgaw) (12 + 9 * levelsOf e)) address
+      then answer (fault 0x04 (faultProcessingDisabled e))
+      else if eqb (translationType e) 2 then answer (at address)
+      else pageRules (faultProcessingDisabled e) (levelsOf e) table
 
   unfoldable pub contextRules : (source table : ℕ) → Rules Translation
   contextRules source table =
       fetch 2 (table + 16 * devfnOf source) (fault 0x09 false)
       (λ e.
-        onCheck (contextCheck registers e) (λ reason. answer (fault reason (faultProcessingDisabled e)))
-        (widthRules (faultProcessingDisabled e)))
+      onCheck (contextCheck registers e) (λ reason. answer (fault reason (faultProcessingDisabled e)))
+      (widthRules e))
 
   unfoldable pub rootRules : (source : ℕ) → Rules Translation
   rootRules source =

@@ -1,44 +1,45 @@
 // The context entry: 16 bytes for each device and function of a bus.
 ghost use mathlib.Core.Path.{_≡_};
-ghost use Rattle.image.specs.Bits.{bits};
+ghost use Prim.Native.Nat.{_<_};
+ghost use lib.Dec.{eqb};
 ghost use Rattle.image.specs.Entries.{number16};
-ghost use Rattle.dma.specs.Context.{widthSupported, contextReserved, contextInvalid, contextCheck, faultProcessingDisabled};
-ghost use Rattle.dma.specs.Checked.{contextChecked};
-
+ghost use Rattle.dma.specs.Context.{addressWidth, levelsOf, translationType, widthSupported, contextReserved, contextInvalid, contextCheck, faultProcessingDisabled};
+ghost use Rattle.dma.specs.Checked.{translationOf};
+ghost use Rattle.dma.specs.Translation.{checked};
 use crate::entry::present;
 use crate::entry::table_address;
+use crate::translation::Translation;
 use faults::Reason;
 use image::Entry16;
 use image::field;
 use registers::Registers;
 use registers::at_or_above_power;
 
-// What a context entry leads to.
-pub struct Context {
-    // Of page tables: 3, 4 or 5.
-    pub levels: u32,
-    // TT: requests pass through.
-    pub passes: bool,
-    pub table: u64,
-}
-
-pub enum ContextCheck {
-    Leads(Context),
-    Fault(Reason),
-}
-
 // AW, bits 66:64.
 fn address_width(e: Entry16) -> u64
-    ensures { λ r. ⌜ r ≡ bits (number16 e) 66 64 ⌝ }
+    ensures { λ r. ⌜ (r ≡ addressWidth (number16 e)) × (r < 8) ⌝ }
 {
     field(e.high, 2, 0)
 }
 
+// Of page tables: 3, 4 or 5 where AW is 1, 2 or 3.
+pub fn levels(e: Entry16) -> u32
+    ensures { λ r. ⌜ (r ≡ levelsOf (number16 e)) × (r < 10) ⌝ }
+{
+    address_width(e) as u32 + 2
+}
+
 // TT, bits 3:2.
 fn translation_type(e: Entry16) -> u64
-    ensures { λ r. ⌜ r ≡ bits (number16 e) 3 2 ⌝ }
+    ensures { λ r. ⌜ r ≡ translationType (number16 e) ⌝ }
 {
     field(e.low, 3, 2)
+}
+
+pub fn passes_through(e: Entry16) -> bool
+    ensures { λ r. ⌜ r ≡ eqb (translationType (number16 e)) 2 ⌝ }
+{
+    translation_type(e) == 2
 }
 
 fn width_supported(registers: Registers, aw: u64) -> bool
@@ -71,28 +72,26 @@ fn context_invalid(registers: Registers, e: Entry16) -> bool
     !width_supported(registers, address_width(e)) | (translation_type(e) == 3)
 }
 
-pub fn context_check(registers: Registers, e: Entry16) -> ContextCheck
-    ensures { λ r. ⌜ contextChecked r ≡ contextCheck registers (number16 e) ⌝ }
-{
-    if !present(e) {
-        return ContextCheck::Fault(Reason::ContextNotPresent);
-    }
-    if context_reserved(registers.haw, e) {
-        return ContextCheck::Fault(Reason::ContextReserved);
-    }
-    if context_invalid(registers, e) {
-        return ContextCheck::Fault(Reason::ContextInvalid);
-    }
-    ContextCheck::Leads(Context {
-        levels: address_width(e) as u32 + 2,
-        passes: translation_type(e) == 2,
-        table: table_address(e),
-    })
-}
-
 // FPD, bit 1, read whether the entry is present or not.
 pub fn fault_processing_disabled(e: Entry16) -> bool
     ensures { λ r. ⌜ r ≡ faultProcessingDisabled (number16 e) ⌝ }
 {
     field(e.low, 1, 1) == 1
+}
+
+// The top page table's address.
+pub fn context_check(registers: Registers, e: Entry16) -> Translation
+    ensures { λ r. ⌜ translationOf r ≡ checked (faultProcessingDisabled (number16 e)) (contextCheck registers (number16 e)) ⌝ }
+{
+    let fpd = fault_processing_disabled(e);
+    if !present(e) {
+        return Translation::Fault(Reason::ContextNotPresent, fpd);
+    }
+    if context_reserved(registers.haw, e) {
+        return Translation::Fault(Reason::ContextReserved, fpd);
+    }
+    if context_invalid(registers, e) {
+        return Translation::Fault(Reason::ContextInvalid, fpd);
+    }
+    Translation::At(table_address(e))
 }

@@ -2,7 +2,6 @@
 ghost use mathlib.Core.Path.{_≡_};
 ghost use Rattle.image.specs.Bits.{bit, anySet, inPlace};
 ghost use Rattle.image.specs.Entries.{number16};
-
 use image::Entry16;
 use image::field;
 use image::in_place;

@@ -3,3 +3,13 @@ mod context;
 mod entry;
 mod page;
 mod root;
+mod translation;
+mod walk;
+
+use registers::SourceId;
+
+pub struct MemoryRequest {
+    pub source: SourceId,
+    pub address: u64,
+    pub write: bool,
+}

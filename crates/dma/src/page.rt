@@ -1,19 +1,27 @@
 // A page entry: 8 bytes, at a level from 5 down to 1.
 ghost use mathlib.Core.Path.{_≡_};
+ghost use Prim.Native.Nat.{_<_};
+ghost use Rattle.image.specs.Memory.{ofImage};
 ghost use Rattle.dma.specs.Page.{denied, ownRight, largePage, reserved, pageCheck};
 ghost use Rattle.faults.specs.Reason.{numberOf};
-ghost use Rattle.dma.specs.Checked.{pageChecked};
-
+ghost use Rattle.dma.specs.Checked.{translationOf, stepOf};
+ghost use Rattle.dma.specs.Translation.{checked, pageOver};
+use crate::MemoryRequest;
+use crate::translation::Translation;
 use faults::Reason;
+use image::Found8;
+use image::fetch8;
 use image::field;
 use image::in_place;
+use image::table_page;
 use registers::Registers;
 use registers::at_or_above_power;
 
-pub enum PageCheck {
-    // The frame, or the next table's address.
-    Frame(u64),
-    Fault(Reason),
+pub enum Step {
+    // The walk ends here.
+    Done(Translation),
+    // The next table, or at level 1 the page.
+    Down(u64),
 }
 
 // Bit 7 at level 1 is not looked at.
@@ -59,17 +67,45 @@ fn denial(write: bool) -> Reason
     }
 }
 
-pub fn page_check(registers: Registers, write: bool, level: u32, e: u64) -> PageCheck
-    ensures { λ r. ⌜ pageChecked r ≡ pageCheck registers write level e ⌝ }
+// The frame, or the next table's address.
+fn page_check(registers: Registers, write: bool, fpd: bool, level: u32, e: u64) -> Translation
+    ensures { λ r. ⌜ translationOf r ≡ checked fpd (pageCheck registers write level e) ⌝ }
 {
     if field(e, 1, 0) == 0 {
-        return PageCheck::Fault(denial(write));
+        return Translation::Fault(denial(write), fpd);
     }
     if page_reserved(registers, level, e) {
-        return PageCheck::Fault(Reason::PageEntryReserved);
+        return Translation::Fault(Reason::PageEntryReserved, fpd);
     }
     if !own_right(write, e) {
-        return PageCheck::Fault(denial(write));
+        return Translation::Fault(denial(write), fpd);
     }
-    PageCheck::Frame(in_place(e, 51, 12))
+    Translation::At(in_place(e, 51, 12))
+}
+
+// One level of the walk: below is how many levels come after it.
+pub fn page_step(
+    image: &[u8],
+    registers: Registers,
+    request: MemoryRequest,
+    fpd: bool,
+    below: u32,
+    table: u64,
+) -> Step
+    requires { ⌜ below < 5 ⌝ }
+    ensures { λ r. ⌜ stepOf r ≡ pageOver registers (request .address) (request .write) fpd (ofImage (now (image .entry))) below table ⌝ }
+{
+    let address = request.address;
+    let index = field(address, 20 + 9 * below, 12 + 9 * below);
+    let Found8::Entry(e) = fetch8(table_page(image, table), 8 * index) else {
+        return Step::Done(Translation::Fault(Reason::PageEntryAccess, fpd));
+    };
+    let check = page_check(registers, request.write, fpd, below + 1, e);
+    let Translation::At(frame) = check else {
+        return Step::Done(check);
+    };
+    if large_page(below + 1, e) {
+        return Step::Done(Translation::At(frame + field(address, 11 + 9 * below, 0)));
+    }
+    Step::Down(frame)
 }

@@ -1,21 +1,17 @@
 // The root entry: 16 bytes for each bus, in the page of the root table.
+ghost use mathlib.Core.Bool.{false};
 ghost use mathlib.Core.Path.{_≡_};
 ghost use Rattle.image.specs.Entries.{number16};
 ghost use Rattle.dma.specs.Root.{rootReserved, rootCheck};
-ghost use Rattle.dma.specs.Checked.{rootChecked};
-
+ghost use Rattle.dma.specs.Checked.{translationOf};
+ghost use Rattle.dma.specs.Translation.{checked};
 use crate::entry::present;
 use crate::entry::table_address;
+use crate::translation::Translation;
 use faults::Reason;
 use image::Entry16;
 use image::field;
 use registers::at_or_above_power;
-
-pub enum RootCheck {
-    // The context table's address.
-    Table(u64),
-    Fault(Reason),
-}
 
 fn root_reserved(haw: u8, e: Entry16) -> bool
     ensures { λ r. ⌜ r ≡ rootReserved haw (number16 e) ⌝ }
@@ -23,14 +19,15 @@ fn root_reserved(haw: u8, e: Entry16) -> bool
     (field(e.low, 11, 1) != 0) | ((e.high != 0) | at_or_above_power(e.low, haw as u32))
 }
 
-pub fn root_check(haw: u8, e: Entry16) -> RootCheck
-    ensures { λ r. ⌜ rootChecked r ≡ rootCheck haw (number16 e) ⌝ }
+// The context table's address.
+pub fn root_check(haw: u8, e: Entry16) -> Translation
+    ensures { λ r. ⌜ translationOf r ≡ checked false (rootCheck haw (number16 e)) ⌝ }
 {
     if !present(e) {
-        return RootCheck::Fault(Reason::RootNotPresent);
+        return Translation::Fault(Reason::RootNotPresent, false);
     }
     if root_reserved(haw, e) {
-        return RootCheck::Fault(Reason::RootReserved);
+        return Translation::Fault(Reason::RootReserved, false);
     }
-    RootCheck::Table(table_address(e))
+    Translation::At(table_address(e))
 }

@@ -6,7 +6,7 @@ use native.Mathlib.Omega.{arith}
 use native.Mathlib.Nat.{mod-one, zero-mod, mod-lt, mod-eq-of-lt, div-eq-of-lt, lt-of-lt-of-le, le-refl, mul-add-mod-self-left, mul-add-div, add-comm, add-zero, div-one, one-mul, le-trans, mod-le, mul-le-mul-right, div-mul-le-self}
 use native.Mathlib.Decide.{decLe}
 use lib.Dec.{lit<}
-use lib.Pow.{pow-pos, pow-mono, pow-lt, field, shr-lt, shr-shr, mod-mod-pow}
+use lib.Pow.{pow-pos, pow-mono, pow-lt, field, shl-lt, shr-lt, shr-shr, mod-mod-pow}
 use Rattle.image.specs.Bits.{bits}
 use Rattle.image.specs.Entries.{spell}
 
@@ -51,6 +51,12 @@ pub in-place-le : (e high low : ℕ) → bits e high low * 2 ^ low ≤ e
 unfolding bits
 in-place-le e high low =
     le-trans (mul-le-mul-right (2 ^ low) (mod-le (e / 2 ^ low) (2 ^ (suc high - low)))) (div-mul-le-self e (2 ^ low))
+
+-- and below the power of two above its top
+pub in-place-lt : (e high low : ℕ) → low ≤ suc high → bits e high low * 2 ^ low < 2 ^ suc high
+in-place-lt e high low ordered =
+    let sum : (suc high - low) + low ≡ suc high = omega arith in
+    rw sum at (shl-lt (suc high - low) low (fits e high low))
 
 -- a power of two by a shift
 pub shifted-one : (k : ℕ) → k < 64 → (1 * 2 ^ k) % 2 ^ 64 ≡ 2 ^ k

@@ -2,7 +2,7 @@ use Prim.Native.Nat.{ℕ, _+_, _<_, _^_}
 use mathlib.Core.Path.{_≡_, refl, ap, ap₂, sym, _∙_}
 use native.Mathlib.Omega.{arith}
 use lib.Dec.{eqb, lit<}
-use Rattle.image.proofs.Fields.{low-field, high-field, high-whole}
+use Rattle.image.proofs.Fields.{low-field, high-field, fits}
 use borrow.Author.Needs.{needs}
 use Rattle.dma.proofs.context.address_width.Statement.{statement}
 use Rattle.dma.proofs.context.address_width.Tie as tie
@@ -15,7 +15,7 @@ returns c =
     let s = c .before in
     let low : s .args .e .low < 2 ^ 64 = omega arith in
     let high : s .args .e .high < 2 ^ 64 = omega arith in
-    c .field .ensures ∙ sym (high-field low high 2 0 (lit< tt))
+    (c .field .ensures ∙ sym (high-field low high 2 0 (lit< tt)), omega (arith, c .field .ensures, fits (s .args .e .high) 2 0))
 
 pub address-width-spec : {M : Type 1} → statement M
 address-width-spec = tie.close (tie.spec field-requires returns)

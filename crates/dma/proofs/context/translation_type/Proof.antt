@@ -2,7 +2,7 @@ use Prim.Native.Nat.{ℕ, _+_, _<_, _^_}
 use mathlib.Core.Path.{_≡_, refl, ap, ap₂, sym, _∙_}
 use native.Mathlib.Omega.{arith}
 use lib.Dec.{eqb, lit<}
-use Rattle.image.proofs.Fields.{low-field, high-field, high-whole}
+use Rattle.image.proofs.Fields.{low-field, high-field, fits}
 use borrow.Author.Needs.{needs}
 use Rattle.dma.proofs.context.translation_type.Statement.{statement}
 use Rattle.dma.proofs.context.translation_type.Tie as tie

@@ -1,6 +1,5 @@
 use mathlib.Core.Path.{_≡_, refl, ap, ap₂, sym, _∙_}
 use borrow.Author.Tests.{eq-eqb, ne-eqb}
-use Rattle.image.specs.Check.{stop}
 use Rattle.dma.specs.Page.{pageCheck}
 use borrow.Author.Needs.{needs}
 use Rattle.dma.proofs.page.page_check.Statement.{statement}

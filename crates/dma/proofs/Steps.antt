@@ -1,0 +1,71 @@
+-- Laws of the walk, level by level.
+use Prim.Native.Nat.{ℕ, zero, suc, _+_, _*_, _-_, _^_, _<_, _≤_}
+use mathlib.Core.Bool.{Bool, true, false, not}
+use mathlib.Core.Path.{_≡_, refl, ap, sym, _∙_, subst}
+use native.Mathlib.Omega.{arith}
+use native.Mathlib.Nat.{lt-of-lt-of-le}
+use lib.Pow.{pow-mono}
+use lib.Dec.{lit≤}
+use Rattle.image.specs.Bits.{bits, inPlace, anySet}
+use Rattle.image.specs.Check.{Check, stop, go}
+use Rattle.image.specs.Choice.{if_then_else_}
+use Rattle.image.specs.Memory.{Memory, Fetched, missing, found, entry, onFetch}
+use Rattle.image.specs.Rules.{run, answer}
+use Rattle.image.proofs.Fields.{fits, in-place-lt}
+use Rattle.registers.specs.declared.Registers.{Registers}
+use Rattle.dma.specs.Page.{pageCheck, reserved, denied, ownRight}
+use Rattle.dma.specs.Walk.{Step, done, down, onStep, walkRules, stepOver, placeIn}
+
+-- an index of 9 bits
+pub index-lt : (address n : ℕ) → bits address (20 + 9 * n) (12 + 9 * n) < 512
+index-lt address n =
+    let nine : suc (20 + 9 * n) - (12 + 9 * n) ≡ 9 = omega arith in
+    subst (λ (k : ℕ). bits address (20 + 9 * n) (12 + 9 * n) < 2 ^ k) nine (fits address (20 + 9 * n) (12 + 9 * n))
+
+-- what a leaf at level n + 1 adds to its frame
+pub offset : (n : ℕ) → 11 + 9 * n ≡ 11 + 9 * (suc n - 1)
+offset n = omega arith
+
+pub host-lt : (address n : ℕ) → n < 5 → bits address (11 + 9 * n) 0 < 2 ^ 48
+host-lt address n h = lt-of-lt-of-le (fits address (11 + 9 * n) 0) (pow-mono {j = 48} (omega arith))
+
+-- a walk is its first level, then the walk of what that leads to
+module _ {A : Type 0} (address : ℕ) (none : A) (step : (level e : ℕ) → Step A) (arrived : ℕ → A) (m : Memory) where
+  pub walk-step : (n table : ℕ)
+      → run (walkRules address none step arrived (suc n) table) m
+      ≡ onStep (stepOver address none step arrived m n table) (λ a. a) (λ next. run (walkRules address none step arrived n next) m)
+  unfolding run walkRules stepOver
+  walk-step n table = go (entry 1 m (placeIn address table n))
+    where
+      on : (s : Step A)
+          → run (onStep s answer (walkRules address none step arrived n)) m
+          ≡ onStep s (λ a. a) (λ next. run (walkRules address none step arrived n next) m)
+      on (done a) = refl
+      on (down next) = refl
+
+      go : (f : Fetched)
+          → onFetch f none (λ e. run (onStep (step (suc n) e) answer (walkRules address none step arrived n)) m)
+          ≡ onStep (onFetch f (done none) (step (suc n))) (λ a. a) (λ next. run (walkRules address none step arrived n next) m)
+      go missing = refl
+      go (found e) = on (step (suc n) e)
+
+  pub walk-arrived : (frame : ℕ) → run (walkRules address none step arrived zero frame) m ≡ arrived frame
+  unfolding run walkRules
+  walk-arrived frame = refl
+
+pub past : {A : Type 0} (t : Bool) (reason : ℕ) (rest : Check A) (a : A) → (if t then stop reason else rest) ≡ go a → rest ≡ go a
+past true reason rest a h = let z : _≡_ {A = ℕ} 0 1 = cc in absurd (omega arith)
+past false reason rest a h = h
+
+-- a page entry that goes on goes on with its bits 51:12
+pub page-frame : (registers : Registers) (write : Bool) (level e frame : ℕ) → pageCheck registers write level e ≡ go frame → frame ≡ inPlace e 51 12
+unfolding pageCheck
+page-frame registers write level e frame h =
+    let h1 = past (not (anySet e 1 0)) (denied write) _ frame h in
+    let h2 = past (reserved registers level e) 0x0C _ frame h1 in
+    let h3 = past (not (ownRight write e)) (denied write) _ frame h2 in
+    cc
+
+pub page-frame-lt : (registers : Registers) (write : Bool) (level e frame : ℕ) → pageCheck registers write level e ≡ go frame → frame < 2 ^ 52
+page-frame-lt registers write level e frame h =
+    rw (page-frame registers write level e frame h) (in-place-lt e 51 12 (lit≤ tt))

@@ -1,0 +1,103 @@
+use Prim.Native.Nat.{ℕ, _+_, _*_}
+use mathlib.Core.Bool.{Bool, false}
+use mathlib.Core.Path.{_≡_, refl, ap, sym, _∙_}
+use native.Mathlib.Omega.{arith}
+use Rattle.image.specs.Check.{go}
+use Rattle.image.specs.Entries.{fetched16, number16}
+use Rattle.image.specs.Memory.{found, ofImage, entry}
+use Rattle.registers.specs.Source.{busOf, devfnOf}
+use Rattle.dma.specs.Checked.{translationOf}
+use Rattle.dma.specs.Translation.{fault, rootRules, contextRules}
+use Rattle.dma.specs.Root.{rootCheck}
+use Rattle.dma.proofs.Stages.{placed, unfetched, stopped, passed}
+use Rattle.dma.proofs.Stepped.{gone}
+use borrow.Author.Needs.{needs}
+use Rattle.dma.proofs.translation.translate.Statement.{statement}
+use Rattle.dma.proofs.translation.translate.Tie as tie
+
+bus-requires : tie.Need-bus-requires
+bus-requires c κs = search needs
+
+table-page-requires : tie.Need-table-page-requires
+table-page-requires c κs = search needs
+
+cast-fetch16 : tie.Need-cast-fetch16
+cast-fetch16 c = search needs
+
+mul-fetch16 : tie.Need-mul-fetch16
+mul-fetch16 c = search needs
+
+fetch16-requires : tie.Need-fetch16-requires
+fetch16-requires c κs = search needs
+
+enum-known-e : tie.Need-enum-known-e
+enum-known-e c = search needs
+
+enum-told : tie.Need-enum-told
+enum-told c = search needs
+
+place : (c : tie.After-fetch16)
+    → fetched16 (c .fetch16 .result)
+    ≡ entry 2 (ofImage (c .before .before .before .before .args .image .now)) (c .before .before .before .before .args .registers .«root_table» + 16 * busOf (c .before .before .before .before .args .request .source .id))
+place c =
+    let a = c .before .before .before .before .args in
+    rw (← c .before .before .bus .ensures)
+    (placed (a .image .now) (a .registers .«root_table») (omega arith) (c .before .table-page .ensures) (c .fetch16 .ensures))
+
+returns : tie.Need-returns
+unfolding rootRules
+returns c =
+    let a = c .before .before .before .before .before .before .args in
+    unfetched (ofImage (a .image .now)) (a .registers .«root_table» + 16 * busOf (a .request .source .id)) (fault 0x08 false) (λ (e : ℕ). false) (rootCheck (a .registers .haw)) (λ e. contextRules (a .registers) (a .request .address) (a .request .write) (a .request .source .id)) (sym (ap fetched16 (c .enum-told .given .1)) ∙ place (c .before .before))
+
+root-check-requires : tie.Need-root-check-requires
+root-check-requires c κs = search needs
+
+enum-known-check : tie.Need-enum-known-check
+enum-known-check c = search needs
+
+enum-told-2 : tie.Need-enum-told-2
+enum-told-2 c = search needs
+
+found-at : (c : tie.After-known-told)
+    → found (number16 (c .before .e .given .0 .0))
+    ≡ entry 2 (ofImage (c .before .before .before .before .before .before .before .args .image .now)) (c .before .before .before .before .before .before .before .args .registers .«root_table» + 16 * busOf (c .before .before .before .before .before .before .before .args .request .source .id))
+found-at c = sym (ap fetched16 (c .before .e .given .1)) ∙ place (c .before .before .before)
+
+went : (c : tie.After-check)
+    → rootCheck (c .before .before .before .before .before .before .before .before .before .before .args .registers .haw) (number16 (c .before .before .before .before .e .given .0 .0)) ≡ go (c .check .given .0 .0)
+went c = gone false _ (sym (ap translationOf (c .check .given .1)) ∙ c .before .before .root-check .ensures)
+
+returns-2 : tie.Need-returns-2
+unfolding rootRules
+returns-2 c =
+    let a = c .before .before .before .before .before .before .before .before .before .before .args in
+    stopped (ofImage (a .image .now)) (a .registers .«root_table» + 16 * busOf (a .request .source .id)) (fault 0x08 false) (λ (e : ℕ). false) (rootCheck (a .registers .haw)) (λ e. contextRules (a .registers) (a .request .address) (a .request .write) (a .request .source .id)) (found-at (c .before .before .before)) (c .before .before .root-check .ensures) (ap translationOf (c .enum-told2 .given .1))
+
+translate-context-requires : tie.Need-translate-context-requires
+translate-context-requires c κs = search needs
+
+returns-3 : tie.Need-returns-3
+unfolding rootRules
+returns-3 c =
+    let a = c .before .before .before .before .before .before .before .before .before .before .before .before .args in
+    c .translate-context .ensures ∙ passed (ofImage (a .image .now)) (a .registers .«root_table» + 16 * busOf (a .request .source .id)) (fault 0x08 false) (λ (e : ℕ). false) (rootCheck (a .registers .haw)) (λ e. contextRules (a .registers) (a .request .address) (a .request .write) (a .request .source .id)) (found-at (c .before .before .before .before .before)) (went (c .before .before))
+
+pub translate-spec : {M : Type 1} → statement M
+translate-spec =
+    tie.close
+    (tie.spec
+    bus-requires
+    table-page-requires
+    cast-fetch16
+    mul-fetch16
+    fetch16-requires
+    enum-known-e
+    enum-told
+    returns
+    root-check-requires
+    enum-known-check
+    enum-told-2
+    returns-2
+    translate-context-requires
+    returns-3)

@@ -1,0 +1,39 @@
+// The walk through the page tables, from the top level down.
+ghost use mathlib.Core.Path.{_≡_};
+ghost use Prim.Native.Nat.{_≤_, _<_, _^_};
+ghost use Rattle.image.specs.Memory.{ofImage};
+ghost use Rattle.image.specs.Rules.{run};
+ghost use Rattle.dma.specs.Checked.{translationOf};
+ghost use Rattle.dma.specs.Translation.{pageRules};
+use crate::MemoryRequest;
+use crate::page::Step;
+use crate::page::page_step;
+use crate::translation::Translation;
+use image::field;
+use registers::Registers;
+
+pub fn walk(
+    image: &[u8],
+    registers: Registers,
+    request: MemoryRequest,
+    fpd: bool,
+    levels: u32,
+    table: u64,
+) -> Translation
+    requires { ⌜ (levels ≤ 5) × (0 < levels) ⌝ }
+    ensures { λ r. ⌜ translationOf r ≡ run (pageRules registers (request .address) (request .write) fpd levels table) (ofImage (now (image .entry))) ⌝ }
+{
+    let mut level = levels;
+    let mut frame = table;
+    while 0 < level {
+        let step = page_step(image, registers, request, fpd, level - 1, frame);
+        match step {
+            Step::Done(answer) => return answer,
+            Step::Down(next) => {
+                frame = next;
+                level -= 1;
+            }
+        }
+    }
+    Translation::At(frame + field(request.address, 11, 0))
+}
