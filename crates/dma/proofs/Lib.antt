@@ -1,4 +1,5 @@
 pub mod Address
+pub mod Admissions
 pub mod Reserved
 pub mod Stages
 pub mod Stepped

@@ -1,4 +1,11 @@
 // Memory requests: untranslated reads and writes, from the root entry to a host address or a fault.
+ghost use mathlib.Core.Path.{_≡_};
+ghost use Rattle.image.specs.Memory.{ofImage};
+ghost use Rattle.image.specs.Rules.{run};
+ghost use Rattle.dma.specs.Answers.{outcomeOf};
+ghost use Rattle.dma.specs.Checked.{translationOf};
+ghost use Rattle.dma.specs.Requests.{outcome, memoryRules};
+
 mod context;
 mod entry;
 mod page;
@@ -6,10 +13,52 @@ mod root;
 mod translation;
 mod walk;
 
+use faults::Fault;
+use faults::memory_fault;
+use registers::Admission;
+use registers::Registers;
 use registers::SourceId;
+use registers::admit;
+use registers::in_interrupt_range;
+use translation::Translation;
+use translation::translate;
 
 pub struct MemoryRequest {
     pub source: SourceId,
     pub address: u64,
     pub write: bool,
+}
+
+pub enum MemoryAnswer {
+    // The host address.
+    Granted(u64),
+    Blocked(Fault),
+    // By number: 1 bad registers, 2 an address in the interrupt range.
+    Refused(u8),
+}
+
+fn answer(request: MemoryRequest, translated: Translation) -> MemoryAnswer
+    ensures { λ r. ⌜ outcomeOf r ≡ outcome request (translationOf translated) ⌝ }
+{
+    match translated {
+        Translation::At(address) => MemoryAnswer::Granted(address),
+        Translation::Fault(reason, fpd) => MemoryAnswer::Blocked(memory_fault(
+            reason,
+            fpd,
+            request.source,
+            request.address,
+            request.write,
+        )),
+    }
+}
+
+// Where a read or a write of a device may go.
+pub fn memory_request(registers: Registers, image: &[u8], request: MemoryRequest) -> MemoryAnswer
+    ensures { λ r. ⌜ outcomeOf r ≡ run (memoryRules registers request) (ofImage (now (image .entry))) ⌝ }
+{
+    match admit(registers, in_interrupt_range(request.address), registers.te) {
+        Admission::Refused(number) => MemoryAnswer::Refused(number),
+        Admission::Passed => MemoryAnswer::Granted(request.address),
+        Admission::Taken => answer(request, translate(image, registers, request)),
+    }
 }

@@ -1,0 +1,31 @@
+-- A memory request by what becomes of it at admission.
+use Prim.Native.Nat.{ℕ}
+use mathlib.Core.Bool.{Bool}
+use mathlib.Core.Path.{_≡_, refl, ap, sym, _∙_}
+use Rattle.image.specs.Memory.{Memory}
+use Rattle.image.specs.Rules.{run}
+use Rattle.image.proofs.Trees.{run-map}
+use Rattle.registers.specs.Admission.{Admitted, refusal, pass, take, admission, inInterruptRange}
+use Rattle.registers.specs.declared.Registers.{Registers}
+use Rattle.dma.specs.Requests.{MemoryOutcome, granted, refused, outcome, memoryRules}
+use Rattle.dma.specs.Translation.{rootRules}
+use Rattle.dma.specs.declared.MemoryRequest.{MemoryRequest}
+
+module _ (registers : Registers) (request : MemoryRequest) (m : Memory) where
+  -- admission with the address's kind as the code found it
+  abbrev admitted : Bool → Admitted
+  admitted wrong = admission registers wrong (registers .te)
+
+  module _ {wrong : Bool} (kind : wrong ≡ inInterruptRange (request .address)) where
+    pub refuses : {n : ℕ} → refusal n ≡ admitted wrong → refused n ≡ run (memoryRules registers request) m
+    unfolding memoryRules run
+    refuses h = rw (← kind, ← h)
+
+    pub passes : pass ≡ admitted wrong → granted (request .address) ≡ run (memoryRules registers request) m
+    unfolding memoryRules run
+    passes h = rw (← kind, ← h)
+
+    pub takes : take ≡ admitted wrong
+        → outcome request (run (rootRules registers (request .address) (request .write) (request .source .id)) m) ≡ run (memoryRules registers request) m
+    unfolding memoryRules
+    takes h = rw (← kind, ← h) (sym (run-map (outcome request) (rootRules registers (request .address) (request .write) (request .source .id)) m))

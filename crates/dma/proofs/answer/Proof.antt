@@ -1,0 +1,31 @@
+use mathlib.Core.Path.{_≡_, refl, ap, sym, _∙_}
+use Rattle.dma.specs.Checked.{translationOf}
+use Rattle.dma.specs.Requests.{blocked, outcome}
+use borrow.Author.Needs.{needs}
+use Rattle.dma.proofs.answer.Statement.{statement}
+use Rattle.dma.proofs.answer.Tie as tie
+
+enum-known-translated : tie.Need-enum-known-translated
+enum-known-translated c = search needs
+
+enum-known-translated-2 : tie.Need-enum-known-translated-2
+enum-known-translated-2 c = search needs
+
+memory-fault-requires : tie.Need-memory-fault-requires
+memory-fault-requires c κs = search needs
+
+returns : tie.Need-returns
+returns c = sym (ap (λ t. outcome (c .before .before .before .args .request) (translationOf t)) (c .before .translated .given .1))
+
+returns-2 : tie.Need-returns-2
+returns-2 c = ap blocked (c .memory-fault .ensures) ∙ sym (ap (λ t. outcome (c .before .before .before .before .args .request) (translationOf t)) (c .before .before .translated2 .given .1))
+
+pub answer-spec : {M : Type 1} → statement M
+answer-spec =
+    tie.close
+    (tie.spec
+    enum-known-translated
+    enum-known-translated-2
+    memory-fault-requires
+    returns
+    returns-2)

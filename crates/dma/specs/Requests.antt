@@ -1,0 +1,36 @@
+-- A memory request, from registers to answer, as one rules tree.
+use Prim.Native.Nat.{ℕ}
+use mathlib.Core.List.{List}
+use Rattle.image.specs.Memory.{Memory}
+use Rattle.image.specs.Rules.{Rules, mapRules, entriesOf}
+use Rattle.registers.specs.Admission.{admission, onAdmission, inInterruptRange}
+use Rattle.registers.specs.declared.Registers.{Registers}
+use Rattle.faults.specs.Record.{FaultAnswer, memoryFault}
+use Rattle.dma.specs.Translation.{Translation, at, fault, rootRules}
+use Rattle.dma.specs.declared.MemoryRequest.{MemoryRequest}
+
+-- document 01's granted, with the host address; blocked, with the fault; refused, by number
+pub data MemoryOutcome : Type 0 where
+  granted : ℕ → MemoryOutcome
+  blocked : FaultAnswer → MemoryOutcome
+  refused : ℕ → MemoryOutcome
+
+abbrev pub outcome : MemoryRequest → Translation → MemoryOutcome
+outcome request (at address) = granted address
+outcome request (fault reason fpd) =
+    blocked (memoryFault reason fpd (request .source .id) (request .address) (request .write))
+
+-- an address in the interrupt range is of the wrong kind; with TE off the address itself is granted
+unfoldable pub memoryRules : Registers → MemoryRequest → Rules MemoryOutcome
+memoryRules registers request =
+    onAdmission (admission registers (inInterruptRange (request .address)) (registers .te)) refused
+    (granted (request .address))
+    (mapRules (outcome request) (rootRules registers (request .address) (request .write) (request .source .id)))
+
+-- document 01's walked entries: the page entries, of one word each, one that faults included
+abbrev pub walked : Registers → MemoryRequest → Memory → List ℕ
+walked registers request = entriesOf 1 (memoryRules registers request)
+
+-- the root and context entries, of two words each
+abbrev pub tableEntries : Registers → MemoryRequest → Memory → List ℕ
+tableEntries registers request = entriesOf 2 (memoryRules registers request)
