@@ -1,4 +1,4 @@
--- The parts of a made source id are the parts given, and a source id is made of its parts.
+-- The parts of a made source id are the parts given, a source id is made of its parts, and each part is a byte.
 use Prim.Native.Nat.{ℕ, _<_}
 use mathlib.Core.Path.{_≡_}
 use native.Mathlib.Omega.{arith}
@@ -16,3 +16,11 @@ devfn-of bus devfn d = omega arith
 pub source-of : (id : ℕ) → id < 65536 → sourceOf (busOf id) (devfnOf id) ≡ id
 unfolding bits
 source-of id h = omega arith
+
+pub bus-below : (id : ℕ) → busOf id < 256
+unfolding bits
+bus-below id = omega arith
+
+pub devfn-below : (id : ℕ) → devfnOf id < 256
+unfolding bits
+devfn-below id = omega arith
