@@ -1,4 +1,5 @@
 pub mod Fields
+pub mod Isolated
 pub mod Local
 pub mod Pages
 pub mod Trees

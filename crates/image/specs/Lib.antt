@@ -1,3 +1,4 @@
+pub mod Alike
 pub mod Bits
 pub mod Bytes
 pub mod Check
