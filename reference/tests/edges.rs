@@ -330,31 +330,38 @@ fn nine_words() {
     );
 }
 
-/// "level L from the top down to 1, at table + 8 x address bits (12+9(L-1)) to
-/// (20+9(L-1))": another index at each of five levels.
+/// "AW is 66:64: 1, 2, 3 mean 3, 4, 5 levels"; "level L from the top down to
+/// 1, at table + 8 x address bits (12+9(L-1)) to (20+9(L-1))": another index at
+/// each level, with high and low bits set.
 #[test]
-fn five_indices() {
+fn indices() {
     let registers = Registers {
         mgaw: 57,
         levels5: true,
         ..BENCH
     };
-    let address = 1 << 48 | 2 << 39 | 3 << 30 | 4 << 21 | 511 << 12 | 0xFFF;
-    let image = bench_with(&[
-        (0x2108, 0x503),
-        (0x3008, 0x4003),
-        (0x4010, 0x5003),
-        (0x5018, 0x3003),
-        (0x3020, 0x7003),
-    ]);
-    assert_eq!(
-        read(&registers, &image, address),
-        Outcome::Granted(0x2345_6FFF)
-    );
-    assert_eq!(
-        walked_entries(&registers, &image, SOURCE, address, false),
-        [0x3008, 0x4010, 0x5018, 0x3020, 0x7FF8]
-    );
+    let address = 0x155 << 48 | 0x0AA << 39 | 0x1FE << 30 | 0x101 << 21 | 0x1FF << 12 | 0xFFF;
+    let page_words = [
+        (0x3AA8, 0x4003),
+        (0x4550, 0x5003),
+        (0x5FF0, 0x3003),
+        (0x3808, 0x7003),
+    ];
+    let entries = [0x3AA8, 0x4550, 0x5FF0, 0x3808, 0x7FF8];
+    for (aw, top_table, bits) in [(3, 0x3001, 57), (2, 0x4001, 48), (1, 0x5001, 39)] {
+        let mut image = bench_with(&page_words);
+        common::set(&mut image, 0x2100, top_table);
+        common::set(&mut image, 0x2108, 0x500 | aw);
+        let address = address & ((1 << bits) - 1);
+        assert_eq!(
+            read(&registers, &image, address),
+            Outcome::Granted(0x2345_6FFF)
+        );
+        assert_eq!(
+            walked_entries(&registers, &image, SOURCE, address, false),
+            entries[3 - aw as usize..]
+        );
+    }
 }
 
 /// "a 16-bit source id (bus in 15:8, device and function in 7:0)"; "root table
@@ -735,6 +742,54 @@ fn order_in_interrupt_entries() {
     assert_eq!(at(0x0001_6400_0031_8001, 0x40310), 0x27);
     // SVT 3 is 24h, though the source would be the right one.
     assert_eq!(at(0x0000_6400_0031_8001, 0xC0310), 0x24);
+}
+
+/// "bit 15 without posting" is reserved; posting says nothing about an entry
+/// with bit 15 clear, whatever its vector.
+#[test]
+fn without_posting() {
+    let registers = Registers {
+        posting: false,
+        ..BENCH
+    };
+    for vector in [0, 0x41, 0xFF] {
+        let image = bench_with(&[
+            (0x6020, 0x0000_0700_0000_0001 | vector << 16),
+            (0x6040, 0x0000_6400_0000_8001 | vector << 16),
+        ]);
+        assert!(matches!(
+            ring(&registers, &image, SOURCE, ENTRY_2, 0),
+            Outcome::Remapped { .. }
+        ));
+        assert_eq!(reason(ring(&registers, &image, SOURCE, ENTRY_4, 0)), 0x24);
+        assert!(matches!(
+            ring(&BENCH, &image, SOURCE, ENTRY_4, 0),
+            Outcome::Posted { .. }
+        ));
+    }
+}
+
+/// "delivery mode (7:5) 3 or 6": bits 4:2 and 11:8 beside it do not matter.
+#[test]
+fn delivery_modes() {
+    for low in 0..0x1000u64 {
+        let image = bench_with(&[(0x6020, 0x0000_0700_0041_0001 | low)]);
+        let answer = ring(&BENCH, &image, SOURCE, ENTRY_2, 0);
+        let mode = low >> 5 & 7;
+        if mode == 3 || mode == 6 {
+            assert_eq!(reason(answer), 0x24, "{low:x}");
+        } else {
+            let expected = Outcome::Remapped {
+                destination_mode: low & 4 != 0,
+                redirection_hint: low & 8 != 0,
+                trigger: low & 16 != 0,
+                delivery: mode as u8,
+                vector: 0x41,
+                destination: 7,
+            };
+            assert_eq!(answer, expected, "{low:x}");
+        }
+    }
 }
 
 /// "without EIME 39:32 and 63:48 ... destination (63:32, or 47:40 without
