@@ -862,8 +862,23 @@ fn source_check() {
         assert!(accepted(2, sq, 0x0303, 0x0312));
         // From above to: no bus at all.
         assert!(!accepted(2, sq, 0x0503, 0x0400));
-        assert!(accepted(2, sq, 0x00FF, 0xFFFF));
-        assert!(accepted(2, sq, 0x00FF, 0x0000));
+    }
+    for (from, to) in [
+        (0x00, 0xFF),
+        (0x03, 0x05),
+        (0x80, 0xFF),
+        (0x00, 0x7F),
+        (0x7F, 0x80),
+    ] {
+        for bus in 0..256u16 {
+            let within = from <= bus && bus <= to;
+            let sid = u64::from(from << 8 | to);
+            assert_eq!(
+                accepted(2, 0, sid, bus << 8 | 0x10),
+                within,
+                "{sid:x} {bus:x}"
+            );
+        }
     }
 }
 
