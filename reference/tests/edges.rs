@@ -622,6 +622,19 @@ fn memory_record() {
     assert_eq!(record_words(&fault_of_write), [0, 0x8000_0008_0000_0000]);
 }
 
+/// "the interrupt index in 63:48 ...; source 79:64; reason 103:96; ... bit 127
+/// set; the rest 0": an interrupt is no read.
+#[test]
+fn interrupt_record() {
+    let blocked = fault(ring(&BENCH, &[], 0xFFFF, 0xFEE0_01F0, 0));
+    assert_eq!(
+        record_words(&blocked),
+        [0x000F_0000_0000_0000, 0x8000_0023_0000_FFFF]
+    );
+    let blocked = fault(ring(&BENCH, &[], 0, 0xFEE0_0010, 0));
+    assert_eq!(record_words(&blocked), [0, 0x8000_0023_0000_0000]);
+}
+
 /// "Bit 4 of the address clear is the old format: 25h if EIME is set or CFIS
 /// is clear, else passed unchanged." It comes before all else, and 25h records
 /// index 0.

@@ -122,6 +122,21 @@ fn eight_and_over() {
     assert_eq!(buffer[15], 12 | 0x80);
 }
 
+/// "Clearing a slot clears its bit 127 only", of a slot full of ones and in a
+/// buffer full of ones.
+#[test]
+fn clearing_one_bit() {
+    for slot in 0..8u8 {
+        let mut buffer = vec![0xFF; 128];
+        let mut expected = vec![0xFF; 128];
+        expected[16 * usize::from(slot) + 15] = 0x7F;
+        assert_eq!(clear_slot(&mut buffer, &ZERO, slot), Call::SlotCleared);
+        assert_eq!(buffer, expected);
+        assert_eq!(clear_slot(&mut buffer, &ZERO, slot), Call::SlotClear);
+        assert_eq!(buffer, expected);
+    }
+}
+
 /// The next slot alone is asked: a free slot elsewhere does not help, and a
 /// taken one elsewhere does not hinder.
 #[test]
