@@ -4,3 +4,4 @@ pub mod Reason
 pub mod Record
 pub mod Recorder
 pub mod Slots
+pub mod Total

@@ -1,0 +1,130 @@
+-- Records written are records cleared and records standing: each call keeps the balance, so every run of calls does.
+use Prim.Native.Nat.{ℕ, zero, suc, _+_, _*_, _<_, _≤_}
+use mathlib.Core.Path.{_≡_, refl, ap, sym, _∙_}
+use mathlib.Core.Bool.{Bool, true, false, not, _||_}
+use mathlib.Core.List.{List, [], _∷_}
+use native.Mathlib.Omega.{arith}
+use borrow.Author.Tests.{leb-false}
+use lib.Dec.{eqb, leb}
+use lib.ListN.{length, take, drop, replicate, length-replicate}
+use lib.Seq.{take-nil, drop-nil}
+use Rattle.image.specs.Bits.{bits}
+use Rattle.image.specs.Bytes.{littleEndian}
+use Rattle.image.specs.Choice.{if_then_else_}
+use Rattle.faults.specs.Recorder.{
+  State,
+  After,
+  leaves,
+  outOfPlace,
+  recording,
+  clearing,
+  clearingOverflow,
+  written,
+  slotCleared,
+  refused,
+  notRecordable,
+  dropped,
+  overflowed,
+  slotClear,
+  overflowClear,
+  overflowCleared,
+}
+use Rattle.faults.specs.Slots.{recordAt, withRecord, standing, standingIn, one-if, set127, clear127}
+use Rattle.faults.specs.Total.{Call, recordFault, clearSlot, clearOverflow, call, left, answered, zeroed, Total}
+use Rattle.faults.proofs.Recording.{neither, in-place}
+use Rattle.faults.proofs.Standing.{length-withRecord, stands, set-bit, clear-bit}
+
+-- what is asked of one call's outcome, from a buffer
+record Kept (slots : ℕ) (buffer : List ℕ) (a : After) : Type 0 where
+  pub sized : length (a .state .buffer) ≡ 16 * slots
+  pub balanced : standingIn slots buffer + one-if (eqb (a .answer) written)
+      ≡ one-if (eqb (a .answer) slotCleared) + standingIn slots (a .state .buffer)
+
+module _ (slots : ℕ) (buffer : List ℕ) where
+  either-way : (test : Bool) {x y : After} → (test ≡ true → Kept slots buffer x) → (test ≡ false → Kept slots buffer y)
+      → Kept slots buffer (if test then x else y)
+  either-way true p q = p refl
+  either-way false p q = q refl
+
+module _ (slots : ℕ) (buffer : List ℕ) (next : ℕ) (overflow : Bool) (sized : length buffer ≡ 16 * slots) where
+  -- neither written nor cleared, and the buffer as it was
+  same : {answer n : ℕ} {o : Bool} → eqb answer written ≡ false → eqb answer slotCleared ≡ false
+      → Kept slots buffer (leaves answer buffer n o)
+  same not-written not-cleared =
+      record { sized = sized; balanced = rw (not-written, not-cleared) (omega arith) }
+
+  recording-keeps : (recordable : Bool) (contents : ℕ)
+      → Kept slots buffer (recording slots buffer next overflow recordable contents)
+  unfolding recording
+  recording-keeps recordable contents =
+      either-way slots buffer (outOfPlace slots (length buffer) next) (λ t. same refl refl) (λ here.
+      either-way slots buffer (not recordable) (λ t. same refl refl) (λ t.
+      either-way slots buffer overflow (λ t. same refl refl) (λ t.
+      either-way slots buffer (standing buffer next) (λ t. same refl refl) (λ empty.
+      let placed = in-place slots (length buffer) next here in
+      record {
+        sized = length-withRecord buffer slots next (set127 contents) sized (placed .1);
+        balanced =
+            let now = stands buffer slots next (set127 contents) sized (placed .1) slots (placed .1) in
+            let counted = rw (empty, set-bit contents) at now in
+            omega arith;
+      }))))
+
+  clearing-keeps : (slot : ℕ) → Kept slots buffer (clearing slots buffer next overflow slot)
+  unfolding clearing
+  clearing-keeps slot =
+      either-way slots buffer (outOfPlace slots (length buffer) next || leb slots slot) (λ t. same refl refl) (λ here.
+      either-way slots buffer (standing buffer slot) (λ stood.
+      let below = leb-false slots slot (neither (outOfPlace slots (length buffer) next) (leb slots slot) here .1) in
+      let contents = recordAt buffer slot in
+      record {
+        sized = length-withRecord buffer slots slot (clear127 contents) sized below;
+        balanced =
+            let now = stands buffer slots slot (clear127 contents) sized below slots below in
+            let counted = rw (stood, clear-bit contents) at now in
+            omega arith;
+      }) (λ t. same refl refl))
+
+  clearing-overflow-keeps : Kept slots buffer (clearingOverflow slots buffer next overflow)
+  unfolding clearingOverflow
+  clearing-overflow-keeps =
+      either-way slots buffer (outOfPlace slots (length buffer) next) (λ t. same refl refl) (λ here.
+      either-way slots buffer overflow (λ t. same refl refl) (λ t. same refl refl))
+
+module _ (slots : ℕ) where
+  call-keeps : (c : Call) (s : State) → length (s .buffer) ≡ 16 * slots → Kept slots (s .buffer) (call slots c s)
+  unfolding call
+  call-keeps (recordFault recordable contents) s sized = recording-keeps slots (s .buffer) (s .next) (s .overflow) sized recordable contents
+  call-keeps (clearSlot slot) s sized = clearing-keeps slots (s .buffer) (s .next) (s .overflow) sized slot
+  call-keeps clearOverflow s sized = clearing-overflow-keeps slots (s .buffer) (s .next) (s .overflow) sized
+
+  -- from any buffer of the right size
+  run-keeps : (calls : List Call) (s : State) → length (s .buffer) ≡ 16 * slots
+      → standingIn slots (s .buffer) + answered slots written calls s
+      ≡ answered slots slotCleared calls s + standingIn slots (left slots calls s .buffer)
+  unfolding answered left
+  run-keeps [] s sized = omega arith
+  run-keeps (c ∷ cs) s sized =
+      let first = call-keeps c s sized in
+      let rest = run-keeps cs (call slots c s .state) (first .sized) in
+      omega arith
+
+-- nothing stands in a zeroed buffer
+zero-part : (n k m : ℕ) → littleEndian (take n (drop k (replicate m 0))) ≡ 0
+unfolding littleEndian
+zero-part n k zero = rw (drop-nil k, take-nil n)
+zero-part zero zero (suc m) = refl
+zero-part (suc n) zero (suc m) = rw (zero-part n zero m)
+zero-part n (suc k) (suc m) = zero-part n k m
+
+none-standing : (m n : ℕ) → standingIn n (replicate m 0) ≡ 0
+unfolding standingIn standing recordAt bits
+none-standing m zero = refl
+none-standing m (suc n) = rw (none-standing m n, zero-part 16 (16 * n) m)
+
+pub total : Total
+unfolding zeroed
+total slots calls =
+    let kept = run-keeps slots calls (zeroed slots) (length-replicate (16 * slots) 0) in
+    let counted = rw (none-standing (16 * slots) slots) at kept in
+    omega arith

@@ -1,0 +1,40 @@
+-- The recorder's total, over any run of calls: counted from the calls' answers and from the buffer, and stored nowhere.
+use Prim.Native.Nat.{ℕ, _+_, _*_}
+use mathlib.Core.Path.{_≡_}
+use mathlib.Core.Bool.{Bool, false}
+use mathlib.Core.List.{List, [], _∷_}
+use lib.Dec.{eqb}
+use lib.ListN.{replicate}
+use Rattle.faults.specs.Recorder.{State, After, recording, clearing, clearingOverflow, written, slotCleared}
+use Rattle.faults.specs.Slots.{one-if, standingIn}
+
+-- a call with its arguments, whatever they are
+pub data Call : Type 0 where
+  recordFault : (recordable : Bool) (contents : ℕ) → Call
+  clearSlot : (slot : ℕ) → Call
+  clearOverflow : Call
+
+module _ (slots : ℕ) where
+  unfoldable pub call : Call → State → After
+  call (recordFault recordable contents) s = recording slots (s .buffer) (s .next) (s .overflow) recordable contents
+  call (clearSlot slot) s = clearing slots (s .buffer) (s .next) (s .overflow) slot
+  call clearOverflow s = clearingOverflow slots (s .buffer) (s .next) (s .overflow)
+
+  -- what a run of calls leaves, each made on what the one before it left
+  unfoldable pub left : List Call → State → State
+  left [] s = s
+  left (c ∷ cs) s = left cs (call c s .state)
+
+  -- how many calls of a run have an answer
+  unfoldable pub answered : ℕ → List Call → State → ℕ
+  answered answer [] s = 0
+  answered answer (c ∷ cs) s = one-if (eqb (call c s .answer) answer) + answered answer cs (call c s .state)
+
+  unfoldable pub zeroed : State
+  zeroed = record { buffer = replicate (16 * slots) 0; next = 0; overflow = false }
+
+-- from a zeroed buffer and state, over any calls, records written are records cleared and records still standing
+abbrev pub Total : Type 0
+Total = (slots : ℕ) (calls : List Call) →
+    answered slots written calls (zeroed slots)
+    ≡ answered slots slotCleared calls (zeroed slots) + standingIn slots (left slots calls (zeroed slots) .buffer)
