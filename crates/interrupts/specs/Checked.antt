@@ -3,6 +3,11 @@ use Rattle.image.specs.Check.{Check, stop, go}
 use Rattle.faults.specs.Reason.{numberOf}
 use Rattle.interrupts.specs.Request.{Format, compatibility, remappable}
 use Rattle.interrupts.specs.Irte as irte
+use Rattle.interrupts.specs.Descriptor as descriptor
+use Rattle.interrupts.specs.declared.descriptor.Notice.{Notice}
+use Rattle.interrupts.specs.declared.descriptor.Notice.the-variants.{Silent, Due}
+use Rattle.interrupts.specs.declared.descriptor.DescriptorCheck.{DescriptorCheck}
+use Rattle.interrupts.specs.declared.descriptor.DescriptorCheck.the-variants as descriptor-check
 use Rattle.interrupts.specs.declared.irte.Irte.{Irte}
 use Rattle.interrupts.specs.declared.irte.Irte.the-variants.{Remaps, Posts}
 use Rattle.interrupts.specs.declared.irte.IrteCheck.{IrteCheck}
@@ -34,3 +39,11 @@ askedOf (Posts vector descriptor) = irte.posts vector descriptor
 abbrev pub irteChecked : IrteCheck → Check irte.Irte
 irteChecked (Valid i) = go (askedOf i)
 irteChecked Reserved = stop 0x24
+
+abbrev pub dueOf : Notice → descriptor.Notice
+dueOf Silent = descriptor.silent
+dueOf (Due vector destination) = descriptor.notice vector destination
+
+abbrev pub descriptorChecked : DescriptorCheck → Check descriptor.Notice
+descriptorChecked (descriptor-check.Valid n) = go (dueOf n)
+descriptorChecked descriptor-check.Reserved = stop 0x28

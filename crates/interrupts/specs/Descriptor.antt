@@ -13,11 +13,14 @@ abbrev pub reservedDescriptor : (eime : Bool) (d : ℕ) → Bool
 reservedDescriptor eime d =
     anySet d 271 258 || anySet d 287 280 || anySet d 511 320 || not eime && (anySet d 295 288 || anySet d 319 304)
 
+abbrev pub noticeDestination : (eime : Bool) (d : ℕ) → ℕ
+noticeDestination eime d = if eime then bits d 319 288 else bits d 303 296
+
 -- a notice is due where ON and SN are both clear
 abbrev pub noticeOf : (eime : Bool) (d : ℕ) → Notice
 noticeOf eime d =
     if bit d 256 || bit d 257 then silent
-    else notice (bits d 279 272) (if eime then bits d 319 288 else bits d 303 296)
+    else notice (bits d 279 272) (noticeDestination eime d)
 
 unfoldable pub descriptorCheck : (eime : Bool) (d : ℕ) → Check Notice
 descriptorCheck eime d = if reservedDescriptor eime d then stop 0x28 else go (noticeOf eime d)

@@ -31,3 +31,18 @@ pub fn irte_any_set(e: Entry16, high: u32, low: u32) -> bool
 {
     irte_bits(e, high, low) != 0
 }
+
+// Bits 319:256 are the descriptor's fifth word, and all that is read by field.
+pub fn descriptor_bits(d: Entry64, high: u32, low: u32) -> u64
+    requires { ⌜ (256 ≤ low) × ((low ≤ high) × (high < 320)) ⌝ }
+    ensures { λ r. ⌜ r ≡ bits (number64 d) high low ⌝ }
+{
+    field(d.w4, high - 256, low - 256)
+}
+
+pub fn descriptor_any_set(d: Entry64, high: u32, low: u32) -> bool
+    requires { ⌜ (256 ≤ low) × ((low ≤ high) × (high < 320)) ⌝ }
+    ensures { λ r. ⌜ r ≡ anySet (number64 d) high low ⌝ }
+{
+    descriptor_bits(d, high, low) != 0
+}

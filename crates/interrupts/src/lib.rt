@@ -1,6 +1,7 @@
 ghost use mathlib.Core.Path.{_≡_};
 use registers::SourceId;
 
+mod descriptor;
 mod fields;
 mod irte;
 mod request;

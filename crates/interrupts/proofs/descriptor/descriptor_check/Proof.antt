@@ -1,0 +1,22 @@
+use Rattle.interrupts.specs.Descriptor.{descriptorCheck}
+use borrow.Author.Needs.{needs}
+use Rattle.interrupts.proofs.descriptor.descriptor_check.Statement.{statement}
+use Rattle.interrupts.proofs.descriptor.descriptor_check.Tie as tie
+
+reserved-descriptor-requires : tie.Need-reserved-descriptor-requires
+reserved-descriptor-requires c κs = search needs
+
+returns : tie.Need-returns
+unfolding descriptorCheck
+returns c = rw (← c .before .reserved-descriptor .ensures, c .if1 .taken)
+
+notice-of-requires : tie.Need-notice-of-requires
+notice-of-requires c κs = search needs
+
+returns-2 : tie.Need-returns-2
+unfolding descriptorCheck
+returns-2 c = rw (← c .before .before .reserved-descriptor .ensures, c .before .if1 .left) (cc)
+
+pub descriptor-check-spec : {M : Type 1} → statement M
+descriptor-check-spec =
+    tie.close (tie.spec reserved-descriptor-requires returns notice-of-requires returns-2)

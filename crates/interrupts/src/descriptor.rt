@@ -1,0 +1,66 @@
+// The posted interrupt descriptor.
+ghost use mathlib.Core.Path.{_≡_};
+ghost use Rattle.image.specs.Bits.{anySet};
+ghost use Rattle.image.specs.Entries.{number64};
+ghost use Rattle.interrupts.specs.Descriptor.{reservedDescriptor, noticeDestination, noticeOf, descriptorCheck};
+ghost use Rattle.interrupts.specs.Checked.{dueOf, descriptorChecked};
+use crate::fields::descriptor_any_set;
+use crate::fields::descriptor_bits;
+use image::Entry64;
+
+pub enum Notice {
+    Silent,
+    Due { vector: u8, destination: u32 },
+}
+
+pub enum DescriptorCheck {
+    Valid(Notice),
+    Reserved,
+}
+
+// Bits 511:320.
+fn upper_set(d: Entry64) -> bool
+    ensures { λ r. ⌜ r ≡ anySet (number64 d) 511 320 ⌝ }
+{
+    (d.w5 != 0) | ((d.w6 != 0) | (d.w7 != 0))
+}
+
+fn reserved_descriptor(eime: bool, d: Entry64) -> bool
+    ensures { λ r. ⌜ r ≡ reservedDescriptor eime (number64 d) ⌝ }
+{
+    descriptor_any_set(d, 271, 258)
+        | descriptor_any_set(d, 287, 280)
+        | upper_set(d)
+        | (!eime & (descriptor_any_set(d, 295, 288) | descriptor_any_set(d, 319, 304)))
+}
+
+fn notice_destination(eime: bool, d: Entry64) -> u32
+    ensures { λ r. ⌜ r ≡ noticeDestination eime (number64 d) ⌝ }
+{
+    if eime {
+        return descriptor_bits(d, 319, 288) as u32;
+    }
+    descriptor_bits(d, 303, 296) as u32
+}
+
+// ON or SN holds the notice back.
+fn notice_of(eime: bool, d: Entry64) -> Notice
+    ensures { λ r. ⌜ dueOf r ≡ noticeOf eime (number64 d) ⌝ }
+{
+    if (descriptor_bits(d, 256, 256) == 1) | (descriptor_bits(d, 257, 257) == 1) {
+        return Notice::Silent;
+    }
+    Notice::Due {
+        vector: descriptor_bits(d, 279, 272) as u8,
+        destination: notice_destination(eime, d),
+    }
+}
+
+pub fn descriptor_check(eime: bool, d: Entry64) -> DescriptorCheck
+    ensures { λ r. ⌜ descriptorChecked r ≡ descriptorCheck eime (number64 d) ⌝ }
+{
+    if reserved_descriptor(eime, d) {
+        return DescriptorCheck::Reserved;
+    }
+    DescriptorCheck::Valid(notice_of(eime, d))
+}
