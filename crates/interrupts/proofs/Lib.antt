@@ -1,2 +1,4 @@
+pub mod Checks
 pub mod SourceId
+pub mod Stages
 pub mod Words

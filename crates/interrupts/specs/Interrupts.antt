@@ -5,7 +5,7 @@ use mathlib.Core.Bool.{Bool, false, not}
 use lib.Dec.{leb}
 use Rattle.image.specs.Check.{onCheck}
 use Rattle.image.specs.Choice.{if_then_else_}
-use Rattle.image.specs.Rules.{Rules, answer, fetch}
+use Rattle.image.specs.Rules.{Rules, answer, fetch, mapRules}
 use Rattle.registers.specs.Admission.{admission, onAdmission, inInterruptRange}
 use Rattle.registers.specs.declared.Registers.{Registers}
 use Rattle.faults.specs.Record.{FaultAnswer, interruptFault}
@@ -13,6 +13,32 @@ use Rattle.interrupts.specs.declared.InterruptRequest.{InterruptRequest}
 use Rattle.interrupts.specs.Request.{Format, compatibility, remappable, requestCheck}
 use Rattle.interrupts.specs.Irte.{Remapped, Irte, remaps, posts, irteCheck, faultProcessingDisabled}
 use Rattle.interrupts.specs.Descriptor.{Notice, descriptorCheck}
+
+-- what the table makes of a request: a fault with FPD as it was read by then, the remapped answer, or a post of a vector to the
+-- descriptor at an address
+pub data Delivery : Type 0 where
+  fault : (reason : ℕ) (fpd : Bool) → Delivery
+  remap : Remapped → Delivery
+  post : (descriptor vector : ℕ) → Notice → Delivery
+
+unfoldable pub descriptorRules : (eime fpd : Bool) (vector at : ℕ) → Rules Delivery
+descriptorRules eime fpd vector at =
+    fetch 8 at (fault 0x27 fpd)
+    (λ d. answer (onCheck (descriptorCheck eime d) (λ reason. fault reason fpd) (post at vector)))
+
+abbrev pub onIrte : (eime fpd : Bool) → Irte → Rules Delivery
+onIrte eime fpd (remaps r) = answer (remap r)
+onIrte eime fpd (posts vector descriptor) = descriptorRules eime fpd vector descriptor
+
+unfoldable pub entryRules : Registers → (source e : ℕ) → Rules Delivery
+entryRules registers source e =
+    onCheck (irteCheck registers source e) (λ reason. answer (fault reason (faultProcessingDisabled e)))
+    (onIrte (registers .eime) (faultProcessingDisabled e))
+
+unfoldable pub indexRules : Registers → (source index : ℕ) → Rules Delivery
+indexRules registers source index =
+    if leb (2 ^ (registers .s + 1)) index then answer (fault 0x21 false)
+    else fetch 2 (registers .«interrupt_table» + 16 * index) (fault 0x23 false) (entryRules registers source)
 
 pub data InterruptOutcome : Type 0 where
   -- the request goes on unchanged
@@ -23,41 +49,20 @@ pub data InterruptOutcome : Type 0 where
   blocked : FaultAnswer → InterruptOutcome
   refused : (number : ℕ) → InterruptOutcome
 
--- the request with this index, from this source
-module _ (registers : Registers) (source index : ℕ) where
-  abbrev pub blockedBy : (reason : ℕ) (fpd : Bool) → InterruptOutcome
-  blockedBy reason fpd = blocked (interruptFault reason fpd source index)
+abbrev pub delivered : (source index : ℕ) → Delivery → InterruptOutcome
+delivered source index (fault reason fpd) = blocked (interruptFault reason fpd source index)
+delivered source index (remap r) = remapped r
+delivered source index (post descriptor vector n) = posted descriptor vector n
 
-  unfoldable pub descriptorRules : (fpd : Bool) (vector at : ℕ) → Rules InterruptOutcome
-  descriptorRules fpd vector at =
-      fetch 8 at (blockedBy 0x27 fpd)
-      (λ d.
-      answer
-      (onCheck (descriptorCheck (registers .eime) d) (λ reason. blockedBy reason fpd) (posted at vector)))
-
-  abbrev pub onIrte : (fpd : Bool) → Irte → Rules InterruptOutcome
-  onIrte fpd (remaps r) = answer (remapped r)
-  onIrte fpd (posts vector descriptor) = descriptorRules fpd vector descriptor
-
-  unfoldable pub entryRules : (e : ℕ) → Rules InterruptOutcome
-  entryRules e =
-      onCheck (irteCheck registers source e) (λ reason. answer (blockedBy reason (faultProcessingDisabled e)))
-      (onIrte (faultProcessingDisabled e))
-
-  unfoldable pub indexRules : Rules InterruptOutcome
-  indexRules =
-      if leb (2 ^ (registers .s + 1)) index then answer (blockedBy 0x21 false)
-      else fetch 2 (registers .«interrupt_table» + 16 * index) (blockedBy 0x23 false) entryRules
-
--- a request of the old format, and a bad one, has no index
 abbrev pub onFormat : Registers → (source : ℕ) → Format → Rules InterruptOutcome
 onFormat registers source compatibility = answer passed
-onFormat registers source (remappable index) = indexRules registers source index
+onFormat registers source (remappable index) = mapRules (delivered source index) (indexRules registers source index)
 
+-- a request that its format's check stops has no index
 unfoldable pub requestRules : Registers → InterruptRequest → Rules InterruptOutcome
 requestRules registers request =
     onCheck (requestCheck registers (request .address) (request .«data»))
-    (λ reason. answer (blockedBy registers (request .source .id) 0 reason false))
+    (λ reason. answer (blocked (interruptFault reason false (request .source .id) 0)))
     (onFormat registers (request .source .id))
 
 unfoldable pub interruptRules : Registers → InterruptRequest → Rules InterruptOutcome

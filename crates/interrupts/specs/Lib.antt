@@ -1,3 +1,4 @@
+pub mod Answers
 pub mod Checked
 pub mod Descriptor
 pub mod Interrupts

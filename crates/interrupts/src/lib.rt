@@ -1,9 +1,11 @@
 ghost use mathlib.Core.Path.{_≡_};
 use registers::SourceId;
 
+mod answer;
 mod descriptor;
 mod fields;
 mod irte;
+mod remapping;
 mod request;
 mod source;
 

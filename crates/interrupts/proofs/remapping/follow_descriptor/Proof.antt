@@ -1,0 +1,67 @@
+use mathlib.Core.Path.{_≡_, ap, sym, _∙_}
+use Rattle.image.specs.Memory.{ofImage}
+use Rattle.image.specs.Entries.{fetched64}
+use Rattle.interrupts.specs.Checked.{descriptorChecked}
+use Rattle.interrupts.proofs.Stages.{no-descriptor, descriptor-checked}
+use borrow.Author.Needs.{needs}
+use Rattle.interrupts.proofs.remapping.follow_descriptor.Statement.{statement}
+use Rattle.interrupts.proofs.remapping.follow_descriptor.Tie as tie
+
+fetch64-requires : tie.Need-fetch64-requires
+fetch64-requires c κs = search needs
+
+enum-known-d : tie.Need-enum-known-d
+enum-known-d c = search needs
+
+enum-told : tie.Need-enum-told
+enum-told c = search needs
+
+returns : tie.Need-returns
+returns c =
+    let f = c .before .before in
+    let a = f .before .before .args in
+    no-descriptor (ofImage (a .image .now)) (a .eime) (a .fpd) (a .vector) (a .at)
+    (sym (f .fetch64 .ensures) ∙ ap fetched64 (c .enum-told .given .1))
+
+descriptor-check-requires : tie.Need-descriptor-check-requires
+descriptor-check-requires c κs = search needs
+
+enum-known-notice : tie.Need-enum-known-notice
+enum-known-notice c = search needs
+
+enum-told-2 : tie.Need-enum-told-2
+enum-told-2 c = search needs
+
+returns-2 : tie.Need-returns-2
+returns-2 c =
+    let k = c .before .before in
+    let found = k .before .before in
+    let f = found .before .before in
+    let a = f .before .before .args in
+    descriptor-checked (ofImage (a .image .now)) (a .eime) (a .fpd) (a .vector) (a .at)
+    (sym (f .fetch64 .ensures) ∙ ap fetched64 (found .d .given .1))
+    (sym (k .descriptor-check .ensures) ∙ ap descriptorChecked (c .enum-told2 .given .1))
+
+returns-3 : tie.Need-returns-3
+returns-3 c =
+    let k = c .before .before .before in
+    let found = k .before .before in
+    let f = found .before .before in
+    let a = f .before .before .args in
+    descriptor-checked (ofImage (a .image .now)) (a .eime) (a .fpd) (a .vector) (a .at)
+    (sym (f .fetch64 .ensures) ∙ ap fetched64 (found .d .given .1))
+    (sym (k .descriptor-check .ensures) ∙ ap descriptorChecked (c .before .notice .given .1))
+
+pub follow-descriptor-spec : {M : Type 1} → statement M
+follow-descriptor-spec =
+    tie.close
+    (tie.spec
+    fetch64-requires
+    enum-known-d
+    enum-told
+    returns
+    descriptor-check-requires
+    enum-known-notice
+    enum-told-2
+    returns-2
+    returns-3)

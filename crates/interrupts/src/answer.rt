@@ -1,0 +1,45 @@
+// What an interrupt request is answered.
+ghost use mathlib.Core.Path.{_≡_};
+ghost use Rattle.interrupts.specs.Answers.{deliveryOf, outcomeOf};
+ghost use Rattle.interrupts.specs.Interrupts.{delivered};
+use crate::descriptor::Notice;
+use crate::irte::Remapped;
+use faults::Fault;
+use faults::Reason;
+use faults::interrupt_fault;
+use registers::SourceId;
+
+// A vector posted to the descriptor at an address, and whether a notice is due.
+pub struct Posted {
+    pub descriptor: u64,
+    pub vector: u8,
+    pub notice: Notice,
+}
+
+// What the table makes of a request. A fault has FPD as it was read by then.
+pub enum Delivery {
+    Fault(Reason, bool),
+    Remap(Remapped),
+    Post(Posted),
+}
+
+pub enum InterruptAnswer {
+    // The request goes on unchanged.
+    Passed,
+    Remapped(Remapped),
+    Posted(Posted),
+    Blocked(Fault),
+    Refused(u8),
+}
+
+pub fn answer_of(source: SourceId, index: u32, delivery: Delivery) -> InterruptAnswer
+    ensures { λ r. ⌜ outcomeOf r ≡ delivered (source .id) index (deliveryOf delivery) ⌝ }
+{
+    match delivery {
+        Delivery::Fault(reason, fpd) => {
+            InterruptAnswer::Blocked(interrupt_fault(reason, fpd, source, index))
+        }
+        Delivery::Remap(remapped) => InterruptAnswer::Remapped(remapped),
+        Delivery::Post(posted) => InterruptAnswer::Posted(posted),
+    }
+}
