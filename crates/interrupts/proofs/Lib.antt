@@ -1,4 +1,7 @@
+pub mod Admissions
 pub mod Checks
+pub mod Inside
+pub mod Posts
 pub mod SourceId
 pub mod Stages
 pub mod Words

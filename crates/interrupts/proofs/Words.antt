@@ -1,23 +1,17 @@
 -- Fields of an entry by their bit numbers in the whole entry.
-use Prim.Native.Nat.{ℕ, suc, _+_, _-_, _*_, _/_, _^_, _≤_, _<_}
+use Prim.Native.Nat.{ℕ, _+_, _-_, _*_, _^_, _≤_, _<_}
 use mathlib.Core.Bool.{Bool, true, false, not, _||_}
 use mathlib.Core.List.{List, [], _∷_}
 use mathlib.Core.Path.{_≡_, refl, ap, sym, _∙_}
 use native.Mathlib.Omega.{arith}
 use borrow.Author.Tests.{eqb-true, eqb-false, eq-eqb, ne-eqb}
-use native.Mathlib.Nat.{mod-lt, add-comm, mul-comm}
+use native.Mathlib.Nat.{add-comm, mul-comm}
 use lib.Arith.{digits-lt}
-use lib.Pow.{pow-pos}
 use lib.Dec.{eqb}
 use Rattle.image.specs.Bits.{bits}
 use Rattle.image.specs.Entries.{spell}
 use Rattle.image.proofs.Fields.{whole, in-first, in-rest}
 use Rattle.image.proofs.Words.{spell-one}
-
--- a field of so many bits is below that power of two
-pub fits : (e high low : ℕ) → bits e high low < 2 ^ (suc high - low)
-unfolding bits
-fits e high low = mod-lt (e / 2 ^ low) (pow-pos (suc high - low))
 
 -- a field that lies above the lowest word
 pub from-64 : {w : ℕ} (ws : List ℕ) → w < 2 ^ 64 → (high low : ℕ) → 64 ≤ high → 64 ≤ low

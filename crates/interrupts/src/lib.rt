@@ -1,16 +1,88 @@
+// Interrupt requests: from a message to the remapped or posted interrupt or a fault.
 ghost use mathlib.Core.Path.{_≡_};
-use registers::SourceId;
+ghost use Prim.Native.Nat.{_^_, _<_};
+ghost use Rattle.image.specs.Memory.{ofImage};
+ghost use Rattle.image.specs.Rules.{run};
+ghost use Rattle.interrupts.specs.Answers.{outcomeOf};
+ghost use Rattle.interrupts.specs.Interrupts.{requestRules, interruptRules};
+ghost use Rattle.interrupts.specs.Post.{written};
 
 mod answer;
 mod descriptor;
 mod fields;
 mod irte;
+mod post;
 mod remapping;
 mod request;
 mod source;
 
+pub use answer::InterruptAnswer;
+pub use answer::Posted;
+use answer::answer_of;
+pub use descriptor::Notice;
+use faults::interrupt_fault;
+pub use irte::Remapped;
+use post::write_post;
+use registers::Admission;
+use registers::Registers;
+use registers::SourceId;
+use registers::admit;
+use registers::in_interrupt_range;
+use remapping::follow_index;
+use request::RequestCheck;
+use request::request_check;
+
+// A message: the address and data that a device wrote.
 pub struct InterruptRequest {
     pub source: SourceId,
     pub address: u64,
     pub data: u32,
+}
+
+// A request past the refusals and the switch.
+fn decide_taken(image: &[u8], registers: Registers, request: InterruptRequest) -> InterruptAnswer
+    requires { ⌜ registers .«interrupt_table» < 2 ^ 52 ⌝ }
+    ensures { λ r. ⌜ outcomeOf r ≡ run (requestRules registers request) (ofImage (now (image .entry))) ⌝ }
+{
+    match request_check(registers, request.address, request.data) {
+        RequestCheck::Compatibility => InterruptAnswer::Passed,
+        RequestCheck::Remappable(index) => {
+            let delivery = follow_index(image, registers, request.source, index);
+            answer_of(request.source, index, delivery)
+        }
+        RequestCheck::Fault(reason) => {
+            InterruptAnswer::Blocked(interrupt_fault(reason, false, request.source, 0))
+        }
+    }
+}
+
+// The answer, with nothing written.
+fn decide(image: &[u8], registers: Registers, request: InterruptRequest) -> InterruptAnswer
+    ensures { λ r. ⌜ outcomeOf r ≡ run (interruptRules registers request) (ofImage (now (image .entry))) ⌝ }
+{
+    match admit(
+        registers,
+        !in_interrupt_range(request.address),
+        registers.ire,
+    ) {
+        Admission::Refused(number) => InterruptAnswer::Refused(number),
+        Admission::Passed => InterruptAnswer::Passed,
+        Admission::Taken => decide_taken(image, registers, request),
+    }
+}
+
+// The answer to an interrupt request. A post sets its bits in the image; any other answer leaves every byte.
+pub fn interrupt_request(
+    registers: Registers,
+    image: &mut [u8],
+    request: InterruptRequest,
+) -> InterruptAnswer
+    ensures { λ r. ⌜ outcomeOf r ≡ run (interruptRules registers request) (ofImage (now (image .entry))) ⌝ }
+    ensures { λ r. ⌜ now (image .exit) ≡ written (run (interruptRules registers request) (ofImage (now (image .entry)))) (now (image .entry)) ⌝ }
+{
+    let answer = decide(image, registers, request);
+    if let InterruptAnswer::Posted(posted) = answer {
+        write_post(image, posted);
+    }
+    answer
 }

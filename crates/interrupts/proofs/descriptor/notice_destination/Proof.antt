@@ -1,6 +1,6 @@
 use Prim.Native.Nat.{_^_}
 use Rattle.image.specs.Entries.{number64}
-use Rattle.interrupts.proofs.Words.{fits}
+use Rattle.image.proofs.Fields.{fits}
 use native.Mathlib.Nat.{lt-of-lt-of-le}
 use lib.Dec.{lit≤}
 use borrow.Author.Needs.{needs}

@@ -1,5 +1,5 @@
 use Rattle.image.specs.Entries.{number64}
-use Rattle.interrupts.proofs.Words.{fits}
+use Rattle.image.proofs.Fields.{fits}
 use borrow.Author.Needs.{needs}
 use Rattle.interrupts.proofs.descriptor.notice_of.Statement.{statement}
 use Rattle.interrupts.proofs.descriptor.notice_of.Tie as tie

@@ -1,0 +1,56 @@
+-- An interrupt request by what becomes of it at admission, and then by its format.
+use Prim.Native.Nat.{ℕ, _^_, _<_}
+use mathlib.Core.Bool.{Bool, true, false, not}
+use mathlib.Core.Path.{_≡_, refl, sym}
+use native.Mathlib.Omega.{arith}
+use Rattle.image.specs.Check.{Check, onCheck}
+use Rattle.image.specs.Choice.{if_then_else_}
+use Rattle.image.specs.Memory.{Memory}
+use Rattle.image.specs.Rules.{answer, run}
+use Rattle.registers.specs.Admission.{Admitted, refusal, pass, take, admission, inInterruptRange}
+use Rattle.registers.specs.Registers.{badRegisters}
+use Rattle.registers.specs.declared.Registers.{Registers}
+use Rattle.registers.proofs.Good.{Good, good, below-most}
+use Rattle.faults.specs.Record.{interruptFault}
+use Rattle.interrupts.specs.Request.{Format, requestCheck}
+use Rattle.interrupts.specs.Interrupts.{passed, blocked, refused, onFormat, requestRules, interruptRules}
+use Rattle.interrupts.specs.declared.InterruptRequest.{InterruptRequest}
+
+-- registers under which a request is taken up are good
+pub taken-good : (registers : Registers) (wrong on : Bool) → take ≡ admission registers wrong on → Good registers
+unfolding admission
+taken-good registers wrong on h = go (badRegisters registers) refl h
+  where
+    go : (t : Bool) → badRegisters registers ≡ t
+        → take ≡ (if t then refusal 1 else if wrong then refusal 2 else if on then take else pass) → Good registers
+    go true e h = let z : _≡_ {A = ℕ} 0 1 = cc in absurd (omega arith)
+    go false e h = good registers e
+
+-- so that no address of an entry wraps
+pub table-below : (registers : Registers) (wrong on : Bool) → take ≡ admission registers wrong on
+    → registers .«interrupt_table» < 2 ^ 52
+table-below registers wrong on h =
+    let g = taken-good registers wrong on h in
+    below-most g (g .interrupt .below)
+
+module _ (registers : Registers) (request : InterruptRequest) (m : Memory) where
+  module _ {inside : Bool} (kind : inside ≡ inInterruptRange (request .address)) where
+    pub refuses : {n : ℕ} → refusal n ≡ admission registers (not inside) (registers .ire)
+        → refused n ≡ run (interruptRules registers request) m
+    unfolding interruptRules run
+    refuses h = rw (← kind, ← h)
+
+    pub passes : pass ≡ admission registers (not inside) (registers .ire) → passed ≡ run (interruptRules registers request) m
+    unfolding interruptRules run
+    passes h = rw (← kind, ← h)
+
+    pub takes : take ≡ admission registers (not inside) (registers .ire)
+        → run (requestRules registers request) m ≡ run (interruptRules registers request) m
+    unfolding interruptRules
+    takes h = rw (← kind, ← h)
+
+  pub formatted : {k : Check Format} → k ≡ requestCheck registers (request .address) (request .«data»)
+      → run (onCheck k (λ reason. answer (blocked (interruptFault reason false (request .source .id) 0))) (onFormat registers (request .source .id))) m
+      ≡ run (requestRules registers request) m
+  unfolding requestRules
+  formatted h = rw (← h)

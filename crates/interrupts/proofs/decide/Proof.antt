@@ -1,0 +1,63 @@
+use mathlib.Core.Path.{_≡_, ap, sym, _∙_}
+use Rattle.image.specs.Memory.{ofImage}
+use Rattle.registers.specs.Admitted.{admittedOf}
+use Rattle.interrupts.proofs.Admissions.{table-below, refuses, passes, takes}
+use borrow.Author.Needs.{needs}
+use Rattle.interrupts.proofs.decide.Statement.{statement}
+use Rattle.interrupts.proofs.decide.Tie as tie
+
+in-interrupt-range-requires : tie.Need-in-interrupt-range-requires
+in-interrupt-range-requires c κs = search needs
+
+admit-requires : tie.Need-admit-requires
+admit-requires c κs = search needs
+
+enum-known-number : tie.Need-enum-known-number
+enum-known-number c = search needs
+
+enum-told : tie.Need-enum-told
+enum-told c = search needs
+
+enum-told-2 : tie.Need-enum-told-2
+enum-told-2 c = search needs
+
+decide-taken-requires : tie.Need-decide-taken-requires
+decide-taken-requires c κs =
+    let k = c .before .before in
+    table-below (k .before .before .before .args .registers) _ _ (sym (ap admittedOf (c .enum-told2 .given .1)) ∙ k .admit .ensures)
+
+returns : tie.Need-returns
+returns c =
+    let k = c .before .before .before in
+    let a = k .before .before .before .args in
+    refuses (a .registers) (a .request) (ofImage (a .image .now)) (k .before .in-interrupt-range .ensures)
+    (sym (ap admittedOf (c .before .number .given .1)) ∙ k .admit .ensures)
+
+returns-2 : tie.Need-returns-2
+returns-2 c =
+    let k = c .before .before in
+    let a = k .before .before .before .args in
+    passes (a .registers) (a .request) (ofImage (a .image .now)) (k .before .in-interrupt-range .ensures)
+    (sym (ap admittedOf (c .enum-told .given .1)) ∙ k .admit .ensures)
+
+returns-3 : tie.Need-returns-3
+returns-3 c =
+    let k = c .before .before .before in
+    let a = k .before .before .before .args in
+    c .decide-taken .ensures
+    ∙ takes (a .registers) (a .request) (ofImage (a .image .now)) (k .before .in-interrupt-range .ensures)
+    (sym (ap admittedOf (c .before .enum-told2 .given .1)) ∙ k .admit .ensures)
+
+pub decide-spec : {M : Type 1} → statement M
+decide-spec =
+    tie.close
+    (tie.spec
+    in-interrupt-range-requires
+    admit-requires
+    enum-known-number
+    enum-told
+    enum-told-2
+    decide-taken-requires
+    returns
+    returns-2
+    returns-3)
