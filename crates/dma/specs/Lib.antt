@@ -1,6 +1,7 @@
 pub mod Answers
 pub mod Checked
 pub mod Context
+pub mod Isolation
 pub mod Page
 pub mod Requests
 pub mod Root

@@ -1,0 +1,34 @@
+-- What holds of every way through a part of the rules, whatever property of rules it is.
+use Prim.Native.Nat.{ℕ, _+_, _*_, _^_, min}
+use mathlib.Core.Bool.{Bool, true, false}
+use mathlib.Core.Path.{_≡_, refl}
+use lib.Dec.{eqb, leb}
+use Rattle.image.specs.Check.{Check, stop, go, onCheck}
+use Rattle.image.specs.Choice.{if_then_else_}
+use Rattle.image.specs.Rules.{Rules, answer}
+use Rattle.registers.specs.declared.Registers.{Registers}
+use Rattle.dma.specs.Context.{levelsOf, translationType, faultProcessingDisabled}
+use Rattle.dma.specs.Translation.{Translation, at, fault, pageRules, widthRules}
+
+either : {A : Type 0} (P : Rules A → Type 0) (t : Bool) (a b : Rules A) → P a → P b → P (if t then a else b)
+either P true a b x y = x
+either P false a b x y = y
+
+-- an entry's check stops with an answer, or goes on
+pub check-cases : {A B : Type 0} (P : Rules B → Type 0) (k : Check A) (stopped : ℕ → B) (next : A → Rules B)
+    → ((b : B) → P (answer b)) → ((a : A) → k ≡ go a → P (next a)) → P (onCheck k (λ reason. answer (stopped reason)) next)
+check-cases P (stop reason) stopped next ended gone = ended (stopped reason)
+check-cases P (go a) stopped next ended gone = gone a refl
+
+-- the width and pass-through answer, or the walk follows
+pub width-cases : (P : Rules Translation → Type 0) (registers : Registers) (address : ℕ) (write : Bool) (e table : ℕ)
+    → ((t : Translation) → P (answer t))
+    → P (pageRules registers address write (faultProcessingDisabled e) (levelsOf e) table)
+    → P (widthRules registers address write e table)
+unfolding widthRules
+width-cases P registers address write e table ended walks =
+    let walk = pageRules registers address write (faultProcessingDisabled e) (levelsOf e) table in
+    let over = fault 0x04 (faultProcessingDisabled e) in
+    either P (leb (2 ^ min (registers .mgaw) (12 + 9 * levelsOf e)) address) (answer over)
+    (if eqb (translationType e) 2 then answer (at address) else walk) (ended over)
+    (either P (eqb (translationType e) 2) (answer (at address)) walk (ended (at address)) walks)
