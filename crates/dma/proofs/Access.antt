@@ -46,17 +46,21 @@ module _ (registers : Registers) (request : MemoryRequest) where
 
   outside-context : (table : ℕ) → Outside Access (contextRules registers (request .address) (request .write) (request .source .id) table)
   unfolding contextRules Outside memoryFault
-  outside-context table =
-      (refl, λ e.
+  outside-context table = (
+    refl,
+    λ e.
         check-cases (Outside Access) (contextCheck registers e) (λ reason. fault reason (faultProcessingDisabled e))
-        (widthRules registers (request .address) (request .write) e) (λ t. tt) (λ a _. outside-width e a))
+        (widthRules registers (request .address) (request .write) e) (λ t. tt) (λ a _. outside-width e a),
+  )
 
   outside-root : Outside Access (rootRules registers (request .address) (request .write) (request .source .id))
   unfolding rootRules Outside memoryFault
-  outside-root =
-      (refl, λ e.
+  outside-root = (
+    refl,
+    λ e.
         check-cases (Outside Access) (rootCheck (registers .haw) e) (λ reason. fault reason false)
-        (contextRules registers (request .address) (request .write) (request .source .id)) (λ t. tt) (λ a _. outside-context a))
+        (contextRules registers (request .address) (request .write) (request .source .id)) (λ t. tt) (λ a _. outside-context a),
+  )
 
   pub outside-memory : Outside (λ o. accessFault o ≡ true) (memoryRules registers request)
   unfolding memoryRules Outside

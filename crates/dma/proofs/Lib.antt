@@ -1,8 +1,12 @@
 pub mod Access
 pub mod Address
 pub mod Admissions
+pub mod Aligned
 pub mod Cases
+pub mod Raised
 pub mod Reserved
+pub mod Rights
 pub mod Stages
 pub mod Stepped
 pub mod Steps
+pub mod Tables

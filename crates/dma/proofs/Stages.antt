@@ -8,7 +8,7 @@ use native.Mathlib.Omega.{arith}
 use borrow.Author.Tests.{eqb-true}
 use lib.Dec.{eqb}
 use lib.ListN.{take, drop}
-use Rattle.image.specs.Bits.{bits, bit}
+use Rattle.image.specs.Bits.{bits, bit, inPlace}
 use Rattle.image.specs.Check.{Check, stop, go, onCheck}
 use Rattle.image.specs.Choice.{if_then_else_, _or_}
 use Rattle.image.specs.Memory.{Memory, Fetched, missing, found, ofImage, entry}
@@ -47,15 +47,19 @@ module _ (m : Memory) (place : ℕ) (none : Translation) (fpd : ℕ → Bool) (c
     unfolding run
     passed {a} told = rw (← h) (sym (ap (λ (k : Check ℕ). run (onCheck k (λ r. answer (fault r (fpd e))) (next e)) m) told))
 
--- a context entry that its check lets pass has a supported width, so three to five levels
-pub valid : (registers : Registers) (e : ℕ) {a : ℕ} → contextCheck registers e ≡ go a → contextInvalid registers e ≡ false
+-- a context entry that its check lets pass is past 03h, and leads to the table in its bits 63:12
+pub valid : (registers : Registers) (e : ℕ) {a : ℕ} → contextCheck registers e ≡ go a
+    → (contextInvalid registers e ≡ false) × (go (inPlace e 63 12) ≡ go a)
 unfolding contextCheck
-valid registers e {a} h = on (contextInvalid registers e) (past (contextReserved (registers .haw) e) 0x0B _ a (past (not (bit e 0)) 0x02 _ a h))
-  where
-    on : (t : Bool) → (if t then stop 0x03 else go (bits e 63 12 * 4096)) ≡ go a → t ≡ false
-    on true h = let z : _≡_ {A = ℕ} 0 1 = cc in absurd (omega arith)
-    on false h = refl
+valid registers e {a} h =
+    let h1 = past (not (bit e 0)) 0x02 _ a h in
+    let h2 = past (contextReserved (registers .haw) e) 0x0B _ a (h1 .1) in
+    past (contextInvalid registers e) 0x03 _ a (h2 .1)
 
+pub context-table : (registers : Registers) (e : ℕ) {a : ℕ} → contextCheck registers e ≡ go a → a ≡ inPlace e 63 12
+context-table registers e h = let leads = valid registers e h .1 in cc
+
+-- so it has three to five levels
 pub three-to-five : (registers : Registers) (e : ℕ) → contextInvalid registers e ≡ false → levelsOf e ≤ 5
 unfolding contextInvalid
 three-to-five registers e h = one (eqb (addressWidth e) 1) refl h

@@ -89,24 +89,29 @@ arrived registers address write fpd m level frame none =
     (ap (λ (l : ℕ). run (pageRules registers address write fpd l frame) m) none
     ∙ walk-arrived address (fault 0x07 fpd) (pageStep registers address write fpd) (λ frame. at (hostAddress 1 frame address)) m frame)
 
+-- a level that leads on leads to its entry's frame
+pub leads : (registers : Registers) (address : ℕ) (write fpd : Bool) (level e : ℕ) {next : ℕ}
+    → down next ≡ pageStep registers address write fpd level e → pageCheck registers write level e ≡ go next
+leads registers address write fpd level e {next} = on (pageCheck registers write level e)
+  where
+    by-size : (large : Bool) (frame : ℕ) → down next ≡ (if large then done (at (hostAddress level frame address)) else down frame) → frame ≡ next
+    by-size true frame h = let z : _≡_ {A = ℕ} 0 1 = cc in absurd (omega arith)
+    by-size false frame h = cc
+
+    on : (k : Check ℕ)
+        → down next
+        ≡ onCheck k (λ r. done (fault r fpd))
+        (λ frame. if largePage level e then done (at (hostAddress level frame address)) else down frame)
+        → k ≡ go next
+    on (stop r) h = let z : _≡_ {A = ℕ} 0 1 = cc in absurd (omega arith)
+    on (go frame) h = ap go (by-size (largePage level e) frame h)
+
 -- a table that a level leads to is below 2^52
 pub down-lt : (registers : Registers) (address : ℕ) (write fpd : Bool) (m : Memory) (n table : ℕ) {next : ℕ}
     → down next ≡ pageOver registers address write fpd m n table → next < 2 ^ 52
 unfolding stepOver
 down-lt registers address write fpd m n table {next} = on (entry 1 m (placeIn address table n))
   where
-    inner : (e : ℕ) (k : Check ℕ) → pageCheck registers write (suc n) e ≡ k
-        → down next
-        ≡ onCheck k (λ r. done (fault r fpd))
-        (λ frame. if largePage (suc n) e then done (at (hostAddress (suc n) frame address)) else down frame)
-        → next < 2 ^ 52
-    inner e (stop r) told h = let z : _≡_ {A = ℕ} 0 1 = cc in absurd (omega arith)
-    inner e (go frame) told h = by-size (largePage (suc n) e) h
-      where
-        by-size : (large : Bool) → down next ≡ (if large then done (at (hostAddress (suc n) frame address)) else down frame) → next < 2 ^ 52
-        by-size true h = let z : _≡_ {A = ℕ} 0 1 = cc in absurd (omega arith)
-        by-size false h = let same : next ≡ frame = cc in rw same (page-frame-lt registers write (suc n) e frame told)
-
     on : (f : Fetched) → down next ≡ onFetch f (done (fault 0x07 fpd)) (pageStep registers address write fpd (suc n)) → next < 2 ^ 52
     on missing h = let z : _≡_ {A = ℕ} 0 1 = cc in absurd (omega arith)
-    on (found e) h = inner e (pageCheck registers write (suc n) e) refl h
+    on (found e) h = page-frame-lt registers write (suc n) e next (leads registers address write fpd (suc n) e h)

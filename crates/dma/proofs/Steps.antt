@@ -53,17 +53,20 @@ module _ {A : Type 0} (address : ℕ) (none : A) (step : (level e : ℕ) → Ste
   unfolding run walkRules
   walk-arrived frame = refl
 
-pub past : {A : Type 0} (t : Bool) (reason : ℕ) (rest : Check A) (a : A) → (if t then stop reason else rest) ≡ go a → rest ≡ go a
+-- a check that goes on is past each test that would stop it
+pub past : {A : Type 0} (t : Bool) (reason : ℕ) (rest : Check A) (a : A) → (if t then stop reason else rest) ≡ go a
+    → (t ≡ false) × (rest ≡ go a)
 past true reason rest a h = let z : _≡_ {A = ℕ} 0 1 = cc in absurd (omega arith)
-past false reason rest a h = h
+past false reason rest a h = (refl, h)
 
 -- a page entry that goes on goes on with its bits 51:12
 pub page-frame : (registers : Registers) (write : Bool) (level e frame : ℕ) → pageCheck registers write level e ≡ go frame → frame ≡ inPlace e 51 12
 unfolding pageCheck
 page-frame registers write level e frame h =
     let h1 = past (not (anySet e 1 0)) (denied write) _ frame h in
-    let h2 = past (reserved registers level e) 0x0C _ frame h1 in
-    let h3 = past (not (ownRight write e)) (denied write) _ frame h2 in
+    let h2 = past (reserved registers level e) 0x0C _ frame (h1 .1) in
+    let h3 = past (not (ownRight write e)) (denied write) _ frame (h2 .1) in
+    let last = h3 .1 in
     cc
 
 pub page-frame-lt : (registers : Registers) (write : Bool) (level e frame : ℕ) → pageCheck registers write level e ≡ go frame → frame < 2 ^ 52

@@ -3,6 +3,7 @@ use Prim.Native.Nat.{ℕ}
 use mathlib.Core.Path.{_≡_, refl, ap, sym, _∙_}
 use mathlib.Core.Bool.{Bool, true, false}
 use mathlib.Core.List.{List, [], _∷_, _++_}
+use lib.Dec.{eqb}
 use Rattle.image.specs.Choice.{if_then_else_}
 use Rattle.image.specs.Memory.{Memory, Fetched, missing, found, entry, onFetch}
 use Rattle.image.specs.Rules.{Rules, answer, fetch, run, named, entriesOf, Complete, Outside, mapRules, wordsFrom}
@@ -61,3 +62,15 @@ module _ {A : Type 0} (Kind : A → Type 0) where
   pub outside-if : (t : Bool) (p q : Rules A) → Outside Kind p → Outside Kind q → Outside Kind (if t then p else q)
   outside-if true p q x y = x
   outside-if false p q x y = y
+
+-- the entries that a request read don't depend on how its answers are told
+pub entries-map : {A B : Type 0} (f : A → B) (size : ℕ) (q : Rules A) (m : Memory) → entriesOf size (mapRules f q) m ≡ entriesOf size q m
+unfolding entriesOf mapRules
+entries-map f size (answer a) m = refl
+entries-map f size (fetch words at outside next) m = go (entry words m at) (λ e. entries-map f size (next e) m)
+  where
+    go : (x : Fetched) → ((e : ℕ) → entriesOf size (mapRules f (next e)) m ≡ entriesOf size (next e) m)
+        → onFetch x [] (λ e. (if eqb words size then at ∷ [] else []) ++ entriesOf size (mapRules f (next e)) m)
+        ≡ onFetch x [] (λ e. (if eqb words size then at ∷ [] else []) ++ entriesOf size (next e) m)
+    go missing ih = refl
+    go (found e) ih = ap (λ (l : List ℕ). (if eqb words size then at ∷ [] else []) ++ l) (ih e)

@@ -70,3 +70,7 @@ module _ (image : List ℕ) where
 pub spell-one : (w : ℕ) → spell (w ∷ []) ≡ w
 unfolding spell
 spell-one w = simp (mul-zero, add-zero)
+
+pub word-inside : (image : List ℕ) (at : ℕ) → at + 8 ≤ length image → entry 1 (ofImage image) at ≡ found (wordAt image at)
+unfolding wordsIn
+word-inside image at h = inside image 1 at (omega arith) ∙ ap found (spell-one (wordAt image at))

@@ -75,7 +75,7 @@ returns-2 c =
     stopped (ofImage (a .image .now)) (a .table + 16 * devfnOf (a .request .source .id)) (fault 0x09 false) faultProcessingDisabled (contextCheck (a .registers)) (λ e. widthRules (a .registers) (a .request .address) (a .request .write) e) (found-at (c .before .before .before)) (c .before .before .context-check .ensures) (ap translationOf (c .enum-told2 .given .1))
 
 translate-width-requires : tie.Need-translate-width-requires
-translate-width-requires c κs = valid _ _ (went (c .before))
+translate-width-requires c κs = valid _ _ (went (c .before)) .0
 
 returns-3 : tie.Need-returns-3
 unfolding contextRules
