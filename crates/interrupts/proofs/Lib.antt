@@ -1,5 +1,6 @@
 pub mod Admissions
 pub mod Checks
+pub mod Exact
 pub mod Inside
 pub mod Posts
 pub mod SourceId

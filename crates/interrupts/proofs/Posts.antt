@@ -21,7 +21,7 @@ use Rattle.interrupts.specs.declared.answer.InterruptAnswer.the-variants
 use Rattle.interrupts.proofs.answer.InterruptAnswer as declared
 
 -- one bit is below 2
-one-bit : (byte place : ℕ) → bits byte place place ≡ byte / 2 ^ place % 2
+pub one-bit : (byte place : ℕ) → bits byte place place ≡ byte / 2 ^ place % 2
 unfolding bits
 one-bit byte place = let width : suc place - place ≡ 1 = omega arith in rw width
 
@@ -33,7 +33,7 @@ module _ (byte place : ℕ) where
       let mask : 2 ^ (1 + place) - 2 ^ place ≡ 2 ^ place = omega arith in
       ap (bitAnd byte) (sym mask) ∙ and-high byte 1 place ∙ ap (λ (n : ℕ). n * 2 ^ place) (sym (one-bit byte place))
 
-  or-power : bitOr byte (2 ^ place) ≡ withBit place byte
+  pub or-power : bitOr byte (2 ^ place) ≡ withBit place byte
   or-power = go (eqb (bits byte place place) 1) refl
     where
       go : (t : Bool) → bit byte place ≡ t → bitOr byte (2 ^ place) ≡ (if t then byte else byte + 2 ^ place)

@@ -1,0 +1,98 @@
+-- What holds of every interrupt request, whatever the registers, the request and the image. Each claim is proved under its name
+-- in proofs/: Exact, Named, Isolation.
+use Prim.Native.Nat.{ℕ, _+_, _*_, _/_, _%_, _^_, _≤_, _<_}
+use mathlib.Core.Bool.{Bool, true, false, _&&_, _||_}
+use mathlib.Core.List.{List, [], _∷_}
+use mathlib.Core.Logic.{_⊎_}
+use mathlib.Core.Path.{_≡_}
+use lib.Dec.{eqb}
+use lib.ListN.{length, getD}
+use Rattle.image.specs.Alike.{SameWords}
+use Rattle.image.specs.Bits.{bits, bit}
+use Rattle.image.specs.Choice.{if_then_else_}
+use Rattle.image.specs.Memory.{Memory, ofImage}
+use Rattle.image.specs.Rules.{run, named}
+use Rattle.registers.specs.declared.Registers.{Registers}
+use Rattle.interrupts.specs.Descriptor.{Notice, silent, notice}
+use Rattle.interrupts.specs.Interrupts.{InterruptOutcome, passed, remapped, posted, blocked, refused, interruptRules}
+use Rattle.interrupts.specs.Post.{written}
+use Rattle.interrupts.specs.Request.{handleOf}
+use Rattle.interrupts.specs.declared.InterruptRequest.{InterruptRequest}
+
+abbrev pub outcome : Registers → InterruptRequest → (image : List ℕ) → InterruptOutcome
+outcome registers request image = run (interruptRules registers request) (ofImage image)
+
+abbrev pub namedWords : Registers → InterruptRequest → (image : List ℕ) → List ℕ
+namedWords registers request image = named (interruptRules registers request) (ofImage image)
+
+-- bit n of a run of bytes: bit n % 8 of byte n / 8
+abbrev pub bitAt : List ℕ → ℕ → Bool
+bitAt image n = bit (getD image (n / 8) 0) (n % 8)
+
+abbrev pub due : Notice → Bool
+due silent = false
+due (notice vector destination) = true
+
+-- whether an outcome sets a bit of the image: a post sets the vector's request bit and, exactly with a notice, ON
+abbrev pub sets : InterruptOutcome → (n : ℕ) → Bool
+sets (posted descriptor vector m) n = eqb n (8 * descriptor + vector) || due m && eqb n (8 * descriptor + 256)
+sets passed n = false
+sets (remapped r) n = false
+sets (blocked f) n = false
+sets (refused number) n = false
+
+-- every bit of the image is as it came, or set by the post, wherever the descriptor lies; so an answer that is no post leaves all
+abbrev pub SetsExactly : Type 0
+SetsExactly = (registers : Registers) (request : InterruptRequest) (image : List ℕ) (n : ℕ) →
+    bitAt (written (outcome registers request image) image) n ≡ (bitAt image n || sets (outcome registers request image) n)
+
+-- the image keeps its length, and the bits that a post sets lie in it
+abbrev pub StaysInside : Type 0
+StaysInside = (registers : Registers) (request : InterruptRequest) (image : List ℕ) →
+    (length (written (outcome registers request image) image) ≡ length image)
+    × ((n : ℕ) → sets (outcome registers request image) n ≡ true → n < 8 * length image)
+
+-- the index as the whole number that it is: with SHV the handle plus data 15:0, else the handle
+abbrev pub wholeIndex : InterruptRequest → ℕ
+wholeIndex request =
+    handleOf (request .address) + (if bit (request .address) 3 then bits (request .«data») 15 0 else 0)
+
+-- two requests that read the same entry have the same whole index: no sum wraps onto another's entry
+abbrev pub NoWrap : Type 0
+NoWrap = (registers : Registers) (request request′ : InterruptRequest) (image image′ : List ℕ) (at : ℕ) (rest rest′ : List ℕ) →
+    namedWords registers request image ≡ at ∷ rest → namedWords registers request′ image′ ≡ at ∷ rest′ →
+    wholeIndex request ≡ wholeIndex request′
+
+abbrev pub AtMostTen : Type 0
+AtMostTen = (registers : Registers) (request : InterruptRequest) (image : List ℕ) →
+    length (namedWords registers request image) ≤ 10
+
+-- refused, passed, or blocked by 20h, 21h or 25h
+abbrev pub beforeTable : InterruptOutcome → Bool
+beforeTable passed = true
+beforeTable (remapped r) = false
+beforeTable (posted descriptor vector n) = false
+beforeTable (blocked f) = eqb (f .reason) 0x20 || eqb (f .reason) 0x21 || eqb (f .reason) 0x25
+beforeTable (refused number) = true
+
+-- an answer given before the table names no word
+abbrev pub NoneBeforeTable : Type 0
+NoneBeforeTable = (registers : Registers) (request : InterruptRequest) (image : List ℕ) →
+    beforeTable (outcome registers request image) ≡ true → namedWords registers request image ≡ []
+
+-- an access fault: 23h or 27h
+abbrev pub AccessFault : InterruptOutcome → Type 0
+AccessFault (blocked f) = (f .reason ≡ 0x23) ⊎ (f .reason ≡ 0x27)
+AccessFault passed = ⊥
+AccessFault (remapped r) = ⊥
+AccessFault (posted descriptor vector n) = ⊥
+AccessFault (refused number) = ⊥
+
+-- the customer's demand 3 for interrupts: over an image alike in the named words the same answer, and so the same bits are set
+abbrev pub Isolated : Type 0
+Isolated = (registers : Registers) (request : InterruptRequest) (image image′ : List ℕ) →
+    (AccessFault (outcome registers request image) → ⊥) →
+    SameWords image image′ (namedWords registers request image) →
+    (outcome registers request image ≡ outcome registers request image′)
+    × ((n : ℕ) → bitAt (written (outcome registers request image′) image′) n
+    ≡ (bitAt image′ n || sets (outcome registers request image) n))
