@@ -1,7 +1,10 @@
 pub mod Admissions
 pub mod Checks
 pub mod Exact
+pub mod Injective
 pub mod Inside
+pub mod Isolation
+pub mod Named
 pub mod Posts
 pub mod SourceId
 pub mod Stages

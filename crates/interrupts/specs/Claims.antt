@@ -57,6 +57,9 @@ abbrev pub wholeIndex : InterruptRequest → ℕ
 wholeIndex request =
     handleOf (request .address) + (if bit (request .address) 3 then bits (request .«data») 15 0 else 0)
 
+abbrev pub IndexBound : Type 0
+IndexBound = (request : InterruptRequest) → wholeIndex request ≤ 131070
+
 -- two requests that read the same entry have the same whole index: no sum wraps onto another's entry
 abbrev pub NoWrap : Type 0
 NoWrap = (registers : Registers) (request request′ : InterruptRequest) (image image′ : List ℕ) (at : ℕ) (rest rest′ : List ℕ) →

@@ -1,0 +1,74 @@
+-- No two answers of the code stand for the same outcome.
+use Prim.Native.Nat.{ℕ, _^_, _<_}
+use mathlib.Core.Path.{_≡_, refl, ap, sym, _∙_}
+use native.Mathlib.Omega.{arith}
+use Rattle.faults.specs.Fault.{faultOf}
+use Rattle.faults.specs.declared.fault.Fault.{Fault}
+use Rattle.faults.proofs.Record.{faultOf-injective}
+use Rattle.interrupts.specs.Answers.{outcomeOf}
+use Rattle.interrupts.specs.Checked.{dueOf}
+use Rattle.interrupts.specs.Descriptor as descriptor
+use Rattle.interrupts.specs.Interrupts as rules
+use Rattle.interrupts.specs.declared.answer.InterruptAnswer.{InterruptAnswer}
+use Rattle.interrupts.specs.declared.answer.InterruptAnswer.the-variants.{Passed, Remapped, Posted, Blocked, Refused}
+use Rattle.interrupts.specs.declared.answer.Posted as post
+use Rattle.interrupts.specs.declared.descriptor.Notice.{Notice}
+use Rattle.interrupts.specs.declared.descriptor.Notice.the-variants.{Silent, Due}
+
+-- a fault's words are words
+abbrev pub Sized : InterruptAnswer → Type 0
+Sized (Blocked f) = f .low < 2 ^ 64
+Sized Passed = Unit {0}
+Sized (Remapped r) = Unit {0}
+Sized (Posted p) = Unit {0}
+Sized (Refused n) = Unit {0}
+
+abbrev noticeBack : descriptor.Notice → Notice
+noticeBack descriptor.silent = Silent
+noticeBack (descriptor.notice vector destination) = Due vector destination
+
+notice-back : (n : Notice) → noticeBack (dueOf n) ≡ n
+notice-back Silent = refl
+notice-back (Due vector destination) = refl
+
+-- the answer of an outcome; for a fault, this one
+abbrev answerBack : InterruptAnswer → rules.InterruptOutcome → InterruptAnswer
+answerBack fault rules.passed = Passed
+answerBack fault (rules.remapped r) =
+    Remapped
+    (record {
+      «destination_mode» = r .destinationMode;
+      «redirection_hint» = r .redirectionHint;
+      trigger = r .trigger;
+      delivery = r .delivery;
+      vector = r .vector;
+      destination = r .destination;
+    })
+answerBack fault (rules.posted at vector n) = Posted (record { descriptor = at; vector = vector; notice = noticeBack n })
+answerBack fault (rules.blocked f) = fault
+answerBack fault (rules.refused number) = Refused number
+
+post-back : (fault : InterruptAnswer) (p : post.Posted) → answerBack fault (outcomeOf (Posted p)) ≡ Posted p
+post-back fault p =
+    ap (λ (n : Notice). Posted (record { descriptor = p .descriptor; vector = p .vector; notice = n })) (notice-back (p .notice))
+
+back : (r : InterruptAnswer) → answerBack r (outcomeOf r) ≡ r
+back Passed = refl
+back (Remapped r) = refl
+back (Posted p) = post-back (Posted p) p
+back (Blocked f) = refl
+back (Refused n) = refl
+
+same-fault : (r : InterruptAnswer) (g : Fault) → Sized r → g .low < 2 ^ 64 → outcomeOf r ≡ rules.blocked (faultOf g) → r ≡ Blocked g
+same-fault (Blocked f) g sf sg e = ap Blocked (faultOf-injective f g sf sg cc)
+same-fault Passed g sf sg e = let z : _≡_ {A = ℕ} 0 1 = cc in absurd (omega arith)
+same-fault (Remapped r) g sf sg e = let z : _≡_ {A = ℕ} 0 1 = cc in absurd (omega arith)
+same-fault (Posted p) g sf sg e = let z : _≡_ {A = ℕ} 0 1 = cc in absurd (omega arith)
+same-fault (Refused n) g sf sg e = let z : _≡_ {A = ℕ} 0 1 = cc in absurd (omega arith)
+
+pub outcomeOf-injective : (r s : InterruptAnswer) → Sized r → Sized s → outcomeOf r ≡ outcomeOf s → r ≡ s
+outcomeOf-injective r (Blocked g) sr ss e = same-fault r g sr ss e
+outcomeOf-injective r Passed sr ss e = sym (back r) ∙ ap (answerBack r) e
+outcomeOf-injective r (Remapped x) sr ss e = sym (back r) ∙ ap (answerBack r) e
+outcomeOf-injective r (Posted p) sr ss e = sym (back r) ∙ ap (answerBack r) e ∙ post-back r p
+outcomeOf-injective r (Refused n) sr ss e = sym (back r) ∙ ap (answerBack r) e

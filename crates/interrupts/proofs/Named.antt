@@ -1,0 +1,203 @@
+-- The named words of a request: none, its entry's two, or these and a descriptor's eight.
+use Prim.Native.Nat.{ℕ, _+_, _*_, _^_, _≤_, _<_}
+use mathlib.Core.Bool.{Bool, true, false, not, _||_}
+use mathlib.Core.List.{List, [], _∷_, _++_}
+use mathlib.Core.Path.{_≡_, refl, ap, sym, _∙_}
+use native.Mathlib.Nat.{add-zero}
+use native.Mathlib.Omega.{arith}
+use borrow.Author.Tests.{not-true, not-false}
+use lib.Dec.{eqb, leb, lit≤}
+use lib.ListN.{length}
+use Rattle.image.specs.Bits.{bit, bits, anySet}
+use Rattle.image.specs.Check.{Check, stop, go, onCheck}
+use Rattle.image.specs.Choice.{if_then_else_}
+use Rattle.image.specs.Memory.{Memory, Fetched, missing, found, onFetch, entry, ofImage}
+use Rattle.image.specs.Rules.{Rules, answer, fetch, run, named, wordsFrom}
+use Rattle.image.proofs.Fields.{fits}
+use Rattle.image.proofs.Trees.{run-map, named-map}
+use Rattle.registers.specs.Admission.{Admitted, refusal, pass, take, admission, onAdmission, inInterruptRange}
+use Rattle.registers.specs.declared.Registers.{Registers}
+use Rattle.faults.specs.Record.{interruptFault}
+use Rattle.interrupts.specs.Claims.{wholeIndex, beforeTable, IndexBound, NoWrap, AtMostTen, NoneBeforeTable}
+use Rattle.interrupts.specs.Descriptor.{Notice, reservedDescriptor, noticeOf, descriptorCheck}
+use Rattle.interrupts.specs.Interrupts.{Delivery, fault, remap, post, onIrte, descriptorRules, entryRules, indexRules, InterruptOutcome, passed, refused, blocked, delivered, onFormat, requestRules, interruptRules}
+use Rattle.interrupts.specs.Irte.{Irte, remaps, posts, reservedIrte, irteOf, irteCheck, faultProcessingDisabled}
+use Rattle.interrupts.specs.Request.{Format, compatibility, remappable, handleOf, requestCheck}
+use Rattle.interrupts.specs.Source.{sourceAllowed}
+use Rattle.interrupts.specs.declared.InterruptRequest.{InterruptRequest}
+
+-- what follows the entry's words, and the words of a request whose entry is at an address
+data Follows : List ℕ → Type 0 where
+  nothing : Follows []
+  descriptor : (d : ℕ) → Follows (wordsFrom 8 d)
+
+data Words (at : ℕ) : List ℕ → Type 0 where
+  none : Words at []
+  entry-and : {rest : List ℕ} → Follows rest → Words at (at ∷ (at + 8) ∷ rest)
+
+chosen : {A : Type 0} (P : A → Type 0) (t : Bool) {a b : A} → (t ≡ true → P a) → (t ≡ false → P b) → P (if t then a else b)
+chosen P true x y = x refl
+chosen P false x y = y refl
+
+-- the reasons of faults before the table
+abbrev early : ℕ → Bool
+early reason = eqb reason 0x20 || eqb reason 0x21 || eqb reason 0x25
+
+abbrev Late : {A : Type 0} → Check A → Type 0
+Late (stop reason) = early reason ≡ false
+Late (go a) = Unit {0}
+
+irte-late : (registers : Registers) (source e : ℕ) → Late (irteCheck registers source e)
+unfolding irteCheck
+irte-late registers source e =
+    chosen Late (not (bit e 0)) (λ h. refl)
+    (λ h. chosen Late (reservedIrte registers e) (λ h. refl)
+    (λ h. chosen Late (not (sourceAllowed source e)) (λ h. refl) (λ h. tt)))
+
+descriptor-late : (eime : Bool) (d : ℕ) → Late (descriptorCheck eime d)
+unfolding descriptorCheck
+descriptor-late eime d = chosen Late (reservedDescriptor eime d) (λ h. refl) (λ h. tt)
+
+abbrev earlyD : Delivery → Bool
+earlyD (fault reason fpd) = early reason
+earlyD (remap r) = false
+earlyD (post at vector n) = false
+
+module _ (m : Memory) where
+  descriptor-words : (eime fpd : Bool) (vector at : ℕ)
+      → Follows (named (descriptorRules eime fpd vector at) m) × (earlyD (run (descriptorRules eime fpd vector at) m) ≡ false)
+  unfolding descriptorRules run named wordsFrom
+  descriptor-words eime fpd vector at = by (entry 8 m at)
+    where
+      checked : (k : Check Notice) → Late k → earlyD (onCheck k (λ reason. fault reason fpd) (post at vector)) ≡ false
+      checked (stop reason) h = h
+      checked (go n) h = refl
+
+      by : (f : Fetched)
+          → Follows (onFetch f [] (λ d. wordsFrom 8 at ++ []))
+          × (earlyD (onFetch f (fault 0x27 fpd) (λ d. onCheck (descriptorCheck eime d) (λ reason. fault reason fpd) (post at vector))) ≡ false)
+      by missing = (nothing, refl)
+      by (found d) = (descriptor at, checked (descriptorCheck eime d) (descriptor-late eime d))
+
+  entry-words : (registers : Registers) (source e : ℕ)
+      → Follows (named (entryRules registers source e) m) × (earlyD (run (entryRules registers source e) m) ≡ false)
+  unfolding entryRules run named
+  entry-words registers source e = by (irteCheck registers source e) (irte-late registers source e)
+    where
+      fpd : Bool
+      fpd = faultProcessingDisabled e
+
+      rules : Check Irte → Rules Delivery
+      rules k = onCheck k (λ reason. answer (fault reason fpd)) (onIrte (registers .eime) fpd)
+
+      by : (k : Check Irte) → Late k → Follows (named (rules k) m) × (earlyD (run (rules k) m) ≡ false)
+      by (stop reason) h = (nothing, h)
+      by (go (remaps r)) h = (nothing, refl)
+      by (go (posts vector d)) h = descriptor-words (registers .eime) fpd vector d
+
+  index-words : (registers : Registers) (source index : ℕ)
+      → Words (registers .«interrupt_table» + 16 * index) (named (indexRules registers source index) m)
+      × (earlyD (run (indexRules registers source index) m) ≡ true → named (indexRules registers source index) m ≡ [])
+  unfolding indexRules run named wordsFrom
+  index-words registers source index =
+      chosen (λ q. Words at (named q m) × (earlyD (run q m) ≡ true → named q m ≡ [])) (leb (2 ^ (registers .s + 1)) index)
+      (λ h. (none, λ h. refl)) (λ h. by (entry 2 m at))
+    where
+      at : ℕ
+      at = registers .«interrupt_table» + 16 * index
+
+      by : (f : Fetched)
+          → Words at (onFetch f [] (λ e. at ∷ (at + 8) ∷ named (entryRules registers source e) m))
+          × (earlyD (onFetch f (fault 0x23 false) (λ e. run (entryRules registers source e) m)) ≡ true
+          → onFetch f [] (λ e. at ∷ (at + 8) ∷ named (entryRules registers source e) m) ≡ [])
+      by missing = (none, λ h. refl)
+      by (found e) =
+          let w = entry-words registers source e in
+          (entry-and (w .0), λ h. let z : _≡_ {A = ℕ} 0 1 = cc (w .1) in absurd (omega arith))
+
+-- the index that a request's check lets through is the whole one
+abbrev Whole : InterruptRequest → Check Format → Type 0
+Whole request (stop reason) = Unit {0}
+Whole request (go compatibility) = Unit {0}
+Whole request (go (remappable index)) = index ≡ wholeIndex request
+
+index-whole : (registers : Registers) (request : InterruptRequest)
+    → Whole request (requestCheck registers (request .address) (request .«data»))
+unfolding requestCheck
+index-whole registers request =
+    chosen W (not (bit address 4))
+    (λ h. chosen W (registers .eime || not (registers .cfis)) (λ h. tt) (λ h. tt))
+    (λ h. chosen W (not (bit address 3)) (λ plain. rw (not-true (bit address 3) plain) (sym (add-zero (handleOf address))))
+    (λ shv. chosen W (anySet (request .«data») 31 16) (λ h. tt) (λ h. rw (not-false (bit address 3) shv))))
+  where
+    address : ℕ
+    address = request .address
+
+    W : Check Format → Type 0
+    W = Whole request
+
+abbrev entryAt : Registers → InterruptRequest → ℕ
+entryAt registers request = registers .«interrupt_table» + 16 * wholeIndex request
+
+module _ (registers : Registers) (request : InterruptRequest) (m : Memory) where
+  abbrev Answered : Rules InterruptOutcome → Type 0
+  Answered q = Words (entryAt registers request) (named q m) × (beforeTable (run q m) ≡ true → named q m ≡ [])
+
+  delivered-before : (source index : ℕ) (d : Delivery) → beforeTable (delivered source index d) ≡ earlyD d
+  unfolding interruptFault
+  delivered-before source index (fault reason fpd) = refl
+  delivered-before source index (remap r) = refl
+  delivered-before source index (post at vector n) = refl
+
+  answered : Answered (interruptRules registers request)
+  unfolding interruptRules requestRules run named
+  answered = admitted (admission registers (not (inInterruptRange (request .address))) (registers .ire))
+    where
+      source : ℕ
+      source = request .source .id
+
+      formatted : (k : Check Format) → Whole request k
+          → Answered (onCheck k (λ reason. answer (blocked (interruptFault reason false source 0))) (onFormat registers source))
+      formatted (stop reason) h = (none, λ h. refl)
+      formatted (go compatibility) h = (none, λ h. refl)
+      formatted (go (remappable index)) h =
+          let w = index-words m registers source index in
+          rw (named-map (delivered source index) (indexRules registers source index) m, run-map (delivered source index) (indexRules registers source index) m, delivered-before source index (run (indexRules registers source index) m), ← h) w
+
+      admitted : (k : Admitted) → Answered (onAdmission k refused passed (requestRules registers request))
+      admitted (refusal n) = (none, λ h. refl)
+      admitted pass = (none, λ h. refl)
+      admitted take = formatted (requestCheck registers (request .address) (request .«data»)) (index-whole registers request)
+
+pub none-before-table : NoneBeforeTable
+none-before-table registers request image = answered registers request (ofImage image) .1
+
+follows-eight : {l : List ℕ} → Follows l → length l ≤ 8
+unfolding wordsFrom
+follows-eight nothing = omega arith
+follows-eight (descriptor d) = omega arith
+
+words-ten : {at : ℕ} {l : List ℕ} → Words at l → length l ≤ 10
+words-ten none = omega arith
+words-ten (entry-and {rest} f) = omega (arith, follows-eight f)
+
+pub at-most-ten : AtMostTen
+at-most-ten registers request image = words-ten (answered registers request (ofImage image) .0)
+
+first-word : {from at : ℕ} {l rest : List ℕ} → Words from l → l ≡ at ∷ rest → at ≡ from
+first-word none e = let z : _≡_ {A = ℕ} 0 1 = cc in absurd (omega arith)
+first-word (entry-and f) e = cc
+
+pub no-wrap : NoWrap
+no-wrap registers request request′ image image′ at rest rest′ first first′ =
+    let here = first-word (answered registers request (ofImage image) .0) first in
+    let there = first-word (answered registers request′ (ofImage image′) .0) first′ in
+    omega arith
+
+pub index-bound : IndexBound
+index-bound request = go (bit (request .address) 3) (fits (request .address) 19 5) (fits (request .address) 2 2) (fits (request .«data») 15 0)
+  where
+    go : (shv : Bool) {high low sub : ℕ} → high < 2 ^ 15 → low < 2 → sub < 2 ^ 16
+        → high + low * 2 ^ 15 + (if shv then sub else 0) ≤ 131070
+    go true h l s = omega arith
+    go false h l s = omega arith
