@@ -15,7 +15,7 @@ use Rattle.image.specs.Bytes.{littleEndian, bytesOf}
 use Rattle.image.specs.Entries.{spell}
 use Rattle.faults.specs.Slots.{recordAt, withRecord, standing, clear127, set127}
 use Rattle.faults.proofs.Bytes.{length-bytesOf, one-byte, bytes-beside, last-byte, bytes-below, bytes-back}
-use Rattle.faults.proofs.Record.{two-words}
+use Rattle.faults.proofs.Contents.{two-words}
 use Rattle.faults.proofs.Digits.{upper-div, upper-mod}
 
 -- a second run of bytes right behind a first, in a buffer: both are one run

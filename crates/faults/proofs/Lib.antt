@@ -1,7 +1,8 @@
 pub mod Buffer
 pub mod Bytes
+pub mod Contents
 pub mod Digits
-pub mod Record
+pub mod InPlace
 pub mod Recording
 pub mod Standing
 pub mod Totals

@@ -4,6 +4,7 @@ use mathlib.Core.Path.{_≡_, refl, ap, sym, _∙_}
 use mathlib.Core.List.{List}
 use lib.Dec.{eqb}
 use Rattle.image.specs.Choice.{if_then_else_}
+use Rattle.faults.specs.declared.recorder.Recorder.{Recorder}
 use Rattle.faults.specs.declared.recorder.RecorderAnswer.{RecorderAnswer}
 use Rattle.faults.specs.declared.recorder.RecorderAnswer.the-variants.{
   Refused,
@@ -70,6 +71,9 @@ back OverflowCleared = refl
 pub answerOf-injective : (a b : RecorderAnswer) → answerOf a ≡ answerOf b → a ≡ b
 answerOf-injective a b e = sym (back a) ∙ ap ofNumber e ∙ back b
 
--- a call's answer with the buffer and the state that it leaves
+-- a call's answer, with the recorder and the buffer that it leaves
+abbrev pub leftBy : RecorderAnswer → Recorder → List ℕ → After
+leftBy answer recorder buffer = leaves (answerOf answer) buffer (recorder .next) (recorder .overflow)
+
 abbrev pub afterOf : RecorderStep → List ℕ → After
-afterOf step buffer = leaves (answerOf (step .answer)) buffer (step .recorder .next) (step .recorder .overflow)
+afterOf step = leftBy (step .answer) (step .recorder)

@@ -1,6 +1,7 @@
 // What a blocked request leaves: its reason, whether it may be recorded, and its record; and the recorder that keeps eight
 // of them in a lent buffer.
 mod fault;
+mod lent;
 mod reason;
 mod recorder;
 mod slots;
@@ -9,6 +10,9 @@ pub use fault::Fault;
 pub use fault::interrupt_fault;
 pub use fault::memory_fault;
 pub use fault::record_bytes;
+pub use lent::clear;
+pub use lent::clear_overflow;
+pub use lent::record;
 pub use reason::Reason;
 pub use recorder::Recorder;
 pub use recorder::RecorderAnswer;

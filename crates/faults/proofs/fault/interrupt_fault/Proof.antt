@@ -1,6 +1,6 @@
 -- Both words are as the law puts the record together.
 use borrow.Author.Needs.{needs}
-use Rattle.faults.proofs.Record.{interrupt-answered}
+use Rattle.faults.proofs.Contents.{interrupt-answered}
 use Rattle.faults.proofs.fault.interrupt_fault.Statement.{statement}
 use Rattle.faults.proofs.fault.interrupt_fault.Tie as tie
 

@@ -1,6 +1,6 @@
 -- Both words are as the law puts the record together.
 use borrow.Author.Needs.{needs}
-use Rattle.faults.proofs.Record.{memory-answered}
+use Rattle.faults.proofs.Contents.{memory-answered}
 use Rattle.faults.proofs.fault.memory_fault.Statement.{statement}
 use Rattle.faults.proofs.fault.memory_fault.Tie as tie
 
