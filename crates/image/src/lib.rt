@@ -92,19 +92,13 @@ fn word(image: &[u8], at: usize) -> u64
     ensures { λ r. ⌜ r ≡ wordAt (now (image .entry)) at ⌝ }
 {
     wide(image[at])
-        + 256
-            * (wide(image[at + 1])
-                + 256
-                    * (wide(image[at + 2])
-                        + 256
-                            * (wide(image[at + 3])
-                                + 256
-                                    * (wide(image[at + 4])
-                                        + 256
-                                            * (wide(image[at + 5])
-                                                + 256
-                                                    * (wide(image[at + 6])
-                                                        + 256 * wide(image[at + 7])))))))
+        + wide(image[at + 1]) * 0x100
+        + wide(image[at + 2]) * 0x1_0000
+        + wide(image[at + 3]) * 0x100_0000
+        + wide(image[at + 4]) * 0x1_0000_0000
+        + wide(image[at + 5]) * 0x100_0000_0000
+        + wide(image[at + 6]) * 0x1_0000_0000_0000
+        + wide(image[at + 7]) * 0x100_0000_0000_0000
 }
 
 pub fn fetch8(image: &[u8], at: u64) -> Found8
