@@ -1,5 +1,5 @@
 -- Laws of the walk, level by level.
-use Prim.Native.Nat.{ℕ, zero, suc, _+_, _*_, _-_, _^_, _<_, _≤_}
+use Prim.Native.Nat.{ℕ, zero, suc, _+_, _*_, _-_, _/_, _%_, _^_, _<_, _≤_}
 use mathlib.Core.Bool.{Bool, true, false, not}
 use mathlib.Core.Path.{_≡_, refl, ap, sym, _∙_, subst}
 use native.Mathlib.Omega.{arith}
@@ -21,6 +21,13 @@ pub index-lt : (address n : ℕ) → bits address (20 + 9 * n) (12 + 9 * n) < 51
 index-lt address n =
     let nine : suc (20 + 9 * n) - (12 + 9 * n) ≡ 9 = omega arith in
     subst (λ (k : ℕ). bits address (20 + 9 * n) (12 + 9 * n) < 2 ^ k) nine (fits address (20 + 9 * n) (12 + 9 * n))
+
+-- the index by a shift
+pub index-of : (address n : ℕ) → address / 2 ^ (12 + 9 * n) % 512 ≡ bits address (20 + 9 * n) (12 + 9 * n)
+unfolding bits
+index-of address n =
+    let nine : suc (20 + 9 * n) - (12 + 9 * n) ≡ 9 = omega arith in
+    rw nine
 
 -- what a leaf at level n + 1 adds to its frame
 pub offset : (n : ℕ) → 11 + 9 * n ≡ 11 + 9 * (suc n - 1)

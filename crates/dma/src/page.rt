@@ -96,7 +96,7 @@ pub fn page_step(
     ensures { λ r. ⌜ stepOf r ≡ pageOver registers (request .address) (request .write) fpd (ofImage (now (image .entry))) below table ⌝ }
 {
     let address = request.address;
-    let index = field(address, 20 + 9 * below, 12 + 9 * below);
+    let index = (address >> (12 + 9 * below)) % 512;
     let Found8::Entry(e) = fetch8(table_page(image, table), 8 * index) else {
         return Step::Done(Translation::Fault(Reason::PageEntryAccess, fpd));
     };

@@ -1,43 +1,41 @@
-use Prim.Native.Nat.{ℕ, suc, _+_, _*_, _<_, _^_}
-use mathlib.Core.Path.{_≡_, refl, ap, ap₂, sym, _∙_}
+-- One level of the walk: the entry that the code takes from the table's page is the one that the rules name, and each way out is the
+-- step that the rules make of it.
+use Prim.Native.Nat.{ℕ, suc, _+_, _*_}
+use mathlib.Core.Path.{_≡_, ap, sym, _∙_}
 use native.Mathlib.Omega.{arith}
 use native.Mathlib.Numerals.{add-one}
 use Rattle.image.specs.Entries.{fetched8}
 use Rattle.image.specs.Check.{go}
 use Rattle.image.specs.Memory.{found, ofImage, entry}
-use Rattle.image.proofs.Fields.{fits}
 use Rattle.dma.specs.Checked.{translationOf}
 use Rattle.dma.specs.Page.{pageCheck}
 use Rattle.dma.specs.Translation.{checked}
 use Rattle.dma.specs.Walk.{placeIn}
-use Rattle.dma.proofs.Steps.{index-lt, host-lt, offset, page-frame-lt}
+use Rattle.dma.proofs.Steps.{index-of, index-lt, host-lt, offset, page-frame-lt}
 use Rattle.dma.proofs.Stepped.{placed, gone, unfetched, stopped, at-leaf, at-table}
 use borrow.Author.Needs.{needs}
 use Rattle.dma.proofs.page.page_step.Statement.{statement}
 use Rattle.dma.proofs.page.page_step.Tie as tie
 
-mul-field : tie.Need-mul-field
-mul-field c = search needs
+mul-index : tie.Need-mul-index
+mul-index c = search needs
 
-add-field : tie.Need-add-field
-add-field c = search needs
+add-index : tie.Need-add-index
+add-index c = search needs
 
-mul-field-2 : tie.Need-mul-field-2
-mul-field-2 c = search needs
+cast-index : tie.Need-cast-index
+cast-index c = search needs
 
-add-field-2 : tie.Need-add-field-2
-add-field-2 c = search needs
-
-field-requires : tie.Need-field-requires
-field-requires c κs = search needs
+shr-index : tie.Need-shr-index
+shr-index c = search needs
 
 table-page-requires : tie.Need-table-page-requires
 table-page-requires c κs = search needs
 
 mul-fetch8 : tie.Need-mul-fetch8
 mul-fetch8 c =
-    let a = c .before .before .before .args in
-    omega (arith, c .before .field .ensures, index-lt (a .request .address) (a .below))
+    let a = c .before .before .args in
+    omega (arith, index-of (a .request .address) (a .below), index-lt (a .request .address) (a .below))
 
 fetch8-requires : tie.Need-fetch8-requires
 fetch8-requires c κs = search needs
@@ -50,15 +48,14 @@ enum-told c = search needs
 
 place : (c : tie.After-fetch8)
     → fetched8 (c .fetch8 .result)
-    ≡ entry 1 (ofImage (c .before .before .before .before .args .image .now))
-    (placeIn (c .before .before .before .before .args .request .address) (c .before .before .before .before .args .table) (c .before .before .before .before .args .below))
+    ≡ entry 1 (ofImage (c .before .before .before .args .image .now)) (placeIn (c .before .before .before .args .request .address) (c .before .before .before .args .table) (c .before .before .before .args .below))
 place c =
-    let a = c .before .before .before .before .args in
-    placed (a .image .now) (a .request .address) (a .table) (a .below) (c .before .before .field .ensures) (c .before .table-page .ensures) (c .fetch8 .ensures)
+    let a = c .before .before .before .args in
+    placed (a .image .now) (a .request .address) (a .table) (a .below) (index-of (a .request .address) (a .below)) (c .before .table-page .ensures) (c .fetch8 .ensures)
 
 returns : tie.Need-returns
 returns c =
-    let a = c .before .before .before .before .before .before .args in
+    let a = c .before .before .before .before .before .args in
     unfetched (a .registers) (a .request .address) (a .request .write) (a .fpd) (a .image .now) (a .below) (a .table) (sym (ap fetched8 (c .enum-told .given .1)) ∙ place (c .before .before))
 
 add-page-check : tie.Need-add-page-check
@@ -75,26 +72,23 @@ enum-told-2 c = search needs
 
 found-at : (c : tie.After-known-told)
     → found (c .before .e .given .0 .0)
-    ≡ entry 1 (ofImage (c .before .before .before .before .before .before .before .args .image .now))
-    (placeIn (c .before .before .before .before .before .before .before .args .request .address) (c .before .before .before .before .before .before .before .args .table) (c .before .before .before .before .before .before .before .args .below))
+    ≡ entry 1 (ofImage (c .before .before .before .before .before .before .args .image .now)) (placeIn (c .before .before .before .before .before .before .args .request .address) (c .before .before .before .before .before .before .args .table) (c .before .before .before .before .before .before .args .below))
 found-at c = sym (ap fetched8 (c .before .e .given .1)) ∙ place (c .before .before .before)
 
 told : (c : tie.After-page-check)
     → translationOf (c .page-check .result)
-    ≡ checked (c .before .before .before .before .before .before .before .before .args .fpd)
-    (pageCheck (c .before .before .before .before .before .before .before .before .args .registers) (c .before .before .before .before .before .before .before .before .args .request .write) (suc (c .before .before .before .before .before .before .before .before .args .below)) (c .before .before .e .given .0 .0))
-told c = rw (← add-one (c .before .before .before .before .before .before .before .before .args .below)) (c .page-check .ensures)
+    ≡ checked (c .before .before .before .before .before .before .before .args .fpd)
+    (pageCheck (c .before .before .before .before .before .before .before .args .registers) (c .before .before .before .before .before .before .before .args .request .write) (suc (c .before .before .before .before .before .before .before .args .below)) (c .before .before .e .given .0 .0))
+told c = rw (← add-one (c .before .before .before .before .before .before .before .args .below)) (c .page-check .ensures)
 
 went : (c : tie.After-check)
-    → pageCheck (c .before .before .before .before .before .before .before .before .before .before .args .registers) (c .before .before .before .before .before .before .before .before .before .before .args .request .write) (suc (c .before .before .before .before .before .before .before .before .before .before .args .below)) (c .before .before .before .before .e .given .0 .0)
+    → pageCheck (c .before .before .before .before .before .before .before .before .before .args .registers) (c .before .before .before .before .before .before .before .before .before .args .request .write) (suc (c .before .before .before .before .before .before .before .before .before .args .below)) (c .before .before .before .before .e .given .0 .0)
     ≡ go (c .check .given .0 .0)
-went c =
-    gone (c .before .before .before .before .before .before .before .before .before .before .args .fpd) _
-    (sym (ap translationOf (c .check .given .1)) ∙ told (c .before .before))
+went c = gone (c .before .before .before .before .before .before .before .before .before .args .fpd) _ (sym (ap translationOf (c .check .given .1)) ∙ told (c .before .before))
 
 returns-2 : tie.Need-returns-2
 returns-2 c =
-    let a = c .before .before .before .before .before .before .before .before .before .before .args in
+    let a = c .before .before .before .before .before .before .before .before .before .args in
     stopped (a .registers) (a .request .address) (a .request .write) (a .fpd) (a .image .now) (a .below) (a .table) (found-at (c .before .before .before)) (told (c .before .before)) (ap translationOf (c .enum-told2 .given .1))
 
 add-large-page : tie.Need-add-large-page
@@ -103,29 +97,29 @@ add-large-page c = search needs
 large-page-requires : tie.Need-large-page-requires
 large-page-requires c κs = search needs
 
-mul-field-3 : tie.Need-mul-field-3
-mul-field-3 c = search needs
+mul-field : tie.Need-mul-field
+mul-field c = search needs
 
-add-field-3 : tie.Need-add-field-3
-add-field-3 c = search needs
+add-field : tie.Need-add-field
+add-field c = search needs
 
-field-requires-2 : tie.Need-field-requires-2
-field-requires-2 c κs = search needs
+field-requires : tie.Need-field-requires
+field-requires c κs = search needs
 
-add-t25 : tie.Need-add-t25
-add-t25 c =
-    let a = c .before .before .before .before .before .before .before .before .before .before .before .before .before .before .args in
-    omega (arith, page-frame-lt (a .registers) (a .request .write) (suc (a .below)) _ _ (went (c .before .before .before .before)), c .field2 .ensures, host-lt (a .request .address) (a .below) (omega arith))
+add-t24 : tie.Need-add-t24
+add-t24 c =
+    let a = c .before .before .before .before .before .before .before .before .before .before .before .before .before .args in
+    omega (arith, page-frame-lt (a .registers) (a .request .write) (suc (a .below)) _ _ (went (c .before .before .before .before)), c .field .ensures, host-lt (a .request .address) (a .below) (omega arith))
 
 returns-3 : tie.Need-returns-3
 returns-3 c =
-    let a = c .before .before .before .before .before .before .before .before .before .before .before .before .before .before .args in
+    let a = c .before .before .before .before .before .before .before .before .before .before .before .before .before .args in
     let large = sym (c .before .before .large-page .ensures) ∙ c .before .if1 .taken in
-    rw (c .field2 .ensures, offset (a .below)) (at-leaf (a .registers) (a .request .address) (a .request .write) (a .fpd) (a .image .now) (a .below) (a .table) (found-at (c .before .before .before .before .before .before .before)) (went (c .before .before .before .before)) (rw (add-one (a .below)) at large))
+    rw (c .field .ensures, offset (a .below)) (at-leaf (a .registers) (a .request .address) (a .request .write) (a .fpd) (a .image .now) (a .below) (a .table) (found-at (c .before .before .before .before .before .before .before)) (went (c .before .before .before .before)) (rw (add-one (a .below)) at large))
 
 returns-4 : tie.Need-returns-4
 returns-4 c =
-    let a = c .before .before .before .before .before .before .before .before .before .before .before .before .before .args in
+    let a = c .before .before .before .before .before .before .before .before .before .before .before .before .args in
     let small = sym (c .before .large-page .ensures) ∙ c .if1 .left in
     at-table (a .registers) (a .request .address) (a .request .write) (a .fpd) (a .image .now) (a .below) (a .table) (found-at (c .before .before .before .before .before .before)) (went (c .before .before .before)) (rw (add-one (a .below)) at small)
 
@@ -133,11 +127,10 @@ pub page-step-spec : {M : Type 1} → statement M
 page-step-spec =
     tie.close
     (tie.spec
-    mul-field
-    add-field
-    mul-field-2
-    add-field-2
-    field-requires
+    mul-index
+    add-index
+    cast-index
+    shr-index
     table-page-requires
     mul-fetch8
     fetch8-requires
@@ -151,9 +144,9 @@ page-step-spec =
     returns-2
     add-large-page
     large-page-requires
-    mul-field-3
-    add-field-3
-    field-requires-2
-    add-t25
+    mul-field
+    add-field
+    field-requires
+    add-t24
     returns-3
     returns-4)
