@@ -1,6 +1,6 @@
 -- Fields of numbers, and of an entry in terms of its words.
-use Prim.Native.Nat.{ℕ, zero, suc, _+_, _-_, _*_, _/_, _%_, _^_, _≤_, _<_}
-use mathlib.Core.Path.{_≡_, refl, ap, sym, _∙_}
+use Prim.Native.Nat.{ℕ, suc, _+_, _-_, _*_, _/_, _%_, _^_, _≤_, _<_}
+use mathlib.Core.Path.{_≡_, ap, sym, _∙_}
 use mathlib.Core.List.{List, [], _∷_}
 use native.Mathlib.Omega.{arith}
 use native.Mathlib.Nat.{mod-one, zero-mod, mod-lt, mod-eq-of-lt, div-eq-of-lt, lt-of-lt-of-le, le-refl, mul-add-mod-self-left, mul-add-div, add-comm, add-zero, div-one, one-mul, le-trans, mod-le, mul-le-mul-right, div-mul-le-self}
@@ -62,34 +62,45 @@ in-place-lt e high low ordered =
 pub shifted-one : (k : ℕ) → k < 64 → (1 * 2 ^ k) % 2 ^ 64 ≡ 2 ^ k
 shifted-one k h = rw (one-mul (2 ^ k)) (mod-eq-of-lt (pow-lt h))
 
+-- a number with a digit of k bits below the rest of it
+module _ {d : ℕ} (k rest : ℕ) (digit : d < 2 ^ k) where
+  -- a field of the digit
+  pub in-digit : (high low : ℕ) → high < k → bits (d + 2 ^ k * rest) high low ≡ bits d high low
+  in-digit high low h = go (decLe low (suc high))
+    where
+      sum : (k - suc high) + suc high ≡ k
+      sum = omega arith
+
+      same : (d + 2 ^ k * rest) % 2 ^ suc high ≡ d % 2 ^ suc high
+      same =
+          sym (mod-mod-pow (d + 2 ^ k * rest) (k - suc high) (suc high))
+          ∙ ap (λ (n : ℕ). (d + 2 ^ k * rest) % 2 ^ n % 2 ^ suc high) sum
+          ∙ ap (λ (n : ℕ). n % 2 ^ suc high) (ap (λ (n : ℕ). n % 2 ^ k) (add-comm d (2 ^ k * rest)) ∙ mul-add-mod-self-left (2 ^ k) rest d ∙ mod-eq-of-lt digit)
+
+      go : Dec (low ≤ suc high) → bits (d + 2 ^ k * rest) high low ≡ bits d high low
+      go (yes ordered) =
+          below-top (d + 2 ^ k * rest) high low ordered ∙ ap (λ (n : ℕ). n / 2 ^ low) same ∙ sym (below-top d high low ordered)
+      go (no crossed) = upside-down (d + 2 ^ k * rest) (omega arith) ∙ sym (upside-down d (omega arith))
+
+  -- a field of the rest
+  pub above-digit : (high low : ℕ) → bits (d + 2 ^ k * rest) (k + high) (k + low) ≡ bits rest high low
+  unfolding bits
+  above-digit high low =
+      let width : suc (k + high) - (k + low) ≡ suc high - low = omega arith in
+      let all : (d + 2 ^ k * rest) / 2 ^ k ≡ rest =
+      ap (λ (n : ℕ). n / 2 ^ k) (add-comm d (2 ^ k * rest)) ∙ mul-add-div (pow-pos k) rest d ∙ ap (λ (n : ℕ). rest + n) (div-eq-of-lt digit) ∙ add-zero rest in
+      rw (width, ← shr-shr (d + 2 ^ k * rest) k low, all)
+
 module _ {w : ℕ} (ws : List ℕ) (word : w < 2 ^ 64) where
   -- a field of the lowest word
   pub in-first : (high low : ℕ) → high < 64 → bits (spell (w ∷ ws)) high low ≡ bits w high low
   unfolding spell
-  in-first high low h = go (decLe low (suc high))
-    where
-      sum : (63 - high) + suc high ≡ 64
-      sum = omega arith
-
-      same : (w + 2 ^ 64 * spell ws) % 2 ^ suc high ≡ w % 2 ^ suc high
-      same =
-          sym (mod-mod-pow (w + 2 ^ 64 * spell ws) (63 - high) (suc high))
-          ∙ ap (λ (n : ℕ). (w + 2 ^ 64 * spell ws) % 2 ^ n % 2 ^ suc high) sum
-          ∙ ap (λ (n : ℕ). n % 2 ^ suc high) (ap (λ (n : ℕ). n % 2 ^ 64) (add-comm w (2 ^ 64 * spell ws)) ∙ mul-add-mod-self-left (2 ^ 64) (spell ws) w ∙ mod-eq-of-lt word)
-
-      go : Dec (low ≤ suc high) → bits (w + 2 ^ 64 * spell ws) high low ≡ bits w high low
-      go (yes ordered) =
-          below-top (w + 2 ^ 64 * spell ws) high low ordered ∙ ap (λ (n : ℕ). n / 2 ^ low) same ∙ sym (below-top w high low ordered)
-      go (no crossed) = upside-down (w + 2 ^ 64 * spell ws) (omega arith) ∙ sym (upside-down w (omega arith))
+  in-first = in-digit 64 (spell ws) word
 
   -- a field of the words after it
   pub in-rest : (high low : ℕ) → bits (spell (w ∷ ws)) (64 + high) (64 + low) ≡ bits (spell ws) high low
-  unfolding spell bits
-  in-rest high low =
-      let width : suc (64 + high) - (64 + low) ≡ suc high - low = omega arith in
-      let rest : (w + 2 ^ 64 * spell ws) / 2 ^ 64 ≡ spell ws =
-      ap (λ (n : ℕ). n / 2 ^ 64) (add-comm w (2 ^ 64 * spell ws)) ∙ mul-add-div (pow-pos 64) (spell ws) w ∙ ap (λ (n : ℕ). spell ws + n) (div-eq-of-lt word) ∙ add-zero (spell ws) in
-      rw (width, ← shr-shr (w + 2 ^ 64 * spell ws) 64 low, rest)
+  unfolding spell
+  in-rest = above-digit 64 (spell ws) word
 
 -- an entry of 16 bytes: a field of its low word, a field of its high word, and all of the high word
 module _ {low-word high-word : ℕ} (l : low-word < 2 ^ 64) (h : high-word < 2 ^ 64) where

@@ -1,7 +1,9 @@
+pub mod Bytes
 pub mod Fields
 pub mod Isolated
 pub mod Local
 pub mod Pages
 pub mod Same
+pub mod Stores
 pub mod Trees
 pub mod Words

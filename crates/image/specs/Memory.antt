@@ -1,9 +1,9 @@
 -- Host memory as the rules see it: at each address a whole word of 8 bytes, or nothing.
 use Prim.Native.Nat.{ℕ, zero, suc, _+_, _*_, _^_}
-use mathlib.Core.List.{List}
+use mathlib.Core.List.{List, _++_}
 use lib.ListN.{length, take, drop}
 use lib.Dec.{leb}
-use Rattle.image.specs.Bytes.{littleEndian}
+use Rattle.image.specs.Bytes.{littleEndian, bytesOf}
 use Rattle.image.specs.Choice.{if_then_else_}
 
 -- what a fetch finds: nothing, or a number
@@ -26,6 +26,11 @@ wordAt image at = littleEndian (take 8 (drop at image))
 -- the lent run of bytes, byte n at host address n
 unfoldable pub ofImage : List ℕ → Memory
 ofImage image at = if leb (at + 8) (length image) then found (wordAt image at) else missing
+
+-- the run of bytes with another number in the 8 bytes from an address, where all of them lie in it
+unfoldable pub withWord : List ℕ → ℕ → ℕ → List ℕ
+withWord image at word =
+    if leb (at + 8) (length image) then take at image ++ bytesOf 8 word ++ drop (at + 8) image else image
 
 -- a word in front of the number that the words after it spell
 abbrev pub join : Fetched → Fetched → Fetched

@@ -1,10 +1,12 @@
 // The lent run of guest memory: byte n stands at host address n. Entries of 8, 16 and 64 bytes are fetched from it, a
 // table's page is handed on as a part of it, and nothing is copied.
 ghost use mathlib.Core.Path.{_≡_};
+ghost use mathlib.Core.List.{_++_};
 ghost use Prim.Native.Nat.{_+_, _≤_, _<_, min};
 ghost use lib.ListN.{length, take, drop};
 ghost use Rattle.image.specs.Bits.{bits, inPlace};
-ghost use Rattle.image.specs.Memory.{wordAt, ofImage, entry};
+ghost use Rattle.image.specs.Bytes.{bytesOf};
+ghost use Rattle.image.specs.Memory.{wordAt, ofImage, entry, withWord};
 ghost use Rattle.image.specs.Entries.{fetched8, fetched16, fetched64};
 
 // An entry of 16 bytes: bits 63:0 and 127:64.
@@ -149,4 +151,29 @@ pub fn fetch64(image: &[u8], at: u64) -> Found64
         w6: word(image, from + 48),
         w7: word(image, from + 56),
     })
+}
+
+// A word into the 8 bytes from an index, lowest byte first.
+fn store_word(image: &mut [u8], at: usize, word: u64)
+    requires { ⌜ at + 8 ≤ length (now image) ⌝ }
+    ensures { λ _. ⌜ now (image .exit) ≡ take at (now (image .entry)) ++ bytesOf 8 word ++ drop (at + 8) (now (image .entry)) ⌝ }
+{
+    let mut rest = word;
+    for i in 0..8usize {
+        image[at + i] = (rest % 256) as u8;
+        rest = rest / 256;
+    }
+}
+
+// A word into the 8 bytes from an address; nothing is written where the image doesn't hold them all.
+pub fn store8(image: &mut [u8], at: u64, word: u64)
+    ensures { λ _. ⌜ now (image .exit) ≡ withWord (now (image .entry)) at word ⌝ }
+{
+    if image.len() < 8 {
+        return;
+    }
+    if ((image.len() - 8) as u64) < at {
+        return;
+    }
+    store_word(image, at as usize, word);
 }
