@@ -1,40 +1,31 @@
 -- The slots of a buffer as the code reads and writes them, byte by byte.
-use Prim.Native.Nat.{ℕ, zero, suc, _+_, _*_, _/_, _%_, _^_, _<_, _≤_}
-use mathlib.Core.Path.{_≡_, refl, ap, sym, _∙_}
-use mathlib.Core.Bool.{Bool, true, false}
+use Prim.Native.Nat.{ℕ, suc, _+_, _*_, _/_, _%_, _^_, _<_, _≤_}
+use mathlib.Core.Path.{_≡_, sym}
 use mathlib.Core.List.{List, [], _∷_, _++_, append-assoc, append-nil}
-use native.Mathlib.Nat.{le-refl, add-assoc, add-suc, pow-succ', mul-assoc, mul-add, mul-zero, add-zero, zero-add, one-mul, mul-comm, add-comm, div-div-eq-div-mul, add-mul-div-left, add-mul-mod-self-left, mod-eq-of-lt, div-eq-of-lt, one-le-pow}
+use native.Mathlib.Nat.{add-assoc, add-suc, mul-add}
 use native.Mathlib.Omega.{arith}
 use native.Mathlib.Decide.{decLe}
 use borrow.Author.Tests.{le-leb, lt-leb, eq-eqb}
 use lib.Dec.{leb, eqb, lit<}
-use lib.ListN.{length, getD, set, take, drop, length-take, length-drop, length-append, drop-of-length-le}
-use lib.Seq.{take-at, drop-at, drop-drop, take-take, take-add, set-split, append-snoc, getD-drop, length-take-le}
-use Rattle.image.specs.Bits.{bits, bit}
+use lib.ListN.{length, getD, set, take, drop, length-drop, drop-of-length-le}
+use lib.Seq.{take-add, set-split, append-snoc, getD-drop}
+use Rattle.image.specs.Bits.{bits}
 use Rattle.image.specs.Bytes.{littleEndian, bytesOf}
 use Rattle.image.specs.Entries.{spell}
 use Rattle.faults.specs.Slots.{recordAt, withRecord, standing, clear127, set127}
-use Rattle.faults.proofs.Bytes.{length-bytesOf, one-byte, bytes-beside, last-byte, bytes-below, bytes-back}
+use Rattle.image.specs.Memory.{withWord}
+use Rattle.image.proofs.Stores.{withWords, Words, all-stored}
+use Rattle.image.proofs.Bytes.{one-byte, bytes-beside, last-byte, bytes-below, bytes-back}
 use Rattle.faults.proofs.Contents.{two-words}
 use Rattle.faults.proofs.Digits.{upper-div, upper-mod}
 
--- a second run of bytes right behind a first, in a buffer: both are one run
-pub behind : (buffer : List ℕ) (at n m : ℕ) (xs ys : List ℕ) → length xs ≡ n → at + n ≤ length buffer → {first : List ℕ}
-    → first ≡ take at buffer ++ xs ++ drop (at + n) buffer
-    → take (at + n) first ++ ys ++ drop (at + n + m) first ≡ take at buffer ++ (xs ++ ys) ++ drop (at + n + m) buffer
-behind buffer at n m xs ys sized fits laid =
-    let head : length (take at buffer ++ xs) ≡ at + n = simp (length-append, length-take-le at buffer (omega arith), sized) in
-    rw (laid, take-at (take at buffer ++ xs) (drop (at + n) buffer) (at + n) head, ← drop-drop m (at + n) (take at buffer ++ xs ++ drop (at + n) buffer), drop-at (take at buffer ++ xs) (drop (at + n) buffer) (at + n) head, drop-drop m (at + n) buffer, append-assoc (take at buffer) xs ys)
-
 -- a record of two words, stored one behind the other
-pub two-stored : (buffer : List ℕ) (slot low high : ℕ) → 16 * slot + 16 ≤ length buffer → low < 2 ^ 64 → {first : List ℕ}
-    → first ≡ take (16 * slot) buffer ++ bytesOf 8 low ++ drop (16 * slot + 8) buffer
-    → take (16 * slot + 8) first ++ bytesOf 8 high ++ drop (16 * slot + 8 + 8) first
-    ≡ withRecord buffer slot (spell (low ∷ high ∷ []))
-unfolding withRecord
-two-stored buffer slot low high fits small laid =
-    behind buffer (16 * slot) 8 8 (bytesOf 8 low) (bytesOf 8 high) (length-bytesOf 8 low) (omega arith) laid
-    ∙ rw (two-words low high, bytes-beside 8 8 low high small, add-assoc (16 * slot) 8 8)
+pub two-stored : (buffer : List ℕ) (slot low high : ℕ) → 16 * slot + 16 ≤ length buffer → low < 2 ^ 64 → high < 2 ^ 64
+    → {first : List ℕ} → first ≡ withWord buffer (16 * slot) low
+    → withWord first (16 * slot + 8) high ≡ withRecord buffer slot (spell (low ∷ high ∷ []))
+unfolding withRecord withWords Words
+two-stored buffer slot low high fits small tall laid =
+    rw laid (all-stored (low ∷ high ∷ []) buffer (16 * slot) fits (small, (tall, tt)))
 
 -- bit 127 is set where bit 63 of the high word is
 pub marked : (low high : ℕ) → low < 2 ^ 64 → spell (low ∷ (high % 2 ^ 63 + 2 ^ 63) ∷ []) ≡ set127 (spell (low ∷ high ∷ []))

@@ -1,5 +1,4 @@
 pub mod Buffer
-pub mod Bytes
 pub mod Contents
 pub mod Digits
 pub mod InPlace

@@ -13,7 +13,7 @@ use lib.Seq.{take-at, drop-at, drop-drop, take-take, take-append-le, take-length
 use Rattle.image.specs.Bits.{bits, bit}
 use Rattle.image.specs.Bytes.{littleEndian, bytesOf}
 use Rattle.faults.specs.Slots.{recordAt, withRecord, standing, standingIn, one-if, set127, clear127}
-use Rattle.faults.proofs.Bytes.{length-bytesOf, number-back}
+use Rattle.image.proofs.Bytes.{length-bytesOf, number-back}
 
 -- bit 127 of 128 bits, of a number with it set, and of one with it clear
 low-bit : (v : ℕ) → bit (v % 2 ^ 128) 127 ≡ bit v 127

@@ -20,3 +20,5 @@ pub use recorder::RecorderStep;
 pub use recorder::after_clear;
 pub use recorder::after_clear_overflow;
 pub use recorder::after_record;
+pub use recorder::after_words;
+pub use recorder::out_of_place;

@@ -2,7 +2,7 @@
 ghost use mathlib.Core.Path.{_≡_};
 ghost use Prim.Native.Nat.{_%_, _+_, _<_};
 ghost use mathlib.Core.List.{[], _∷_};
-ghost use lib.ListN.{length};
+ghost use Rattle.image.specs.Entries.{spell};
 ghost use Rattle.faults.specs.Answers.{afterOf};
 ghost use Rattle.faults.specs.Fault.{faultOf};
 ghost use Rattle.faults.specs.Recorder.{recording, clearing, clearingOverflow, outOfPlace};
@@ -38,15 +38,21 @@ pub struct RecorderStep {
 }
 
 // Refusal 3, as far as every call checks it.
-fn out_of_place(len: usize, next: u8) -> bool
+pub fn out_of_place(len: usize, next: u8) -> bool
     ensures { λ r. ⌜ r ≡ outOfPlace 8 len next ⌝ }
 {
     (len != 128) | (8 <= next)
 }
 
-// The recorder after a fault was handed to it.
-pub fn after_record(buffer: &mut [u8], recorder: Recorder, fault: Fault) -> RecorderStep
-    ensures { λ r. ⌜ afterOf r (now (buffer .exit)) ≡ recording 8 (now (buffer .entry)) (recorder .next) (recorder .overflow) (fault .recordable) (faultOf fault .contents) ⌝ }
+// The recorder after a record was handed to it, as two words.
+pub fn after_words(
+    buffer: &mut [u8],
+    recorder: Recorder,
+    recordable: bool,
+    low: u64,
+    high: u64,
+) -> RecorderStep
+    ensures { λ r. ⌜ afterOf r (now (buffer .exit)) ≡ recording 8 (now (buffer .entry)) (recorder .next) (recorder .overflow) recordable (spell (low ∷ high ∷ [])) ⌝ }
 {
     let next = recorder.next;
     let overflow = recorder.overflow;
@@ -56,7 +62,7 @@ pub fn after_record(buffer: &mut [u8], recorder: Recorder, fault: Fault) -> Reco
             recorder,
         };
     }
-    if !fault.recordable {
+    if !recordable {
         return RecorderStep {
             answer: RecorderAnswer::NotRecordable,
             recorder,
@@ -78,8 +84,8 @@ pub fn after_record(buffer: &mut [u8], recorder: Recorder, fault: Fault) -> Reco
         };
     }
     // Bit 127 is set whatever was handed in.
-    let high = fault.high % 0x8000_0000_0000_0000 + 0x8000_0000_0000_0000;
-    write_record(buffer, next as usize, fault.low, high);
+    let marked = high % 0x8000_0000_0000_0000 + 0x8000_0000_0000_0000;
+    write_record(buffer, next as usize, low, marked);
     RecorderStep {
         answer: RecorderAnswer::Written,
         recorder: Recorder {
@@ -87,6 +93,13 @@ pub fn after_record(buffer: &mut [u8], recorder: Recorder, fault: Fault) -> Reco
             overflow,
         },
     }
+}
+
+// The recorder after a fault was handed to it.
+pub fn after_record(buffer: &mut [u8], recorder: Recorder, fault: Fault) -> RecorderStep
+    ensures { λ r. ⌜ afterOf r (now (buffer .exit)) ≡ recording 8 (now (buffer .entry)) (recorder .next) (recorder .overflow) (fault .recordable) (faultOf fault .contents) ⌝ }
+{
+    after_words(buffer, recorder, fault.recordable, fault.low, fault.high)
 }
 
 // The recorder after a slot's bit 127 was cleared.

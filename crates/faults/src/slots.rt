@@ -1,31 +1,20 @@
 // Records as bytes: a slot is 16 bytes of a buffer.
 ghost use mathlib.Core.Path.{_≡_};
-ghost use mathlib.Core.List.{_++_, [], _∷_};
+ghost use mathlib.Core.List.{[], _∷_};
 ghost use Prim.Native.Nat.{_+_, _*_, _≤_};
-ghost use lib.ListN.{length, take, drop};
-ghost use Rattle.image.specs.Bytes.{bytesOf};
+ghost use lib.ListN.{length};
 ghost use Rattle.image.specs.Entries.{spell};
 ghost use Rattle.faults.specs.Slots.{recordAt, withRecord, standing, clear127};
-
-// A word into the 8 bytes from an index, lowest byte first.
-fn store_word(buffer: &mut [u8], at: usize, word: u64)
-    requires { ⌜ at + 8 ≤ length (now buffer) ⌝ }
-    ensures { λ _. ⌜ now (buffer .exit) ≡ take at (now (buffer .entry)) ++ bytesOf 8 word ++ drop (at + 8) (now (buffer .entry)) ⌝ }
-{
-    let mut rest = word;
-    for i in 0..8usize {
-        buffer[at + i] = (rest % 256) as u8;
-        rest = rest / 256;
-    }
-}
+use image::store8;
 
 // A record of two words into its slot.
 pub fn write_record(buffer: &mut [u8], slot: usize, low: u64, high: u64)
     requires { ⌜ 16 * slot + 16 ≤ length (now buffer) ⌝ }
     ensures { λ _. ⌜ now (buffer .exit) ≡ withRecord (now (buffer .entry)) slot (spell (low ∷ high ∷ [])) ⌝ }
 {
-    store_word(buffer, 16 * slot, low);
-    store_word(buffer, 16 * slot + 8, high);
+    let at = 16 * slot as u64;
+    store8(buffer, at, low);
+    store8(buffer, at + 8, high);
 }
 
 // Whether a record stands in a slot: bit 127 is the top bit of its last byte.

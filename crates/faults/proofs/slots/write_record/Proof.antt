@@ -10,13 +10,12 @@ returns : tie.Need-returns
 returns c =
     let first = c .before .before .before .before .before .before in
     let s = first .before .before .before in
-    c .before .before .store-word2 .ensures
+    c .before .before .store82 .ensures
     ∙ two-stored (now (s .args .buffer)) (s .args .slot) (s .args .low) (s .args .high) (s .pre) (s .fits .low .fits)
-    (first .store-word .ensures)
+    (s .fits .high .fits) (first .store8 .ensures)
 
 pub write-record-spec : {M : Type 1} → statement M
 write-record-spec =
     tie.close
     (tie.spec
-    (λ c. search needs) (λ c κs. search needs) (λ c. search needs) (λ c. search needs) (λ c κs. search needs)
-    (λ c. search needs) returns)
+    (λ c. search needs) (λ c κs. search needs) (λ c. search needs) (λ c κs. search needs) (λ c. search needs) returns)
