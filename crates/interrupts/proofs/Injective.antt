@@ -4,7 +4,7 @@ use mathlib.Core.Path.{_≡_, refl, ap, sym, _∙_}
 use native.Mathlib.Omega.{arith}
 use Rattle.faults.specs.Fault.{faultOf}
 use Rattle.faults.specs.declared.fault.Fault.{Fault}
-use Rattle.faults.proofs.Record.{faultOf-injective}
+use Rattle.faults.proofs.Contents.{faultOf-injective}
 use Rattle.interrupts.specs.Answers.{outcomeOf}
 use Rattle.interrupts.specs.Checked.{dueOf}
 use Rattle.interrupts.specs.Descriptor as descriptor
