@@ -129,8 +129,7 @@ pub fn after_clear(buffer: &mut [u8], recorder: Recorder, slot: u8) -> RecorderS
 pub fn after_clear_overflow(buffer: &[u8], recorder: Recorder) -> RecorderStep
     ensures { λ r. ⌜ afterOf r (now (buffer .entry)) ≡ clearingOverflow 8 (now (buffer .entry)) (recorder .next) (recorder .overflow) ⌝ }
 {
-    let next = recorder.next;
-    if out_of_place(buffer.len(), next) {
+    if out_of_place(buffer.len(), recorder.next) {
         return RecorderStep {
             answer: RecorderAnswer::Refused,
             recorder,
@@ -140,7 +139,7 @@ pub fn after_clear_overflow(buffer: &[u8], recorder: Recorder) -> RecorderStep
         RecorderStep {
             answer: RecorderAnswer::OverflowCleared,
             recorder: Recorder {
-                next,
+                next: recorder.next,
                 overflow: false,
             },
         }

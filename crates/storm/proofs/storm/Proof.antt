@@ -1,0 +1,31 @@
+-- `storm` is safe and ends: the buffer keeps its length, and the calls are counted.
+use Prim.Native.Nat.{_-_, _≤_}
+use mathlib.Core.Path.{_≡_, refl, _∙_}
+use native.Mathlib.Omega.{arith}
+use borrow.Author.Needs.{needs}
+use lib.ListN.{length}
+use Rattle.storm.proofs.storm.Statement.{statement}
+use Rattle.storm.proofs.storm.Tie as tie
+
+abbrev Inv-loop : tie.InvT-loop
+Inv-loop buffer₀ tally₀ recorder₀ x₀ counter₀ buffer tally recorder x counter =
+    (counter ≤ 10000) × (length buffer ≡ length buffer₀)
+
+abbrev μ-loop : tie.MeasureT-loop
+μ-loop buffer₀ tally₀ recorder₀ x₀ counter₀ buffer tally recorder x counter = 10000 - counter
+
+pub storm-spec : {M : Type 1} → statement M
+storm-spec =
+    tie.close
+    (tie.spec
+    Inv-loop
+    μ-loop
+    (λ c. (omega arith, refl))
+    (λ c κs. search needs)
+    (λ c κs. search needs)
+    (λ c κs. search needs)
+    (λ c. omega arith)
+    (λ c. omega arith)
+    (λ c. search needs)
+    (λ c. search needs)
+    (λ c. search needs))
