@@ -15,7 +15,7 @@ use Rattle.dma.specs.Isolation.{accessFault, answerOver, Locality}
 use Rattle.dma.specs.Page.{hostAddress}
 use Rattle.dma.specs.Requests.{MemoryOutcome, granted, refused, outcome, memoryRules}
 use Rattle.dma.specs.Root.{rootCheck}
-use Rattle.dma.specs.Translation.{Translation, at, fault, pageRules, pageStep, widthRules, contextRules, rootRules}
+use Rattle.dma.specs.Translation.{Translation, reached, fault, pageRules, pageStep, widthRules, contextRules, rootRules}
 use Rattle.dma.specs.Walk.{Step, done, down, onStep, walkRules}
 use Rattle.dma.specs.declared.MemoryRequest.{MemoryRequest}
 use Rattle.dma.proofs.Cases.{check-cases, width-cases}
@@ -42,7 +42,7 @@ module _ (registers : Registers) (request : MemoryRequest) where
       width-cases (Outside Access) registers (request .address) (request .write) e table (λ t. tt)
       (outside-walk Access (request .address) (fault 0x07 (faultProcessingDisabled e))
       (pageStep registers (request .address) (request .write) (faultProcessingDisabled e))
-      (λ frame. at (hostAddress 1 frame (request .address))) refl (levelsOf e) table)
+      (λ frame. reached (hostAddress 1 frame (request .address))) refl (levelsOf e) table)
 
   outside-context : (table : ℕ) → Outside Access (contextRules registers (request .address) (request .write) (request .source .id) table)
   unfolding contextRules Outside memoryFault

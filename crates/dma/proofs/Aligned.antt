@@ -17,7 +17,7 @@ use Rattle.dma.specs.Context.{contextReserved, contextInvalid, contextCh
 use Rattle.dma.specs.Page.{pageCheck, hostAddress}
 use Rattle.dma.specs.Requests.{MemoryOutcome, granted, refused, outcome, memoryRules, walked}
 use Rattle.dma.specs.Root.{rootCheck}
-use Rattle.dma.specs.Translation.{Translation, at, fault, pageRules, pageStep, widthRules, contextRules, rootRules}
+use Rattle.dma.specs.Translation.{Translation, reached, fault, pageRules, pageStep, widthRules, contextRules, rootRules}
 use Rattle.dma.specs.Walk.{Step, done, down, onStep, placeIn, walkRules}
 use Rattle.dma.specs.declared.MemoryRequest.{MemoryRequest}
 use Rattle.dma.proofs.Cases.{check-cases, width-cases}
@@ -71,7 +71,7 @@ module _ (registers : Registers) (request : MemoryRequest) where
       → Aligned (pageRules registers (request .address) (request .write) fpd level table)
   aligned-pages fpd =
       aligned-walk (request .address) (fault 0x07 fpd) (pageStep registers (request .address) (request .write) fpd)
-      (λ frame. at (hostAddress 1 frame (request .address)))
+      (λ frame. reached (hostAddress 1 frame (request .address)))
       (λ level e next told.
       rw (page-frame registers (request .write) level e next (leads registers (request .address) (request .write) fpd level e told))
       (omega arith))

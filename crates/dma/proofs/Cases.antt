@@ -8,7 +8,7 @@ use Rattle.image.specs.Choice.{if_then_else_}
 use Rattle.image.specs.Rules.{Rules, answer}
 use Rattle.registers.specs.declared.Registers.{Registers}
 use Rattle.dma.specs.Context.{levelsOf, translationType, faultProcessingDisabled}
-use Rattle.dma.specs.Translation.{Translation, at, fault, pageRules, widthRules}
+use Rattle.dma.specs.Translation.{Translation, reached, fault, pageRules, widthRules}
 
 either : {A : Type 0} (P : Rules A → Type 0) (t : Bool) (a b : Rules A) → P a → P b → P (if t then a else b)
 either P true a b x y = x
@@ -30,5 +30,5 @@ width-cases P registers address write e table ended walks =
     let walk = pageRules registers address write (faultProcessingDisabled e) (levelsOf e) table in
     let over = fault 0x04 (faultProcessingDisabled e) in
     either P (leb (2 ^ min (registers .mgaw) (12 + 9 * levelsOf e)) address) (answer over)
-    (if eqb (translationType e) 2 then answer (at address) else walk) (ended over)
-    (either P (eqb (translationType e) 2) (answer (at address)) walk (ended (at address)) walks)
+    (if eqb (translationType e) 2 then answer (reached address) else walk) (ended over)
+    (either P (eqb (translationType e) 2) (answer (reached address)) walk (ended (reached address)) walks)

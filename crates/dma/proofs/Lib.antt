@@ -3,6 +3,8 @@ pub mod Address
 pub mod Admissions
 pub mod Aligned
 pub mod Cases
+pub mod Injective
+pub mod Nine
 pub mod Raised
 pub mod Reserved
 pub mod Rights

@@ -12,8 +12,8 @@ use Rattle.image.specs.Choice.{if_then_else_}
 use Rattle.image.specs.Memory.{Memory, Fetched, missing, found, entry, onFetch}
 use Rattle.image.specs.Rules.{run}
 use Rattle.registers.specs.declared.Registers.{Registers}
-use Rattle.dma.specs.Page.{denied, ownRight, largePage, reserved, pageCheck, hostAddress}
-use Rattle.dma.specs.Translation.{Translation, at, fault, pageStep, pageOver, pageRules}
+use Rattle.dma.specs.Page.{denied, ownRight, largePage, pageReserved, pageCheck, hostAddress}
+use Rattle.dma.specs.Translation.{Translation, reached, fault, pageStep, pageOver, pageRules}
 use Rattle.dma.specs.Walk.{Step, done, down, onStep, placeIn, stepOver, walkRules}
 use Rattle.dma.proofs.Steps.{past, page-frame, walk-step}
 use Rattle.dma.proofs.Stepped.{arrived}
@@ -40,8 +40,8 @@ same-field e e′ h high low two =
     rw (down e′, down e, h)
 
 module _ (registers : Registers) (haw : 2 ≤ registers .haw) {e e′ : ℕ} (raised : Raised e e′) where
-  same-reserved : (level : ℕ) → reserved registers level e′ ≡ reserved registers level e
-  unfolding reserved
+  same-reserved : (level : ℕ) → pageReserved registers level e′ ≡ pageReserved registers level e
+  unfolding pageReserved
   same-reserved level =
       let same = same-field e e′ (raised .other-bits) in
       rw (same 51 (registers .haw) haw, same 7 7 (omega arith), same 29 12 (omega arith), same 20 12 (omega arith))
@@ -65,7 +65,7 @@ module _ (registers : Registers) (haw : 2 ≤ registers .haw) {e e′ : ℕ} (ra
   unfolding pageCheck
   raised-check write level frame h =
       let h1 = past (not (anySet e 1 0)) (denied write) _ frame h in
-      let h2 = past (reserved registers level e) 0x0C _ frame (h1 .1) in
+      let h2 = past (pageReserved registers level e) 0x0C _ frame (h1 .1) in
       let h3 = past (not (ownRight write e)) (denied write) _ frame (h2 .1) in
       let kept = kept-right write (not-false (ownRight write e) (h3 .0)) in
       rw (kept .1, same-reserved level, h2 .0, kept .0)
@@ -78,13 +78,13 @@ module _ (registers : Registers) (haw : 2 ≤ registers .haw) (address : ℕ) (w
   after m n e k =
       onStep
       (onCheck k (λ r. done (fault r fpd))
-      (λ frame. if largePage (suc n) e then done (at (hostAddress (suc n) frame address)) else down frame))
+      (λ frame. if largePage (suc n) e then done (reached (hostAddress (suc n) frame address)) else down frame))
       (λ t. t)
       (λ next. run (pageRules registers address write fpd n next) m)
 
   pub raised-walk : (level table host : ℕ) → table % 8 ≡ 0
-      → run (pageRules registers address write fpd level table) m ≡ at host
-      → run (pageRules registers address write fpd level table) m′ ≡ at host
+      → run (pageRules registers address write fpd level table) m ≡ reached host
+      → run (pageRules registers address write fpd level table) m′ ≡ reached host
   unfolding stepOver
   raised-walk zero table host h granted = sym (arrived registers address write fpd m′ 0 table refl) ∙ arrived registers address write fpd m 0 table refl ∙ granted
   raised-walk (suc n) table host h granted =
@@ -95,28 +95,28 @@ module _ (registers : Registers) (haw : 2 ≤ registers .haw) (address : ℕ) (w
           → run (pageRules registers address write fpd (suc n) table) m
           ≡ onStep (pageOver registers address write fpd m n table) (λ t. t) (λ next. run (pageRules registers address write fpd n next) m)
       first m =
-          walk-step address (fault 0x07 fpd) (pageStep registers address write fpd) (λ frame. at (hostAddress 1 frame address)) m n table
+          walk-step address (fault 0x07 fpd) (pageStep registers address write fpd) (λ frame. reached (hostAddress 1 frame address)) m n table
 
       by-size : (large : Bool) (frame : ℕ) → frame % 8 ≡ 0
-          → ((next x : ℕ) → next % 8 ≡ 0 → run (pageRules registers address write fpd n next) m ≡ at x → run (pageRules registers address write fpd n next) m′ ≡ at x)
-          → onStep (if large then done (at (hostAddress (suc n) frame address)) else down frame) (λ t. t) (λ next. run (pageRules registers address write fpd n next) m) ≡ at host
-          → onStep (if large then done (at (hostAddress (suc n) frame address)) else down frame) (λ t. t) (λ next. run (pageRules registers address write fpd n next) m′) ≡ at host
+          → ((next x : ℕ) → next % 8 ≡ 0 → run (pageRules registers address write fpd n next) m ≡ reached x → run (pageRules registers address write fpd n next) m′ ≡ reached x)
+          → onStep (if large then done (reached (hostAddress (suc n) frame address)) else down frame) (λ t. t) (λ next. run (pageRules registers address write fpd n next) m) ≡ reached host
+          → onStep (if large then done (reached (hostAddress (suc n) frame address)) else down frame) (λ t. t) (λ next. run (pageRules registers address write fpd n next) m′) ≡ reached host
       by-size true frame aligned ih granted = granted
       by-size false frame aligned ih granted = ih frame host aligned granted
 
       on : (e e′ : ℕ) → Raised e e′ → (k : Check ℕ) → pageCheck registers write (suc n) e ≡ k
-          → ((next x : ℕ) → next % 8 ≡ 0 → run (pageRules registers address write fpd n next) m ≡ at x → run (pageRules registers address write fpd n next) m′ ≡ at x)
-          → after m n e k ≡ at host
-          → after m′ n e′ (pageCheck registers write (suc n) e′) ≡ at host
+          → ((next x : ℕ) → next % 8 ≡ 0 → run (pageRules registers address write fpd n next) m ≡ reached x → run (pageRules registers address write fpd n next) m′ ≡ reached x)
+          → after m n e k ≡ reached host
+          → after m′ n e′ (pageCheck registers write (suc n) e′) ≡ reached host
       on e e′ up (stop reason) told ih granted = let z : _≡_ {A = ℕ} 0 1 = cc in absurd (omega arith)
       on e e′ up (go frame) told ih granted =
           rw (raised-check registers haw up write (suc n) frame told, same-large registers haw up (suc n))
           (by-size (largePage (suc n) e) frame (rw (page-frame registers write (suc n) e frame told) (omega arith)) ih granted)
 
       go : (f f′ : Fetched) → RaisedFetch f f′
-          → onStep (onFetch f (done (fault 0x07 fpd)) (pageStep registers address write fpd (suc n))) (λ t. t) (λ next. run (pageRules registers address write fpd n next) m) ≡ at host
-          → ((next x : ℕ) → next % 8 ≡ 0 → run (pageRules registers address write fpd n next) m ≡ at x → run (pageRules registers address write fpd n next) m′ ≡ at x)
-          → onStep (onFetch f′ (done (fault 0x07 fpd)) (pageStep registers address write fpd (suc n))) (λ t. t) (λ next. run (pageRules registers address write fpd n next) m′) ≡ at host
+          → onStep (onFetch f (done (fault 0x07 fpd)) (pageStep registers address write fpd (suc n))) (λ t. t) (λ next. run (pageRules registers address write fpd n next) m) ≡ reached host
+          → ((next x : ℕ) → next % 8 ≡ 0 → run (pageRules registers address write fpd n next) m ≡ reached x → run (pageRules registers address write fpd n next) m′ ≡ reached x)
+          → onStep (onFetch f′ (done (fault 0x07 fpd)) (pageStep registers address write fpd (suc n))) (λ t. t) (λ next. run (pageRules registers address write fpd n next) m′) ≡ reached host
       go missing missing up granted ih = granted
       go missing (found e′) up granted ih = absurd up
       go (found e) missing up granted ih = absurd up

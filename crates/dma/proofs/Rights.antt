@@ -22,7 +22,7 @@ use Rattle.registers.specs.declared.Registers.{Registers}
 use Rattle.dma.specs.Isolation.{answerOver, walkedOver, Disjoint, Apart, Switched, SwitchedOn, SwitchedOff, RightsOn, RightsOff}
 use Rattle.dma.specs.Requests.{MemoryOutcome, granted, outcome, memoryRules, walked, tableEntries}
 use Rattle.dma.specs.Root.{rootCheck}
-use Rattle.dma.specs.Translation.{Translation, at, fault, contextRules, rootRules}
+use Rattle.dma.specs.Translation.{Translation, reached, fault, contextRules, rootRules}
 use Rattle.dma.specs.declared.MemoryRequest.{MemoryRequest}
 use Rattle.dma.proofs.Admissions.{refuses, passes, takes}
 use Rattle.dma.proofs.Aligned.{aligned-walked}
@@ -133,8 +133,8 @@ taken-haw registers wrong on h = omega (arith, good registers (go (badRegisters 
     go true h = let z : _≡_ {A = ℕ} 0 1 = cc in absurd (omega arith)
     go false h = refl
 
-granted-at : (request : MemoryRequest) (t : Translation) {host : ℕ} → outcome request t ≡ granted host → t ≡ at host
-granted-at request (at host) h = cc
+granted-at : (request : MemoryRequest) (t : Translation) {host : ℕ} → outcome request t ≡ granted host → t ≡ reached host
+granted-at request (reached host) h = cc
 granted-at request (fault reason fpd) h = let z : _≡_ {A = ℕ} 0 1 = cc in absurd (omega arith)
 
 -- granted over one image, granted over another with the same tables and raised page entries

@@ -16,7 +16,7 @@ use Rattle.image.specs.Rules.{Rules, answer, fetch, run}
 use Rattle.image.proofs.Pages.{in-page}
 use Rattle.registers.specs.declared.Registers.{Registers}
 use Rattle.dma.specs.Context.{addressWidth, levelsOf, translationType, widthSupported, contextReserved, contextInvalid, contextCheck}
-use Rattle.dma.specs.Translation.{Translation, at, fault, checked}
+use Rattle.dma.specs.Translation.{Translation, reached, fault, checked}
 use Rattle.dma.proofs.Steps.{past}
 
 -- an entry taken from its table's page is the one that the rules name

@@ -13,7 +13,7 @@ use Rattle.image.specs.Rules.{run}
 use Rattle.image.proofs.Pages.{in-page}
 use Rattle.registers.specs.declared.Registers.{Registers}
 use Rattle.dma.specs.Page.{pageCheck, largePage, hostAddress}
-use Rattle.dma.specs.Translation.{Translation, at, fault, checked, pageStep, pageOver, pageRules}
+use Rattle.dma.specs.Translation.{Translation, reached, fault, checked, pageStep, pageOver, pageRules}
 use Rattle.dma.specs.Walk.{Step, done, down, onStep, placeIn, stepOver}
 use Rattle.dma.proofs.Steps.{index-lt, page-frame-lt, walk-step, walk-arrived}
 
@@ -29,7 +29,7 @@ placed image address table n {index} {page} {f} indexed paged fetched =
     ∙ in-page 4096 image table 1 (8 * here) (omega (arith, index-lt address n))
 
 -- a check that goes on, and one that stops
-pub gone : (fpd : Bool) (k : Check ℕ) {frame : ℕ} → at frame ≡ checked fpd k → k ≡ go frame
+pub gone : (fpd : Bool) (k : Check ℕ) {frame : ℕ} → reached frame ≡ checked fpd k → k ≡ go frame
 gone fpd (stop reason) h = let z : _≡_ {A = ℕ} 0 1 = cc in absurd (omega arith)
 gone fpd (go a) h = cc
 
@@ -49,13 +49,13 @@ module _ (registers : Registers) (address : ℕ) (write fpd : Bool) (image : Lis
         on : (k : Check ℕ) → t ≡ checked fpd k
             → done t
             ≡ onCheck k (λ r. done (fault r fpd))
-            (λ frame. if largePage (suc n) e then done (at (hostAddress (suc n) frame address)) else down frame)
+            (λ frame. if largePage (suc n) e then done (reached (hostAddress (suc n) frame address)) else down frame)
         on (stop r) told = ap done told
         on (go a) told = let z : _≡_ {A = ℕ} 0 1 = cc in absurd (omega arith)
 
     module _ {frame : ℕ} (told : pageCheck registers write (suc n) e ≡ go frame) where
       pub at-leaf : largePage (suc n) e ≡ true
-          → done (at (hostAddress (suc n) frame address)) ≡ pageOver registers address write fpd (ofImage image) n table
+          → done (reached (hostAddress (suc n) frame address)) ≡ pageOver registers address write fpd (ofImage image) n table
       unfolding stepOver
       at-leaf large = rw (← h, told, large)
 
@@ -71,7 +71,7 @@ module _ (registers : Registers) (address : ℕ) (write fpd : Bool) (m : Memory)
   first =
       let this : level ≡ suc (level - 1) = omega arith in
       ap (λ (l : ℕ). run (pageRules registers address write fpd l table) m) this
-      ∙ walk-step address (fault 0x07 fpd) (pageStep registers address write fpd) (λ frame. at (hostAddress 1 frame address)) m (level - 1) table
+      ∙ walk-step address (fault 0x07 fpd) (pageStep registers address write fpd) (λ frame. reached (hostAddress 1 frame address)) m (level - 1) table
 
   pub ended : {t : Translation} → done t ≡ pageOver registers address write fpd m (level - 1) table
       → t ≡ run (pageRules registers address write fpd level table) m
@@ -83,25 +83,25 @@ module _ (registers : Registers) (address : ℕ) (write fpd : Bool) (m : Memory)
 
 -- past the last level the page is reached
 pub arrived : (registers : Registers) (address : ℕ) (write fpd : Bool) (m : Memory) (level frame : ℕ) → level ≡ 0
-    → at (frame + bits address 11 0) ≡ run (pageRules registers address write fpd level frame) m
+    → reached (frame + bits address 11 0) ≡ run (pageRules registers address write fpd level frame) m
 arrived registers address write fpd m level frame none =
     sym
     (ap (λ (l : ℕ). run (pageRules registers address write fpd l frame) m) none
-    ∙ walk-arrived address (fault 0x07 fpd) (pageStep registers address write fpd) (λ frame. at (hostAddress 1 frame address)) m frame)
+    ∙ walk-arrived address (fault 0x07 fpd) (pageStep registers address write fpd) (λ frame. reached (hostAddress 1 frame address)) m frame)
 
 -- a level that leads on leads to its entry's frame
 pub leads : (registers : Registers) (address : ℕ) (write fpd : Bool) (level e : ℕ) {next : ℕ}
     → down next ≡ pageStep registers address write fpd level e → pageCheck registers write level e ≡ go next
 leads registers address write fpd level e {next} = on (pageCheck registers write level e)
   where
-    by-size : (large : Bool) (frame : ℕ) → down next ≡ (if large then done (at (hostAddress level frame address)) else down frame) → frame ≡ next
+    by-size : (large : Bool) (frame : ℕ) → down next ≡ (if large then done (reached (hostAddress level frame address)) else down frame) → frame ≡ next
     by-size true frame h = let z : _≡_ {A = ℕ} 0 1 = cc in absurd (omega arith)
     by-size false frame h = cc
 
     on : (k : Check ℕ)
         → down next
         ≡ onCheck k (λ r. done (fault r fpd))
-        (λ frame. if largePage level e then done (at (hostAddress level frame address)) else down frame)
+        (λ frame. if largePage level e then done (reached (hostAddress level frame address)) else down frame)
         → k ≡ go next
     on (stop r) h = let z : _≡_ {A = ℕ} 0 1 = cc in absurd (omega arith)
     on (go frame) h = ap go (by-size (largePage level e) frame h)

@@ -13,7 +13,7 @@ use Rattle.image.specs.Memory.{Memory, Fetched, missing, found, entry, onFetch}
 use Rattle.image.specs.Rules.{run, answer}
 use Rattle.image.proofs.Fields.{fits, in-place-lt}
 use Rattle.registers.specs.declared.Registers.{Registers}
-use Rattle.dma.specs.Page.{pageCheck, reserved, denied, ownRight}
+use Rattle.dma.specs.Page.{pageCheck, pageReserved, denied, ownRight}
 use Rattle.dma.specs.Walk.{Step, done, down, onStep, walkRules, stepOver, placeIn}
 
 -- an index of 9 bits
@@ -40,7 +40,7 @@ host-lt address n h = lt-of-lt-of-le (fits address (11 + 9 * n) 0) (pow-mono {j 
 module _ {A : Type 0} (address : ℕ) (none : A) (step : (level e : ℕ) → Step A) (arrived : ℕ → A) (m : Memory) where
   pub walk-step : (n table : ℕ)
       → run (walkRules address none step arrived (suc n) table) m
-      ≡ onStep (stepOver address none step arrived m n table) (λ a. a) (λ next. run (walkRules address none step arrived n next) m)
+      ≡ onStep (stepOver address none step m n table) (λ a. a) (λ next. run (walkRules address none step arrived n next) m)
   unfolding run walkRules stepOver
   walk-step n table = go (entry 1 m (placeIn address table n))
     where
@@ -71,7 +71,7 @@ pub page-frame : (registers : Registers) (write : Bool) (level e frame : ℕ) �
 unfolding pageCheck
 page-frame registers write level e frame h =
     let h1 = past (not (anySet e 1 0)) (denied write) _ frame h in
-    let h2 = past (reserved registers level e) 0x0C _ frame (h1 .1) in
+    let h2 = past (pageReserved registers level e) 0x0C _ frame (h1 .1) in
     let h3 = past (not (ownRight write e)) (denied write) _ frame (h2 .1) in
     let last = h3 .1 in
     cc

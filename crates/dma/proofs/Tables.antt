@@ -13,7 +13,7 @@ use Rattle.registers.specs.Source.{busOf, devfnOf}
 use Rattle.registers.specs.declared.Registers.{Registers}
 use Rattle.dma.specs.Context.{contextCheck, levelsOf, translationType, faultProcessingDisabled}
 use Rattle.dma.specs.Root.{rootCheck}
-use Rattle.dma.specs.Translation.{Translation, at, fault, pageRules, widthRules, contextRules, rootRules}
+use Rattle.dma.specs.Translation.{Translation, reached, fault, pageRules, widthRules, contextRules, rootRules}
 use Rattle.dma.specs.declared.MemoryRequest.{MemoryRequest}
 use Rattle.dma.proofs.Cases.{check-cases, width-cases}
 use Rattle.dma.proofs.Raised.{RaisedFetch, raised-walk}
@@ -35,7 +35,7 @@ pub record SameTables (registers : Registers) (request : MemoryRequest) (m m′ 
 module _ (registers : Registers) (request : MemoryRequest) (haw : 2 ≤ registers .haw) (m m′ : Memory)
     (raised : (a : ℕ) → a % 8 ≡ 0 → RaisedFetch (entry 1 m a) (entry 1 m′ a)) (host : ℕ) where
   abbrev Kept : Rules Translation → Type 0
-  Kept q = run q m ≡ at host → run q m′ ≡ at host
+  Kept q = run q m ≡ reached host → run q m′ ≡ reached host
 
   answered : (t : Translation) → Kept (answer t)
   unfolding run
@@ -53,7 +53,7 @@ module _ (registers : Registers) (request : MemoryRequest) (haw : 2 ≤ register
           (onCheck (contextCheck registers e) (λ reason. answer (fault reason (faultProcessingDisabled e)))
           (widthRules registers (request .address) (request .write) e)) m
 
-      go : (f : Fetched) → onFetch f (fault 0x09 false) (next m) ≡ at host → onFetch f (fault 0x09 false) (next m′) ≡ at host
+      go : (f : Fetched) → onFetch f (fault 0x09 false) (next m) ≡ reached host → onFetch f (fault 0x09 false) (next m′) ≡ reached host
       go missing = λ granted. granted
       go (found e) =
           check-cases Kept (contextCheck registers e) (λ reason. fault reason (faultProcessingDisabled e))
@@ -76,7 +76,7 @@ module _ (registers : Registers) (request : MemoryRequest) (haw : 2 ≤ register
           (contextRules registers (request .address) (request .write) (request .source .id))) m
 
       go : (f : Fetched) → entry 2 m (rootPlace registers request) ≡ f
-          → onFetch f (fault 0x08 false) (next m) ≡ at host → onFetch f (fault 0x08 false) (next m′) ≡ at host
+          → onFetch f (fault 0x08 false) (next m) ≡ reached host → onFetch f (fault 0x08 false) (next m′) ≡ reached host
       go missing told = λ granted. granted
       go (found e) told =
           check-cases Kept (rootCheck (registers .haw) e) (λ reason. fault reason false)

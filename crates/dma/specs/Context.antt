@@ -34,7 +34,7 @@ unfoldable pub contextInvalid : Registers → (e : ℕ) → Bool
 contextInvalid registers e =
     not (widthSupported registers (addressWidth e)) or eqb (translationType e) 3
 
--- the top page table's address
+-- 02h, 0Bh, 03h in this order; else on with the top page table's address
 unfoldable pub contextCheck : Registers → (e : ℕ) → Check ℕ
 contextCheck registers e =
     if not (bit e 0) then stop 0x02
@@ -42,6 +42,10 @@ contextCheck registers e =
     else if contextInvalid registers e then stop 0x03
     else go (inPlace e 63 12)
 
--- read even when bit 0 is clear
+-- FPD, bit 1: read even when bit 0 is clear
 abbrev pub faultProcessingDisabled : ℕ → Bool
 faultProcessingDisabled e = bit e 1
+
+-- Domain, 87:72: no answer depends on it
+abbrev pub domainOf : ℕ → ℕ
+domainOf e = bits e 87 72

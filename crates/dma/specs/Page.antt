@@ -15,12 +15,12 @@ denied write = if write then 0x05 else 0x06
 abbrev pub ownRight : (write : Bool) (e : ℕ) → Bool
 ownRight write e = if write then bit e 1 else bit e 0
 
--- bit 7 at level 1 is not looked at
+-- bit 7 at level 1 is not looked at; at levels 4 and 5 it is reserved, so the check has stopped
 abbrev pub largePage : (level e : ℕ) → Bool
 largePage level e = ltb 1 level && bit e 7
 
-unfoldable pub reserved : Registers → (level e : ℕ) → Bool
-reserved registers level e =
+unfoldable pub pageReserved : Registers → (level e : ℕ) → Bool
+pageReserved registers level e =
     anySet e 51 (registers .haw)
     or leb 4 level && bit e 7
     or eqb level 3 && bit e 7 && not (registers .«pages_1g»)
@@ -28,11 +28,11 @@ reserved registers level e =
     or eqb level 3 && bit e 7 && anySet e 29 12
     or eqb level 2 && bit e 7 && anySet e 20 12
 
--- the frame, or the next table's address
+-- 05h or 06h, 0Ch, 05h or 06h in this order; else on with the frame, or the next table's address
 unfoldable pub pageCheck : Registers → (write : Bool) (level e : ℕ) → Check ℕ
 pageCheck registers write level e =
     if not (anySet e 1 0) then stop (denied write)
-    else if reserved registers level e then stop 0x0C
+    else if pageReserved registers level e then stop 0x0C
     else if not (ownRight write e) then stop (denied write)
     else go (inPlace e 51 12)
 

@@ -6,7 +6,7 @@ use Rattle.image.specs.Rules.{Rules, mapRules, entriesOf}
 use Rattle.registers.specs.Admission.{admission, onAdmission, inInterruptRange}
 use Rattle.registers.specs.declared.Registers.{Registers}
 use Rattle.faults.specs.Record.{FaultAnswer, memoryFault}
-use Rattle.dma.specs.Translation.{Translation, at, fault, rootRules}
+use Rattle.dma.specs.Translation.{Translation, reached, fault, rootRules}
 use Rattle.dma.specs.declared.MemoryRequest.{MemoryRequest}
 
 -- document 01's granted, with the host address; blocked, with the fault; refused, by number
@@ -16,7 +16,7 @@ pub data MemoryOutcome : Type 0 where
   refused : ℕ → MemoryOutcome
 
 abbrev pub outcome : MemoryRequest → Translation → MemoryOutcome
-outcome request (at address) = granted address
+outcome request (reached address) = granted address
 outcome request (fault reason fpd) =
     blocked (memoryFault reason fpd (request .source .id) (request .address) (request .write))
 
@@ -27,10 +27,11 @@ memoryRules registers request =
     (granted (request .address))
     (mapRules (outcome request) (rootRules registers (request .address) (request .write) (request .source .id)))
 
--- document 01's walked entries: the page entries, of one word each, one that faults included
+-- document 01's walked entries: the page entries, of one word each, one that faults included; one that couldn't be fetched isn't
+-- among them
 abbrev pub walked : Registers → MemoryRequest → Memory → List ℕ
 walked registers request = entriesOf 1 (memoryRules registers request)
 
--- the root and context entries, of two words each
+-- the root and context entries, of two words each, where fetched
 abbrev pub tableEntries : Registers → MemoryRequest → Memory → List ℕ
 tableEntries registers request = entriesOf 2 (memoryRules registers request)

@@ -8,7 +8,7 @@ use Rattle.image.specs.Check.{Check, stop, go}
 unfoldable pub rootReserved : (haw e : ℕ) → Bool
 rootReserved haw e = anySet e 11 1 or anySet e 127 64 or anySet e 63 haw
 
--- the context table's address
+-- 01h, 0Ah in this order; else on with the context table's address
 unfoldable pub rootCheck : (haw e : ℕ) → Check ℕ
 rootCheck haw e =
     if not (bit e 0) then stop 0x01

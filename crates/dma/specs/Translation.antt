@@ -13,38 +13,39 @@ use Rattle.dma.specs.Context.{contextCheck, levelsOf, translationType, f
 use Rattle.dma.specs.Page.{pageCheck, largePage, hostAddress}
 use Rattle.dma.specs.Walk.{Step, done, down, walkRules, stepOver}
 
--- a host address, or a fault with FPD as it was read by then
+-- the address reached, a host address or, from an entry's check, the table or frame that it leads to; or a fault with FPD as it
+-- was read by then
 pub data Translation : Type 0 where
-  at : ℕ → Translation
+  reached : ℕ → Translation
   fault : (reason : ℕ) (fpd : Bool) → Translation
 
--- what an entry's check says, told as a translation
+-- what an entry's check says, told as a translation: for the code's contracts, the rules don't use it
 abbrev pub checked : (fpd : Bool) → Check ℕ → Translation
 checked fpd (stop reason) = fault reason fpd
-checked fpd (go address) = at address
+checked fpd (go address) = reached address
 
 module _ (registers : Registers) (address : ℕ) (write : Bool) where
   -- a large page ends the walk, any other entry leads one level down
   abbrev pub pageStep : (fpd : Bool) (level e : ℕ) → Step Translation
   pageStep fpd level e =
       onCheck (pageCheck registers write level e) (λ reason. done (fault reason fpd))
-      (λ frame. if largePage level e then done (at (hostAddress level frame address)) else down frame)
+      (λ frame. if largePage level e then done (reached (hostAddress level frame address)) else down frame)
 
-  -- one level over a memory
+  -- one level over a memory: for the code's contracts
   abbrev pub pageOver : (fpd : Bool) → Memory → (below table : ℕ) → Step Translation
   pageOver fpd =
-      stepOver address (fault 0x07 fpd) (pageStep fpd) (λ frame. at (hostAddress 1 frame address))
+      stepOver address (fault 0x07 fpd) (pageStep fpd)
 
   abbrev pub pageRules : (fpd : Bool) (level table : ℕ) → Rules Translation
   pageRules fpd =
-      walkRules address (fault 0x07 fpd) (pageStep fpd) (λ frame. at (hostAddress 1 frame address))
+      walkRules address (fault 0x07 fpd) (pageStep fpd) (λ frame. reached (hostAddress 1 frame address))
 
   -- X is the smaller of MGAW and AW's 39, 48 or 57 bits. Pass-through then returns the address itself
   unfoldable pub widthRules : (e table : ℕ) → Rules Translation
   widthRules e table =
       if leb (2 ^ min (registers .mgaw) (12 + 9 * levelsOf e)) address
       then answer (fault 0x04 (faultProcessingDisabled e))
-      else if eqb (translationType e) 2 then answer (at address)
+      else if eqb (translationType e) 2 then answer (reached address)
       else pageRules (faultProcessingDisabled e) (levelsOf e) table
 
   unfoldable pub contextRules : (source table : ℕ) → Rules Translation

@@ -25,6 +25,7 @@ module _ {A : Type 0} (address : ℕ) (missing : A) (step : (level e : ℕ) → 
       fetch 1 (placeIn address table n) missing
       (λ e. onStep (step (suc n) e) answer (walkRules n))
 
-  -- the level n + 1 alone, over a memory
+-- the level n + 1 alone, over a memory: for the code's contracts, the rules don't use it
+module _ {A : Type 0} (address : ℕ) (missing : A) (step : (level e : ℕ) → Step A) where
   unfoldable pub stepOver : Memory → (n table : ℕ) → Step A
   stepOver m n table = onFetch (entry 1 m (placeIn address table n)) (done missing) (step (suc n))

@@ -93,5 +93,5 @@ pub fn context_check(registers: Registers, e: Entry16) -> Translation
     if context_invalid(registers, e) {
         return Translation::Fault(Reason::ContextInvalid, fpd);
     }
-    Translation::At(table_address(e))
+    Translation::Reached(table_address(e))
 }

@@ -41,7 +41,7 @@ fn answer(request: MemoryRequest, translated: Translation) -> MemoryAnswer
     ensures { λ r. ⌜ outcomeOf r ≡ outcome request (translationOf translated) ⌝ }
 {
     match translated {
-        Translation::At(address) => MemoryAnswer::Granted(address),
+        Translation::Reached(address) => MemoryAnswer::Granted(address),
         Translation::Fault(reason, fpd) => MemoryAnswer::Blocked(memory_fault(
             reason,
             fpd,

@@ -2,7 +2,7 @@
 ghost use mathlib.Core.Path.{_≡_};
 ghost use Prim.Native.Nat.{_<_};
 ghost use Rattle.image.specs.Memory.{ofImage};
-ghost use Rattle.dma.specs.Page.{denied, ownRight, largePage, reserved, pageCheck};
+ghost use Rattle.dma.specs.Page.{denied, ownRight, largePage, pageReserved, pageCheck};
 ghost use Rattle.faults.specs.Reason.{numberOf};
 ghost use Rattle.dma.specs.Checked.{translationOf, stepOf};
 ghost use Rattle.dma.specs.Translation.{checked, pageOver};
@@ -32,7 +32,7 @@ pub fn large_page(level: u32, e: u64) -> bool
 }
 
 fn page_reserved(registers: Registers, level: u32, e: u64) -> bool
-    ensures { λ r. ⌜ r ≡ reserved registers level e ⌝ }
+    ensures { λ r. ⌜ r ≡ pageReserved registers level e ⌝ }
 {
     let beyond = at_or_above_power(field(e, 51, 0), registers.haw as u32);
     if !large_page(level, e) {
@@ -80,7 +80,7 @@ fn page_check(registers: Registers, write: bool, fpd: bool, level: u32, e: u64) 
     if !own_right(write, e) {
         return Translation::Fault(denial(write), fpd);
     }
-    Translation::At(in_place(e, 51, 12))
+    Translation::Reached(in_place(e, 51, 12))
 }
 
 // One level of the walk: below is how many levels come after it.
@@ -101,11 +101,11 @@ pub fn page_step(
         return Step::Done(Translation::Fault(Reason::PageEntryAccess, fpd));
     };
     let check = page_check(registers, request.write, fpd, below + 1, e);
-    let Translation::At(frame) = check else {
+    let Translation::Reached(frame) = check else {
         return Step::Done(check);
     };
     if large_page(below + 1, e) {
-        return Step::Done(Translation::At(frame + field(address, 11 + 9 * below, 0)));
+        return Step::Done(Translation::Reached(frame + field(address, 11 + 9 * below, 0)));
     }
     Step::Down(frame)
 }

@@ -29,5 +29,5 @@ pub fn root_check(haw: u8, e: Entry16) -> Translation
     if root_reserved(haw, e) {
         return Translation::Fault(Reason::RootReserved, false);
     }
-    Translation::At(table_address(e))
+    Translation::Reached(table_address(e))
 }

@@ -24,7 +24,8 @@ use registers::Registers;
 use registers::at_or_above_power;
 
 pub enum Translation {
-    At(u64),
+    // The address: the host address or, from an entry's check, the table or frame that it leads to.
+    Reached(u64),
     // Why, and FPD as it was read by then.
     Fault(Reason, bool),
 }
@@ -55,7 +56,7 @@ fn translate_width(
         return Translation::Fault(Reason::AddressOverflow, fpd);
     }
     if passes_through(e) {
-        return Translation::At(request.address);
+        return Translation::Reached(request.address);
     }
     walk(image, registers, request, fpd, depth, table)
 }
@@ -73,7 +74,7 @@ fn translate_context(
         return Translation::Fault(Reason::ContextAccess, false);
     };
     let check = context_check(registers, e);
-    let Translation::At(top) = check else {
+    let Translation::Reached(top) = check else {
         return check;
     };
     translate_width(image, registers, request, e, top)
@@ -87,7 +88,7 @@ pub fn translate(image: &[u8], registers: Registers, request: MemoryRequest) -> 
         return Translation::Fault(Reason::RootAccess, false);
     };
     let check = root_check(registers.haw, e);
-    let Translation::At(table) = check else {
+    let Translation::Reached(table) = check else {
         return check;
     };
     translate_context(image, registers, request, table)

@@ -35,5 +35,5 @@ pub fn walk(
             }
         }
     }
-    Translation::At(frame + field(request.address, 11, 0))
+    Translation::Reached(frame + field(request.address, 11, 0))
 }

@@ -5,17 +5,17 @@ use mathlib.Core.Bool.{Bool, not}
 use lib.Dec.{eqb}
 
 -- the field from bit high down to bit low, as a number; 0 where low is above high
-unfoldable pub bits : ℕ → ℕ → ℕ → ℕ
+unfoldable pub bits : (e high low : ℕ) → ℕ
 bits e high low = e / 2 ^ low % 2 ^ (suc high - low)
 
 -- the bit is set
-abbrev pub bit : ℕ → ℕ → Bool
+abbrev pub bit : (e place : ℕ) → Bool
 bit e place = eqb (bits e place place) 1
 
 -- some bit of the field is set
-abbrev pub anySet : ℕ → ℕ → ℕ → Bool
+abbrev pub anySet : (e high low : ℕ) → Bool
 anySet e high low = not (eqb (bits e high low) 0)
 
 -- the number with the field in its place and every other bit 0: `inPlace e 63 12` is the address in 63:12
-abbrev pub inPlace : ℕ → ℕ → ℕ → ℕ
+abbrev pub inPlace : (e high low : ℕ) → ℕ
 inPlace e high low = bits e high low * 2 ^ low

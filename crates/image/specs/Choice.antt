@@ -2,7 +2,7 @@
 use mathlib.Core.Bool.{Bool, true, false}
 
 infixr 1 if_then_else_
-infixr 3 _or_
+infixr 30 _or_
 abbrev pub if_then_else_ {ℓ} : {A : Type ℓ} → Bool → A → A → A
 if_then_else_ true a b = a
 if_then_else_ false a b = b

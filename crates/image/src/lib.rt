@@ -1,5 +1,5 @@
 // The lent run of guest memory: byte n stands at host address n. Entries of 8, 16 and 64 bytes are fetched from it, a
-// table's page is handed on as a part of it, and nothing is copied.
+// table's page is handed on as a part of it, and no page is copied.
 ghost use mathlib.Core.Path.{_≡_};
 ghost use mathlib.Core.List.{_++_};
 ghost use Prim.Native.Nat.{_+_, _≤_, _<_, min};

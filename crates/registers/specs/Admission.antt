@@ -18,7 +18,7 @@ pub data Admitted : Type 0 where
   pass : Admitted
   take : Admitted
 
-unfoldable pub admission : Registers → Bool → Bool → Admitted
+unfoldable pub admission : Registers → (wrongKind on : Bool) → Admitted
 admission registers wrongKind on =
     if badRegisters registers then refusal 1
     else if wrongKind then refusal 2

@@ -1,0 +1,108 @@
+-- Document 01: never more than nine words for a memory request; and with TE off, or refused, none.
+use Prim.Native.Nat.{ℕ, zero, suc, _+_, _≤_}
+use mathlib.Core.Bool.{Bool, true, false}
+use mathlib.Core.Path.{_≡_, refl, ap, sym, _∙_}
+use mathlib.Core.List.{List, [], _∷_, _++_}
+use native.Mathlib.Omega.{arith}
+use lib.Dec.{lit≤}
+use lib.ListN.{length, length-append}
+use Rattle.image.specs.Memory.{Memory, Fetched, missing, found, entry, onFetch, ofImage}
+use Rattle.image.specs.Rules.{Rules, answer, fetch, mapRules, named, wordsFrom}
+use Rattle.image.proofs.Trees.{named-map}
+use Rattle.registers.specs.Admission.{Admitted, refusal, pass, take, admission, onAdmission, inInterruptRange}
+use Rattle.registers.specs.declared.Registers.{Registers}
+use Rattle.dma.specs.Context.{contextCheck, levelsOf, faultProcessingDisabled}
+use Rattle.dma.specs.Named.{AtMostNine, NoneUntaken}
+use Rattle.dma.specs.Page.{hostAddress}
+use Rattle.dma.specs.Requests.{MemoryOutcome, granted, refused, outcome, memoryRules}
+use Rattle.dma.specs.Root.{rootCheck}
+use Rattle.dma.specs.Translation.{Translation, reached, fault, pageRules, pageStep, widthRules, contextRules, rootRules}
+use Rattle.dma.specs.Walk.{Step, done, down, onStep, placeIn, walkRules}
+use Rattle.dma.specs.declared.MemoryRequest.{MemoryRequest}
+use Rattle.dma.proofs.Cases.{check-cases, width-cases}
+use Rattle.dma.proofs.Stages.{valid, three-to-five}
+
+-- the rules name at most so many words
+abbrev pub AtMost : ℕ → {A : Type 0} → Rules A → Type 0
+AtMost n q = (m : Memory) → length (named q m) ≤ n
+
+length-words : (n a : ℕ) → length (wordsFrom n a) ≡ n
+unfolding wordsFrom
+length-words zero a = refl
+length-words (suc n) a = ap suc (length-words n (a + 8))
+
+few-answer : (n : ℕ) {A : Type 0} (b : A) → AtMost n (answer b)
+unfolding named
+few-answer n b m = omega arith
+
+few-fetch : (words place n : ℕ) {A : Type 0} (none : A) (next : ℕ → Rules A) → ((e : ℕ) → AtMost n (next e))
+    → AtMost (words + n) (fetch words place none next)
+unfolding named
+few-fetch words place n none next rest m = go (entry words m place)
+  where
+    go : (f : Fetched) → length (onFetch f [] (λ e. wordsFrom words place ++ named (next e) m)) ≤ words + n
+    go missing = omega arith
+    go (found e) =
+        rw (length-append (wordsFrom words place) (named (next e) m), length-words words place) (omega (arith, rest e m))
+
+module _ {A : Type 0} (address : ℕ) (none : A) (step : (level e : ℕ) → Step A) (arrived : ℕ → A) where
+  few-walk : (level table : ℕ) → AtMost level (walkRules address none step arrived level table)
+  unfolding walkRules
+  few-walk zero table m = few-answer 0 (arrived table) m
+  few-walk (suc n) table m =
+      let one = few-fetch 1 (placeIn address table n) n none (λ e. onStep (step (suc n) e) answer (walkRules address none step arrived n))
+      (λ e. on (step (suc n) e) (few-walk n)) m in
+      omega arith
+    where
+      on : (s : Step A) → ((next : ℕ) → AtMost n (walkRules address none step arrived n next))
+          → AtMost n (onStep s answer (walkRules address none step arrived n))
+      on (done a) ih = few-answer n a
+      on (down next) ih = ih next
+
+module _ (registers : Registers) (request : MemoryRequest) where
+  few-context : (table : ℕ) → AtMost 7 (contextRules registers (request .address) (request .write) (request .source .id) table)
+  unfolding contextRules
+  few-context table =
+      few-fetch 2 _ 5 _ _
+      (λ e.
+      check-cases (λ q. AtMost 5 q) (contextCheck registers e) (λ reason. fault reason (faultProcessingDisabled e))
+      (widthRules registers (request .address) (request .write) e) (few-answer 5)
+      (λ top told.
+      width-cases (λ q. AtMost 5 q) registers (request .address) (request .write) e top (few-answer 5)
+      (λ m.
+      let walk = few-walk (request .address) (fault 0x07 (faultProcessingDisabled e))
+      (pageStep registers (request .address) (request .write) (faultProcessingDisabled e))
+      (λ frame. reached (hostAddress 1 frame (request .address))) (levelsOf e) top m in
+      omega (arith, three-to-five registers e (valid registers e told .0)))))
+
+  few-root : AtMost 9 (rootRules registers (request .address) (request .write) (request .source .id))
+  unfolding rootRules
+  few-root =
+      few-fetch 2 _ 7 _ _
+      (λ e.
+      check-cases (λ q. AtMost 7 q) (rootCheck (registers .haw) e) (λ reason. fault reason _)
+      (contextRules registers (request .address) (request .write) (request .source .id)) (few-answer 7)
+      (λ table told. few-context table))
+
+pub at-most-nine : AtMostNine
+unfolding memoryRules
+at-most-nine registers request image = on (admission registers (inInterruptRange (request .address)) (registers .te)) (ofImage image)
+  where
+    on : (k : Admitted)
+        → AtMost 9 (onAdmission k refused (granted (request .address)) (mapRules (outcome request) (rootRules registers (request .address) (request .write) (request .source .id))))
+    on (refusal n) = few-answer 9 (refused n)
+    on pass = few-answer 9 (granted (request .address))
+    on take = λ m.
+        rw (named-map (outcome request) (rootRules registers (request .address) (request .write) (request .source .id)) m)
+        (few-root registers request m)
+
+pub none-untaken : NoneUntaken
+unfolding memoryRules named
+none-untaken registers request image = on (admission registers (inInterruptRange (request .address)) (registers .te)) refl
+  where
+    on : (k : Admitted) → k ≡ admission registers (inInterruptRange (request .address)) (registers .te)
+        → (take ≡ admission registers (inInterruptRange (request .address)) (registers .te) → ⊥)
+        → named (onAdmission k refused (granted (request .address)) (mapRules (outcome request) (rootRules registers (request .address) (request .write) (request .source .id)))) (ofImage image) ≡ []
+    on (refusal n) h not = refl
+    on pass h not = refl
+    on take h not = absurd (not h)

@@ -1,0 +1,14 @@
+// The whole unit: memory requests and interrupts, behind one admission with refusals 1 and 2 and the switches TE and IRE.
+pub use dma::MemoryAnswer;
+pub use dma::MemoryRequest;
+pub use dma::memory_request;
+pub use faults::Fault;
+pub use faults::Reason;
+pub use interrupts::InterruptAnswer;
+pub use interrupts::InterruptRequest;
+pub use interrupts::Notice;
+pub use interrupts::Posted;
+pub use interrupts::Remapped;
+pub use interrupts::interrupt_request;
+pub use registers::Registers;
+pub use registers::SourceId;
