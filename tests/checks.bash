@@ -1,0 +1,71 @@
+# What the check scripts of this folder share. Sourced by them, from anywhere; leaves the shell in the repository's root.
+#
+# Each check prints one line, 'ok NAME' or 'FAILED NAME', and the last line is 'N passed, M failed'. What a failed
+# check said goes to standard error. Everything is written under target/.
+cd "$(dirname "${BASH_SOURCE[0]}")/.." || exit 2
+
+if [ -n "${GALITZAF_LIB_DIR:-}" ]; then
+    GALITZAF_LIB_DIR=$(realpath "$GALITZAF_LIB_DIR") || exit 2
+fi
+archive=${GALITZAF_LIB_DIR:-$PWD/target/staticlib}/libffi.a
+export CARGO_TARGET_DIR=$PWD/target/cargo
+export CARGO_NET_OFFLINE=true
+out=$PWD/target/$(basename "$0")
+mkdir -p "$out"
+passed=0
+failed=0
+
+# check NAME COMMAND...
+check() {
+    local name=$1
+    shift
+    if "$@" >"$out/$name.log" 2>&1; then
+        passed=$((passed + 1))
+        echo "ok $name"
+    else
+        failed=$((failed + 1))
+        echo "FAILED $name"
+        tail -n 60 "$out/$name.log" >&2
+    fi
+}
+
+finish() {
+    echo "$passed passed, $failed failed"
+    [ "$failed" -eq 0 ]
+    exit
+}
+
+tree() { git status --porcelain 2>/dev/null; }
+before=$(tree)
+tree_unchanged() { diff <(echo "$before") <(echo "$(tree)"); }
+
+# The archive, made again where a source is newer.
+static_library() {
+    if [ -z "${GALITZAF_LIB_DIR:-}" ]; then
+        if [ ! -f "$archive" ] || [ -n "$(find crates crates.txt -newer "$archive" -print -quit)" ]; then
+            rt staticlib ffi || return 1
+        fi
+    fi
+    [ -f "$archive" ] || { echo "no $archive"; return 1; }
+}
+
+# each COMMAND...: in each of the script's crates.
+each() {
+    local crate
+    for crate in "${crates[@]}"; do
+        env -C "$crate" "$@" || return 1
+    done
+}
+
+# lint NAME: format and clippy of the script's crates, where they are installed.
+lint() {
+    if cargo fmt --version >/dev/null 2>&1; then
+        check "$1-format" each cargo fmt --check
+    fi
+    if cargo clippy --version >/dev/null 2>&1; then
+        check "$1-clippy" each cargo clippy --locked --release --all-targets -- -D warnings
+    fi
+}
+
+# The lines between a page's ``` fences.
+quoted() { awk '/^```/ { quoted = !quoted; next } quoted' "$1"; }
