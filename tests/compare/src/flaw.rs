@@ -1,0 +1,65 @@
+//! Flaws put into the reference's side on purpose: a comparison that doesn't see them is worth
+//! nothing.
+
+use reference::Slip;
+use std::fmt;
+
+/// What is wrong with the reference's side.
+#[derive(Clone, Copy, Debug, PartialEq, Eq)]
+pub enum Flaw {
+    /// Nothing.
+    None,
+    /// A slip that document 01 names.
+    Known(Slip),
+    /// A blocked interrupt leaves a bit in the image's last byte.
+    StrayBit,
+    /// The next slot goes on after 7.
+    NextAfterSeven,
+    /// A silenced fault is recorded.
+    SilencedRecorded,
+    /// Clearing a slot clears the whole record.
+    RecordWiped,
+    /// Clearing a slot clears overflow too.
+    OverflowWithSlot,
+    /// A refused call forgets overflow.
+    RefusalForgets,
+}
+
+impl Flaw {
+    /// Each of them.
+    pub const ALL: [Flaw; 11] = [
+        Flaw::Known(Slip::Index16),
+        Flaw::Known(Slip::LastEntryRights),
+        Flaw::Known(Slip::MaskLargeFrame),
+        Flaw::Known(Slip::FpdIgnoredWhenAbsent),
+        Flaw::Known(Slip::OnDespiteSn),
+        Flaw::StrayBit,
+        Flaw::NextAfterSeven,
+        Flaw::SilencedRecorded,
+        Flaw::RecordWiped,
+        Flaw::OverflowWithSlot,
+        Flaw::RefusalForgets,
+    ];
+
+    /// Whether it is one of the recorder.
+    pub fn in_recorder(self) -> bool {
+        !matches!(self, Flaw::None | Flaw::Known(_) | Flaw::StrayBit)
+    }
+
+    /// The slip among them, as the reference knows it.
+    pub fn slip(self) -> Slip {
+        match self {
+            Flaw::Known(slip) => slip,
+            _ => Slip::None,
+        }
+    }
+}
+
+impl fmt::Display for Flaw {
+    fn fmt(&self, f: &mut fmt::Formatter<'_>) -> fmt::Result {
+        match self {
+            Flaw::Known(slip) => write!(f, "{slip:?}"),
+            other => write!(f, "{other:?}"),
+        }
+    }
+}

@@ -1,0 +1,45 @@
+//! Puts the same calls to the proved unit, through its C interface, and to the reference, and
+//! compares every byte they leave.
+//!
+//!     compare                     all of it; prints how often each outcome came
+//!     compare --slips             a part of it, with known flaws put into the reference
+//!     compare --case SUITE WORLD  one world by itself, with all that is in it
+//!
+//! Exit status 0: nothing differed and every outcome came often enough, or every flaw was noticed.
+
+#![forbid(unsafe_code)]
+
+mod bytes;
+mod classify;
+mod difference;
+mod flaw;
+mod judge;
+mod lent;
+mod malformed;
+mod met;
+mod pool;
+mod recorder;
+mod runs;
+mod tally;
+mod wanted;
+
+use std::process::ExitCode;
+
+fn main() -> ExitCode {
+    let arguments: Vec<String> = std::env::args().skip(1).collect();
+    let arguments: Vec<&str> = arguments.iter().map(String::as_str).collect();
+    let good = match arguments[..] {
+        [] => runs::whole(),
+        ["--slips"] => runs::flaws(),
+        ["--case", suite, world] => runs::case(suite, world),
+        _ => {
+            eprintln!("usage: compare [--slips | --case SUITE WORLD]");
+            return ExitCode::from(2);
+        }
+    };
+    if good {
+        ExitCode::SUCCESS
+    } else {
+        ExitCode::FAILURE
+    }
+}

@@ -1,0 +1,137 @@
+//! Malformed calls: one argument that the header calls malformed, everything else good. The call
+//! says which, and nothing changes.
+
+use crate::bytes;
+use crate::met::{Call, Met};
+use crate::tally::Tally;
+use cases::{bench, Random, World};
+use interface::{ANSWER_SIZE, RECORDER_SIZE, RECORDS_SIZE, REGISTERS_SIZE};
+
+/// The suite's name.
+pub const NAME: &str = "malformed";
+
+/// Calls.
+pub const CALLS: u64 = 9 * 500;
+
+/// The arguments of any call.
+#[derive(Clone, PartialEq, Eq)]
+struct Arguments {
+    registers: Vec<u8>,
+    image: Vec<u8>,
+    write: u8,
+    answer: Vec<u8>,
+    records: Vec<u8>,
+    recorder: Vec<u8>,
+}
+
+/// A length other than the right one.
+fn resized(random: &mut Random, bytes: &mut Vec<u8>) {
+    let right = bytes.len();
+    let wrong = [0, 1, right - 1, right + 1, 2 * right, 4096];
+    let length = random.pick(&wrong);
+    bytes.resize(if length == right { right + 2 } else { length }, 0);
+}
+
+/// Sets a bit that has to be zero, or changes the length.
+fn spoil_registers(random: &mut Random, registers: &mut Vec<u8>) {
+    let (byte, bit) = match random.below(6) {
+        0 => return resized(random, registers),
+        1 => (2, 6 + random.below(2)),
+        2 => (3, 4 + random.below(4)),
+        _ => (5 + random.below(3), random.below(8)),
+    };
+    registers[byte as usize] |= 1 << bit;
+}
+
+/// Sets overflow to something other than 0 or 1, or changes the length.
+fn spoil_recorder(random: &mut Random, recorder: &mut Vec<u8>) {
+    if random.coin() {
+        return resized(random, recorder);
+    }
+    recorder[1] = 2 + random.below(254) as u8;
+}
+
+/// A kind that no answer has, or another length.
+fn spoil_recorded(random: &mut Random, answer: &mut Vec<u8>) {
+    if random.coin() {
+        return resized(random, answer);
+    }
+    answer[0] = 6 + random.below(250) as u8;
+}
+
+/// What is called, and what is wrong with it.
+fn spoil(random: &mut Random, which: u64, arguments: &mut Arguments) -> (Call, u32) {
+    match which {
+        0 | 1 => spoil_registers(random, &mut arguments.registers),
+        2 | 3 => resized(random, &mut arguments.answer),
+        4 => arguments.write = 2 + random.below(254) as u8,
+        5 => spoil_recorded(random, &mut arguments.answer),
+        _ => spoil_recorder(random, &mut arguments.recorder),
+    }
+    match which {
+        0 => (Call::Memory, 0x101),
+        1 => (Call::Interrupt, 0x101),
+        2 => (Call::Memory, 0x102),
+        3 => (Call::Interrupt, 0x102),
+        4 => (Call::Memory, 0x103),
+        5 => (Call::Record, 0x102),
+        6 => (Call::Record, 0x104),
+        7 => (Call::ClearSlot, 0x104),
+        _ => (Call::ClearOverflow, 0x104),
+    }
+}
+
+fn call(which: Call, arguments: &mut Arguments) -> u32 {
+    let Arguments {
+        registers,
+        image,
+        write,
+        answer,
+        records,
+        recorder,
+    } = arguments;
+    match which {
+        Call::Memory => {
+            interface::memory_request(registers, image, bench::SOURCE, 0x4020_1ABC, *write, answer)
+        }
+        Call::Interrupt => {
+            interface::interrupt_request(registers, image, bench::SOURCE, 0xFEE0_0090, 0, answer)
+        }
+        Call::Record => interface::record(answer, records, recorder),
+        Call::ClearSlot => interface::clear_slot(records, recorder, 0),
+        Call::ClearOverflow => interface::clear_overflow(records, recorder),
+    }
+}
+
+/// Makes the call of a number.
+pub fn run(number: u64, tally: Option<&mut Tally>) -> Result<(), String> {
+    let mut random = Random::of(NAME, number);
+    let mut world = World::new();
+    bench::image(&mut world, bench::REGISTERS);
+    let mut before = Arguments {
+        registers: bytes::registers(&bench::REGISTERS).to_vec(),
+        image: world.image,
+        write: 0,
+        answer: [0; ANSWER_SIZE].to_vec(),
+        records: [0xFF; RECORDS_SIZE].to_vec(),
+        recorder: [0; RECORDER_SIZE].to_vec(),
+    };
+    debug_assert_eq!(before.registers.len(), REGISTERS_SIZE);
+    let (which, expected) = spoil(&mut random, number % 9, &mut before);
+    let mut after = before.clone();
+    let status = call(which, &mut after);
+    if status != expected || after != before {
+        return Err(format!(
+            "{which}: expected {expected:X}, Galitzaf {status:X}; arguments unchanged: {}",
+            after == before
+        ));
+    }
+    if let Some(tally) = tally {
+        tally.cases += 1;
+        tally.meet(Met::Malformed {
+            call: which,
+            status,
+        });
+    }
+    Ok(())
+}

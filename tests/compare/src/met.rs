@@ -1,0 +1,214 @@
+//! What was met: each outcome that document 01 has, told apart further by how it came about.
+
+use std::fmt;
+
+/// A kind of answer, of a call, or of an entry that a request read.
+#[derive(Clone, Copy, Debug, PartialEq, Eq, PartialOrd, Ord)]
+pub enum Met {
+    /// A memory request refused, by number.
+    MemoryRefused(u8),
+    /// Granted with TE off.
+    GrantedOff,
+    /// Granted by pass-through, with so many levels.
+    GrantedThrough { levels: u64 },
+    /// Granted by a walk that ended at this level.
+    GrantedPage { leaf: u64, levels: u64 },
+    /// A memory request blocked.
+    MemoryBlocked { reason: u8, recordable: bool },
+    /// An interrupt refused, by number.
+    InterruptRefused(u8),
+    /// Passed with IRE off.
+    PassedOff,
+    /// Passed in the old format.
+    PassedOld,
+    /// Remapped, with SVT and, where that is 1, SQ.
+    Remapped { svt: u64, sq: u64 },
+    /// Posted with a notice.
+    Notified,
+    /// Posted without, since ON, SN or both were set.
+    Posted { on: bool, sn: bool },
+    /// An interrupt blocked.
+    InterruptBlocked { reason: u8, recordable: bool },
+    /// A recorder call, by what it answered.
+    Recorder { call: Call, status: u32 },
+    /// A malformed call, by what it answered.
+    Malformed { call: Call, status: u32 },
+    /// A context entry with this AW was read.
+    Width(u64),
+    /// A context entry with this TT was read.
+    Type(u64),
+    /// An interrupt entry with these SVT and SQ was read.
+    Validation { svt: u64, sq: u64 },
+    /// An entry for remapping or posting was read, with posting and EIME off or on.
+    Format {
+        posted: bool,
+        posting: bool,
+        eime: bool,
+    },
+    /// An interrupt in the old format, with EIME and CFIS off or on.
+    OldFormat { eime: bool, cfis: bool },
+    /// A word of the root entry was walked as a page entry.
+    PageOverRoot,
+    /// A word of the context entry was walked as a page entry.
+    PageOverContext,
+    /// A page entry was walked at two levels.
+    PageTwice,
+    /// A descriptor was read that holds the entry which leads to it.
+    DescriptorOverEntry,
+    /// The last entry read ends where the image ends.
+    AtTheEnd(Kind),
+    /// An entry couldn't be fetched for want of one byte.
+    OneByteShort(Kind),
+}
+
+/// A call of the C interface.
+#[derive(Clone, Copy, Debug, PartialEq, Eq, PartialOrd, Ord)]
+pub enum Call {
+    /// `galitzaf_memory_request`.
+    Memory,
+    /// `galitzaf_interrupt_request`.
+    Interrupt,
+    /// `galitzaf_record`.
+    Record,
+    /// `galitzaf_clear_slot`.
+    ClearSlot,
+    /// `galitzaf_clear_overflow`.
+    ClearOverflow,
+}
+
+/// A kind of entry.
+#[derive(Clone, Copy, Debug, PartialEq, Eq, PartialOrd, Ord)]
+pub enum Kind {
+    /// A root entry.
+    Root,
+    /// A context entry.
+    Context,
+    /// A page entry.
+    Page,
+    /// An interrupt entry.
+    Interrupt,
+    /// A posted descriptor.
+    Descriptor,
+}
+
+impl fmt::Display for Met {
+    fn fmt(&self, f: &mut fmt::Formatter<'_>) -> fmt::Result {
+        match *self {
+            Met::MemoryRefused(number) => write!(f, "memory: refused {number}"),
+            Met::GrantedOff => write!(f, "memory: granted, TE off"),
+            Met::GrantedThrough { levels } => {
+                write!(f, "memory: granted, pass-through, {levels} levels")
+            }
+            Met::GrantedPage { leaf, levels } => {
+                let size = ["4 KiB", "2 MiB", "1 GiB"][leaf as usize - 1];
+                write!(f, "memory: granted, {size} page, {levels} levels")
+            }
+            Met::MemoryBlocked { reason, recordable } => {
+                write!(f, "memory: {reason:02X}h, {}", recorded(recordable))
+            }
+            Met::InterruptRefused(number) => write!(f, "interrupt: refused {number}"),
+            Met::PassedOff => write!(f, "interrupt: passed, IRE off"),
+            Met::PassedOld => write!(f, "interrupt: passed, old format"),
+            Met::Remapped { svt: 1, sq } => write!(f, "interrupt: remapped, SVT 1, SQ {sq}"),
+            Met::Remapped { svt, .. } => write!(f, "interrupt: remapped, SVT {svt}"),
+            Met::Notified => write!(f, "interrupt: posted, notice"),
+            Met::Posted { on, sn } => {
+                let set = match (on, sn) {
+                    (true, true) => "ON and SN set",
+                    (true, false) => "ON set",
+                    _ => "SN set",
+                };
+                write!(f, "interrupt: posted, no notice, {set}")
+            }
+            Met::InterruptBlocked { reason, recordable } => {
+                write!(f, "interrupt: {reason:02X}h, {}", recorded(recordable))
+            }
+            Met::Recorder { call, status } => write!(f, "recorder: {call}, {}", said(status)),
+            Met::Malformed { call, status } => write!(f, "malformed: {call}, {}", said(status)),
+            Met::Width(aw) => write!(f, "context entry read: AW {aw}"),
+            Met::Type(tt) => write!(f, "context entry read: TT {tt}"),
+            Met::Validation { svt, sq } => write!(f, "interrupt entry read: SVT {svt}, SQ {sq}"),
+            Met::Format {
+                posted,
+                posting,
+                eime,
+            } => {
+                let format = if posted { "posted" } else { "remapped" };
+                let (posting, eime) = (on(posting), on(eime));
+                let switches = format_args!("posting {posting}, EIME {eime}");
+                write!(f, "interrupt entry read: {format}, {switches}")
+            }
+            Met::OldFormat { eime, cfis } => {
+                let (eime, cfis) = (on(eime), on(cfis));
+                write!(f, "old format: EIME {eime}, CFIS {cfis}")
+            }
+            Met::PageOverRoot => write!(f, "page entry over the root entry"),
+            Met::PageOverContext => write!(f, "page entry over the context entry"),
+            Met::PageTwice => write!(f, "page entry at two levels"),
+            Met::DescriptorOverEntry => write!(f, "descriptor over its own entry"),
+            Met::AtTheEnd(kind) => write!(f, "ends with the image: {kind}"),
+            Met::OneByteShort(kind) => write!(f, "one byte short: {kind}"),
+        }
+    }
+}
+
+fn on(switch: bool) -> &'static str {
+    if switch {
+        "on"
+    } else {
+        "off"
+    }
+}
+
+fn recorded(recordable: bool) -> &'static str {
+    if recordable {
+        "recordable"
+    } else {
+        "silenced"
+    }
+}
+
+/// What a call answers, in the header's words.
+fn said(status: u32) -> &'static str {
+    match status {
+        0x03 => "refused 3",
+        0x10 => "no fault",
+        0x11 => "not recordable",
+        0x12 => "dropped",
+        0x13 => "overflowed",
+        0x14 => "written",
+        0x20 => "slot clear",
+        0x21 => "slot cleared",
+        0x30 => "overflow clear",
+        0x31 => "overflow cleared",
+        0x101 => "bad registers",
+        0x102 => "bad answer",
+        0x103 => "bad kind",
+        0x104 => "bad recorder",
+        _ => "something else",
+    }
+}
+
+impl fmt::Display for Call {
+    fn fmt(&self, f: &mut fmt::Formatter<'_>) -> fmt::Result {
+        f.write_str(match self {
+            Call::Memory => "memory request",
+            Call::Interrupt => "interrupt request",
+            Call::Record => "record",
+            Call::ClearSlot => "clear slot",
+            Call::ClearOverflow => "clear overflow",
+        })
+    }
+}
+
+impl fmt::Display for Kind {
+    fn fmt(&self, f: &mut fmt::Formatter<'_>) -> fmt::Result {
+        f.write_str(match self {
+            Kind::Root => "root entry",
+            Kind::Context => "context entry",
+            Kind::Page => "page entry",
+            Kind::Interrupt => "interrupt entry",
+            Kind::Descriptor => "descriptor",
+        })
+    }
+}

@@ -1,0 +1,120 @@
+//! All that has to be met: document 01's outcomes, and its entries in each form.
+
+use crate::met::{Call, Kind, Met};
+
+/// The fault reasons of memory requests that FPD silences.
+const SILENCED_MEMORY: [u8; 8] = [0x02, 0x03, 0x04, 0x05, 0x06, 0x07, 0x0B, 0x0C];
+
+/// Those of interrupts.
+const SILENCED_INTERRUPT: [u8; 5] = [0x22, 0x24, 0x26, 0x27, 0x28];
+
+fn memory(wanted: &mut Vec<Met>) {
+    wanted.extend([1, 2].map(Met::MemoryRefused));
+    wanted.push(Met::GrantedOff);
+    for levels in 3..=5 {
+        wanted.push(Met::GrantedThrough { levels });
+        wanted.extend((1..=3).map(|leaf| Met::GrantedPage { leaf, levels }));
+    }
+    for reason in 0x01..=0x0C {
+        let recordable = true;
+        wanted.push(Met::MemoryBlocked { reason, recordable });
+    }
+    wanted.extend(SILENCED_MEMORY.map(|reason| Met::MemoryBlocked {
+        reason,
+        recordable: false,
+    }));
+}
+
+fn interrupts(wanted: &mut Vec<Met>) {
+    wanted.extend([1, 2].map(Met::InterruptRefused));
+    wanted.extend([Met::PassedOff, Met::PassedOld, Met::Notified]);
+    wanted.extend([0, 2].map(|svt| Met::Remapped { svt, sq: 0 }));
+    wanted.extend([0, 1, 2, 3].map(|sq| Met::Remapped { svt: 1, sq }));
+    for (on, sn) in [(true, false), (false, true), (true, true)] {
+        wanted.push(Met::Posted { on, sn });
+    }
+    for reason in 0x20..=0x28 {
+        let recordable = true;
+        wanted.push(Met::InterruptBlocked { reason, recordable });
+    }
+    wanted.extend(SILENCED_INTERRUPT.map(|reason| Met::InterruptBlocked {
+        reason,
+        recordable: false,
+    }));
+}
+
+fn recorder(wanted: &mut Vec<Met>) {
+    for status in [0x03, 0x10, 0x11, 0x12, 0x13, 0x14] {
+        let call = Call::Record;
+        wanted.push(Met::Recorder { call, status });
+    }
+    for status in [0x03, 0x20, 0x21] {
+        let call = Call::ClearSlot;
+        wanted.push(Met::Recorder { call, status });
+    }
+    for status in [0x03, 0x30, 0x31] {
+        let call = Call::ClearOverflow;
+        wanted.push(Met::Recorder { call, status });
+    }
+}
+
+fn malformed(wanted: &mut Vec<Met>) {
+    for (call, statuses) in [
+        (Call::Memory, [0x101, 0x102, 0x103].as_slice()),
+        (Call::Interrupt, &[0x101, 0x102]),
+        (Call::Record, &[0x102, 0x104]),
+        (Call::ClearSlot, &[0x104]),
+        (Call::ClearOverflow, &[0x104]),
+    ] {
+        wanted.extend(
+            statuses
+                .iter()
+                .map(|&status| Met::Malformed { call, status }),
+        );
+    }
+}
+
+fn entries(wanted: &mut Vec<Met>) {
+    wanted.extend((0..8).map(Met::Width));
+    wanted.extend((0..4).map(Met::Type));
+    for svt in 0..4 {
+        wanted.extend((0..4).map(|sq| Met::Validation { svt, sq }));
+    }
+    for (first, second) in [(false, false), (false, true), (true, false), (true, true)] {
+        wanted.push(Met::OldFormat {
+            eime: first,
+            cfis: second,
+        });
+        wanted.extend([false, true].map(|posted| Met::Format {
+            posted,
+            posting: first,
+            eime: second,
+        }));
+    }
+    wanted.extend([
+        Met::PageOverRoot,
+        Met::PageOverContext,
+        Met::PageTwice,
+        Met::DescriptorOverEntry,
+    ]);
+    let kinds = [
+        Kind::Root,
+        Kind::Context,
+        Kind::Page,
+        Kind::Interrupt,
+        Kind::Descriptor,
+    ];
+    wanted.extend(kinds.map(Met::AtTheEnd));
+    wanted.extend(kinds.map(Met::OneByteShort));
+}
+
+/// All of them.
+pub fn all() -> Vec<Met> {
+    let mut wanted = Vec::new();
+    memory(&mut wanted);
+    interrupts(&mut wanted);
+    recorder(&mut wanted);
+    malformed(&mut wanted);
+    entries(&mut wanted);
+    wanted
+}
