@@ -1,0 +1,20 @@
+//! An ordinary VT-d translator in Rust, written to be shipped: it gives the answers of document 01
+//! by masks and early returns, without copying or allocating.
+//!
+//! It is what the proved unit is measured against. Nothing about it is proved;
+//! `tests/against_reference.rs` compares it with the reference.
+
+#![forbid(unsafe_code)]
+
+mod fault;
+mod fetch;
+mod interrupt;
+mod memory;
+mod registers;
+mod unit;
+
+pub use fault::Fault;
+pub use interrupt::{interrupt_request, InterruptAnswer, Notice, Remapped};
+pub use memory::{memory_request, MemoryAnswer};
+pub use registers::Registers;
+pub use unit::Unit;

@@ -1,0 +1,174 @@
+//! Memory requests.
+
+use crate::fetch::{pair, word};
+use crate::unit::in_interrupt_range;
+use crate::{Fault, Registers, Unit};
+
+/// What becomes of a memory request.
+#[derive(Clone, Copy, Debug, PartialEq, Eq)]
+pub enum MemoryAnswer {
+    /// The host address.
+    Granted(u64),
+    /// Blocked by a fault.
+    Blocked(Fault),
+    /// Refused, by number.
+    Refused(u8),
+}
+
+const READ: u64 = 1 << 0;
+const WRITE: u64 = 1 << 1;
+const LARGE: u64 = 1 << 7;
+/// Bits 51:12 of a page entry.
+const FRAME: u64 = 0x000F_FFFF_FFFF_F000;
+/// Bits 11:4 of a context entry's low word, and bits 71 and 127:88 in its high word.
+const CONTEXT_RESERVED: (u64, u64) = (0xFF0, 0xFFFF_FFFF_FF00_0080);
+
+/// A device's request.
+#[derive(Clone, Copy)]
+struct Request {
+    source: u16,
+    address: u64,
+    write: bool,
+}
+
+/// Answers a memory request, the registers checked first.
+#[inline(never)]
+pub fn memory_request(
+    registers: &Registers,
+    image: &[u8],
+    source: u16,
+    address: u64,
+    write: bool,
+) -> MemoryAnswer {
+    let request = Request {
+        source,
+        address,
+        write,
+    };
+    match Unit::new(registers) {
+        Some(unit) => unit.answer(image, request),
+        None => MemoryAnswer::Refused(1),
+    }
+}
+
+impl Unit {
+    /// Answers a memory request.
+    #[inline(never)]
+    pub fn memory_request(
+        &self,
+        image: &[u8],
+        source: u16,
+        address: u64,
+        write: bool,
+    ) -> MemoryAnswer {
+        let request = Request {
+            source,
+            address,
+            write,
+        };
+        self.answer(image, request)
+    }
+
+    #[inline]
+    fn answer(&self, image: &[u8], request: Request) -> MemoryAnswer {
+        if in_interrupt_range(request.address) {
+            return MemoryAnswer::Refused(2);
+        }
+        if !self.registers.te {
+            return MemoryAnswer::Granted(request.address);
+        }
+        let mut fpd = false;
+        match self.translate(image, request, &mut fpd) {
+            Ok(host) => MemoryAnswer::Granted(host),
+            Err(reason) => {
+                let Request {
+                    source,
+                    address,
+                    write,
+                } = request;
+                MemoryAnswer::Blocked(Fault::memory(reason, fpd, source, address, write))
+            }
+        }
+    }
+
+    /// The host address, or the reason why there is none.
+    #[inline]
+    fn translate(&self, image: &[u8], request: Request, fpd: &mut bool) -> Result<u64, u8> {
+        let bus = u64::from(request.source >> 8);
+        let devfn = u64::from(request.source & 0xFF);
+
+        let (low, high) = pair(image, self.registers.root_table + 16 * bus).ok_or(0x08)?;
+        if low & 1 == 0 {
+            return Err(0x01);
+        }
+        if low & (0xFFE | self.beyond) != 0 || high != 0 {
+            return Err(0x0A);
+        }
+
+        let (low, high) = pair(image, (low & !0xFFF) + 16 * devfn).ok_or(0x09)?;
+        *fpd = low & 2 != 0;
+        if low & 1 == 0 {
+            return Err(0x02);
+        }
+        if low & (CONTEXT_RESERVED.0 | self.beyond) != 0 || high & CONTEXT_RESERVED.1 != 0 {
+            return Err(0x0B);
+        }
+        let width = high & 7;
+        let kind = low >> 2 & 3;
+        if !(1..=3).contains(&width) || self.registers.widths >> width & 1 == 0 || kind == 3 {
+            return Err(0x03);
+        }
+        let levels = width as u32 + 2;
+        let bits = (12 + 9 * levels).min(u32::from(self.registers.mgaw));
+        if request.address >> bits != 0 {
+            return Err(0x04);
+        }
+        if kind == 2 {
+            return Ok(request.address);
+        }
+        self.walk(image, request, low & !0xFFF, levels)
+    }
+
+    #[inline]
+    fn walk(&self, image: &[u8], request: Request, top: u64, levels: u32) -> Result<u64, u8> {
+        let (right, denied) = if request.write {
+            (WRITE, 0x05)
+        } else {
+            (READ, 0x06)
+        };
+        let beyond = self.beyond & FRAME;
+        let mut table = top;
+        let mut shift = 12 + 9 * (levels - 1);
+        loop {
+            let index = request.address >> shift & 0x1FF;
+            let entry = word(image, table + 8 * index).ok_or(0x07)?;
+            if entry & (READ | WRITE) == 0 {
+                return Err(denied);
+            }
+            let large = entry & LARGE != 0 && shift > 12;
+            if entry & beyond != 0 || large && !self.is_large_page(entry, shift) {
+                return Err(0x0C);
+            }
+            if entry & right == 0 {
+                return Err(denied);
+            }
+            let frame = entry & FRAME;
+            if large || shift == 12 {
+                return Ok(frame | request.address & !(u64::MAX << shift));
+            }
+            table = frame;
+            shift -= 9;
+        }
+    }
+
+    /// Whether an entry with bit 7 set is a large page of 2^`shift` bytes: supported, and aligned.
+    #[inline]
+    fn is_large_page(&self, entry: u64, shift: u32) -> bool {
+        let supported = match shift {
+            21 => self.registers.pages_2m,
+            30 => self.registers.pages_1g,
+            _ => false,
+        };
+        supported && entry & FRAME & !(u64::MAX << shift) == 0
+    }
+}

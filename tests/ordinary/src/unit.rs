@@ -1,0 +1,28 @@
+//! A unit whose registers were checked.
+
+use crate::Registers;
+
+/// Registers in their ranges, and the masks that follow from them.
+#[derive(Clone, Copy, Debug)]
+pub struct Unit {
+    pub(crate) registers: Registers,
+    /// Address bits from HAW up.
+    pub(crate) beyond: u64,
+}
+
+impl Unit {
+    /// Refuses registers outside their ranges.
+    #[inline]
+    pub fn new(registers: &Registers) -> Option<Self> {
+        registers.are_good().then(|| Self {
+            registers: *registers,
+            beyond: u64::MAX << registers.haw,
+        })
+    }
+}
+
+/// FEE00000h to FEEFFFFFh.
+#[inline]
+pub(crate) fn in_interrupt_range(address: u64) -> bool {
+    address >> 20 == 0xFEE
+}

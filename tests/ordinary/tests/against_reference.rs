@@ -1,0 +1,135 @@
+//! The ordinary translator against the reference, over part of each suite.
+
+use cases::{Request, World, SUITES};
+use ordinary::{Fault, InterruptAnswer, MemoryAnswer, Registers, Unit};
+use reference::{Notice, Outcome};
+
+/// Of each suite, one world in so many.
+const PART: usize = 8;
+
+/// Cases at the least.
+const CASES: u64 = 500_000;
+
+fn registers(r: &reference::Registers) -> Registers {
+    let widths = [r.levels3, r.levels4, r.levels5];
+    let numbered = widths.into_iter().zip(1..);
+    Registers {
+        haw: r.haw,
+        mgaw: r.mgaw,
+        widths: numbered.fold(0, |set, (width, n)| set | u8::from(width) << n),
+        pages_2m: r.pages_2m,
+        pages_1g: r.pages_1g,
+        posting: r.posting,
+        root_table: r.root,
+        interrupt_table: r.interrupt_table,
+        s: r.s,
+        te: r.te,
+        ire: r.ire,
+        eime: r.eime,
+        cfis: r.cfis,
+    }
+}
+
+fn blocked(fault: Fault) -> Outcome {
+    let [low, high] = fault.record.map(u64::to_le_bytes);
+    let mut record = [0; 16];
+    record[..8].copy_from_slice(&low);
+    record[8..].copy_from_slice(&high);
+    Outcome::Blocked(reference::Fault {
+        reason: fault.reason,
+        recordable: fault.recordable,
+        record,
+    })
+}
+
+fn memory(answer: MemoryAnswer) -> Outcome {
+    match answer {
+        MemoryAnswer::Granted(address) => Outcome::Granted(address),
+        MemoryAnswer::Blocked(fault) => blocked(fault),
+        MemoryAnswer::Refused(number) => Outcome::Refused(number),
+    }
+}
+
+fn interrupt(answer: InterruptAnswer) -> Outcome {
+    match answer {
+        InterruptAnswer::Passed => Outcome::Passed,
+        InterruptAnswer::Remapped(to) => {
+            let mode = |bit: u8| to.modes >> bit & 1 == 1;
+            Outcome::Remapped {
+                destination_mode: mode(0),
+                redirection_hint: mode(1),
+                trigger: mode(2),
+                delivery: to.delivery,
+                vector: to.vector,
+                destination: to.destination,
+            }
+        }
+        InterruptAnswer::Posted(notice) => Outcome::Posted {
+            notice: notice.map(|notice| Notice {
+                vector: notice.vector,
+                destination: notice.destination,
+            }),
+        },
+        InterruptAnswer::Blocked(fault) => blocked(fault),
+        InterruptAnswer::Refused(number) => Outcome::Refused(number),
+    }
+}
+
+/// Puts one request to both, and to the unit whose registers were checked before.
+fn compare(world: &World, request: &Request, ours: &mut Vec<u8>, theirs: &mut [u8]) {
+    let (r, registers) = (&world.registers, registers(&world.registers));
+    let unit = Unit::new(&registers);
+    let (answer, again, expected) = match *request {
+        Request::Memory {
+            source,
+            address,
+            write,
+        } => (
+            memory(ordinary::memory_request(
+                &registers, ours, source, address, write,
+            )),
+            unit.map(|unit| memory(unit.memory_request(ours, source, address, write))),
+            reference::memory_request(r, theirs, source, address, write),
+        ),
+        Request::Interrupt {
+            source,
+            address,
+            data,
+        } => {
+            let mut copy = ours.clone();
+            let again = unit
+                .map(|unit| interrupt(unit.interrupt_request(&mut copy, source, address, data)));
+            let answer = ordinary::interrupt_request(&registers, ours, source, address, data);
+            let expected = reference::interrupt_request(r, theirs, source, address, data);
+            if again.is_some() {
+                assert!(copy == *ours, "{r:X?} {request:X?}");
+            }
+            (interrupt(answer), again, expected)
+        }
+    };
+    assert_eq!(answer, expected, "{r:X?} {request:X?}");
+    assert_eq!(
+        again.unwrap_or(Outcome::Refused(1)),
+        expected,
+        "{r:X?} {request:X?}"
+    );
+    assert!(ours == theirs, "{r:X?} {request:X?}");
+}
+
+#[test]
+fn the_same_answers() {
+    let mut world = World::new();
+    let mut cases = 0;
+    for suite in SUITES {
+        for number in (0..suite.worlds).step_by(PART) {
+            (suite.build)(number, &mut world);
+            let mut ours = world.image.clone();
+            let mut theirs = world.image.clone();
+            for request in &world.requests {
+                compare(&world, request, &mut ours, &mut theirs);
+                cases += 1;
+            }
+        }
+    }
+    assert!(cases >= CASES, "only {cases} cases");
+}
