@@ -58,6 +58,7 @@ impl Flaw {
 impl fmt::Display for Flaw {
     fn fmt(&self, f: &mut fmt::Formatter<'_>) -> fmt::Result {
         match self {
+            Flaw::None => f.write_str("no flaw"),
             Flaw::Known(slip) => write!(f, "{slip:?}"),
             other => write!(f, "{other:?}"),
         }

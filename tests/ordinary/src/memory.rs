@@ -51,7 +51,7 @@ pub fn memory_request(
     }
 }
 
-impl Unit {
+impl Unit<'_> {
     /// Answers a memory request.
     #[inline(never)]
     pub fn memory_request(
@@ -92,7 +92,7 @@ impl Unit {
     }
 
     /// The host address, or the reason why there is none.
-    #[inline]
+    #[inline(always)]
     fn translate(&self, image: &[u8], request: Request, fpd: &mut bool) -> Result<u64, u8> {
         let bus = u64::from(request.source >> 8);
         let devfn = u64::from(request.source & 0xFF);
@@ -129,7 +129,7 @@ impl Unit {
         self.walk(image, request, low & !0xFFF, levels)
     }
 
-    #[inline]
+    #[inline(always)]
     fn walk(&self, image: &[u8], request: Request, top: u64, levels: u32) -> Result<u64, u8> {
         let (right, denied) = if request.write {
             (WRITE, 0x05)

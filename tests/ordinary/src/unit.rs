@@ -4,18 +4,18 @@ use crate::Registers;
 
 /// Registers in their ranges, and the masks that follow from them.
 #[derive(Clone, Copy, Debug)]
-pub struct Unit {
-    pub(crate) registers: Registers,
+pub struct Unit<'a> {
+    pub(crate) registers: &'a Registers,
     /// Address bits from HAW up.
     pub(crate) beyond: u64,
 }
 
-impl Unit {
+impl<'a> Unit<'a> {
     /// Refuses registers outside their ranges.
     #[inline]
-    pub fn new(registers: &Registers) -> Option<Self> {
+    pub fn new(registers: &'a Registers) -> Option<Self> {
         registers.are_good().then(|| Self {
-            registers: *registers,
+            registers,
             beyond: u64::MAX << registers.haw,
         })
     }

@@ -3,10 +3,12 @@
 mod addresses;
 mod bench_bits;
 mod bench_lengths;
+mod bench_pairs;
 mod both;
 mod indexes;
 mod interrupts;
 mod register_bounds;
+mod rights;
 mod self_referring;
 mod table_bounds;
 mod walks;
@@ -27,10 +29,12 @@ pub struct Suite {
 /// All of them.
 pub const SUITES: &[Suite] = &[
     bench_bits::SUITE,
+    bench_pairs::SUITE,
     bench_lengths::SUITE,
     register_bounds::SUITE,
     table_bounds::SUITE,
     addresses::SUITE,
+    rights::SUITE,
     walks::SUITE,
     self_referring::SUITE,
     interrupts::SUITE,

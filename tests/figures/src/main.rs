@@ -1,0 +1,74 @@
+//! Measures the proved unit beside the ordinary translator, in one process, over the same registers,
+//! images and requests, and prints a table.
+//!
+//!     figures                  the table
+//!     figures --load ROW SIDE  one row's requests, some thousand of them, for valgrind to count
+
+#![forbid(unsafe_code)]
+
+mod agree;
+mod count;
+mod load;
+mod rows;
+mod sides;
+mod time;
+
+use rows::{Row, ROWS};
+use sides::{Prepared, Side};
+use std::process::ExitCode;
+
+/// The table's head, as docs/PERFORMANCE.md has it.
+const HEAD: &str = "\
+| load | requests timed | proved, ns | ordinary, ns | ratio | 10% to 90% of rounds | checked once, ns | ratio | \
+instructions: proved | ordinary | checked once |
+|---|---|---|---|---|---|---|---|---|---|---|";
+
+fn print(number: usize, row: &Row) -> bool {
+    let load = (row.make)();
+    let prepared = Prepared::of(&load);
+    if !agree::agree(&load, &prepared) {
+        println!("{}: the two sides answer differently", row.name);
+        return false;
+    }
+    let times = time::measure(&load, &prepared, row.passes);
+    let (ratio, low, high) = times.ratio(Side::Ordinary);
+    let (once, ..) = times.ratio(Side::CheckedOnce);
+    let [proved, ordinary, checked] = Side::ALL.map(|side| times.best(side));
+    let counts = count::instructions(number, &load);
+    let counts = counts.map_or(["-".into(), "-".into(), "-".into()], |counts| {
+        counts.map(|count| format!("{count:.0}"))
+    });
+    println!(
+        "| {} | {} | {proved:.1} | {ordinary:.1} | {ratio:.2} | {low:.2} to {high:.2} | {checked:.1} \
+         | {once:.2} | {} |",
+        row.name,
+        time::ROUNDS * row.passes * load.requests.len(),
+        counts.join(" | ")
+    );
+    true
+}
+
+fn main() -> ExitCode {
+    let arguments: Vec<String> = std::env::args().skip(1).collect();
+    let arguments: Vec<&str> = arguments.iter().map(String::as_str).collect();
+    match arguments[..] {
+        [] => {
+            println!("{HEAD}");
+            let good = ROWS.iter().enumerate().all(|(n, row)| print(n, row));
+            if good {
+                ExitCode::SUCCESS
+            } else {
+                ExitCode::FAILURE
+            }
+        }
+        [count::ARGUMENT, row, side] => {
+            let Some(row) = row.parse().ok().and_then(|n: usize| ROWS.get(n)) else {
+                return ExitCode::from(2);
+            };
+            let load = (row.make)();
+            count::counted(&load, &Prepared::of(&load), side);
+            ExitCode::SUCCESS
+        }
+        _ => ExitCode::from(2),
+    }
+}

@@ -1,0 +1,226 @@
+//! The rows of the table.
+
+use crate::load::{Interrupt, Load, Memory, Requests};
+use galitzaf::{Levels, Registers};
+
+/// A row: what it is called, how often a round goes through its requests, and how it is made.
+pub struct Row {
+    /// Its name.
+    pub name: &'static str,
+    /// Times that a round goes through its requests.
+    pub passes: usize,
+    /// Makes its load.
+    pub make: fn() -> Load,
+}
+
+/// The rows, in the table's order.
+pub const ROWS: &[Row] = &[
+    Row {
+        name: "case 1 reads",
+        passes: 250,
+        make: case_1,
+    },
+    Row {
+        name: "streaming, 4 KiB pages",
+        passes: 10,
+        make: || streamed(pages_4k()),
+    },
+    Row {
+        name: "streaming, 2 MiB pages",
+        passes: 10,
+        make: || streamed(pages_2m()),
+    },
+    Row {
+        name: "random over 64 MiB, 4 KiB pages",
+        passes: 10,
+        make: || shuffled(pages_4k()),
+    },
+    Row {
+        name: "faults 05h, 06h, 07h",
+        passes: 100,
+        make: faults,
+    },
+    Row {
+        name: "remapped interrupts",
+        passes: 150,
+        make: remapped,
+    },
+    Row {
+        name: "posted, notice due",
+        passes: 150,
+        make: posted_with_notice,
+    },
+    Row {
+        name: "posted, ON already set",
+        passes: 150,
+        make: posted,
+    },
+];
+
+const SOURCE: u16 = 0x0310;
+
+/// How often a row of one request has it, so that a round's loop is long.
+const REPEATED: usize = 1000;
+
+/// Document 01's bench image.
+fn bench(requests: Requests) -> Load {
+    let mut load = Load {
+        registers: Registers {
+            haw: 39,
+            mgaw: 48,
+            levels: Levels {
+                three: true,
+                four: true,
+                five: false,
+            },
+            pages_2m: true,
+            pages_1g: true,
+            posting: true,
+            root_table: 0x1000,
+            interrupt_table: 0x6000,
+            s: 3,
+            te: true,
+            ire: true,
+            eime: false,
+            cfis: false,
+        },
+        image: vec![0; 32_768],
+        requests,
+    };
+    for (address, word) in [
+        (0x1030, 0x2001),
+        (0x2100, 0x3001),
+        (0x2108, 0x501),
+        (0x3008, 0x4003),
+        (0x4008, 0x5003),
+        (0x4010, 0x4060_0083),
+        (0x4018, 0x9003),
+        (0x4020, 0x80_0000_0003),
+        (0x4028, 0x7003),
+        (0x5008, 0x1234_5001),
+        (0x7FF8, 0x2345_6003),
+        (0x6020, 0x0000_0700_0041_0001),
+        (0x6028, 0x40310),
+        (0x6040, 0x0000_6400_0031_8001),
+        (0x6420, 0x0000_0700_00F2_0000),
+    ] {
+        load.set(address, word);
+    }
+    load
+}
+
+fn memory(address: u64, write: bool) -> Memory {
+    Memory {
+        source: SOURCE,
+        address,
+        write,
+    }
+}
+
+fn case_1() -> Load {
+    bench(Requests::Memory(vec![memory(0x4020_1ABC, false); REPEATED]))
+}
+
+/// Cases 2, 3 and 5.
+fn faults() -> Load {
+    let three = [
+        memory(0x4020_1ABC, true),
+        memory(0x4020_2000, false),
+        memory(0x4060_0000, false),
+    ];
+    bench(Requests::Memory(three.repeat(REPEATED / 2)))
+}
+
+fn message(address: u64, rearm: Option<usize>) -> Requests {
+    let message = Interrupt {
+        source: SOURCE,
+        address,
+        data: 0,
+    };
+    Requests::Interrupts {
+        messages: vec![message; REPEATED],
+        rearm,
+    }
+}
+
+/// Case 10.
+fn remapped() -> Load {
+    bench(message(0xFEE0_0050, None))
+}
+
+/// Case 12, again and again: but for the first, ON is found set.
+fn posted() -> Load {
+    bench(message(0xFEE0_0090, None))
+}
+
+/// Case 12, with ON cleared before each.
+fn posted_with_notice() -> Load {
+    bench(message(0xFEE0_0090, Some(0x6420)))
+}
+
+/// Guest addresses that are streamed over: 64 MiB from 1 GiB on.
+const START: u64 = 1 << 30;
+const SPAN: u64 = 64 << 20;
+
+/// Root, context and the upper tables of a source with 4 levels; page 4 is the table of level 2.
+fn tables(pages: u64) -> Load {
+    let none = Requests::Memory(Vec::new());
+    let mut load = bench(none);
+    load.image = vec![0; 4096 * pages as usize];
+    load.set(0x1030, 0x2001);
+    load.set(0x2100, 0x3001);
+    load.set(0x2108, 2);
+    load.set(0x3000, 0x5003);
+    load.set(0x5000 + 8 * (START >> 30), 0x4003);
+    load
+}
+
+/// A read in each page of 4 KiB, one after the other.
+fn reads() -> Vec<Memory> {
+    (0..SPAN / 4096)
+        .map(|n| memory(START + 4096 * n + 8 * (n % 512), false))
+        .collect()
+}
+
+/// The span in pages of 4 KiB, each to a frame of its own.
+fn pages_4k() -> Load {
+    let tables_1 = SPAN >> 21;
+    let mut load = tables(6 + tables_1);
+    for table in 0..tables_1 {
+        let at = 4096 * (6 + table);
+        load.set(0x4000 + 8 * table, at | 3);
+        for n in 0..512 {
+            let frame = 0x10_0000_0000 + (512 * table + n) * 4096;
+            load.set(at + 8 * n, frame | 3);
+        }
+    }
+    load
+}
+
+/// The span in pages of 2 MiB.
+fn pages_2m() -> Load {
+    let mut load = tables(6);
+    for n in 0..SPAN >> 21 {
+        load.set(0x4000 + 8 * n, (0x10_0000_0000 + (n << 21)) | 0x83);
+    }
+    load
+}
+
+fn streamed(mut load: Load) -> Load {
+    load.requests = Requests::Memory(reads());
+    load
+}
+
+/// The same reads in another order, the same on every run.
+fn shuffled(mut load: Load) -> Load {
+    let mut reads = reads();
+    let mut state = 0x2545_F491_4F6C_DD1Du64;
+    for n in (1..reads.len()).rev() {
+        state ^= state << 13;
+        state ^= state >> 7;
+        state ^= state << 17;
+        reads.swap(n, (state % (n as u64 + 1)) as usize);
+    }
+    load.requests = Requests::Memory(reads);
+    load
+}
