@@ -30,7 +30,12 @@ two-stored buffer slot low high fits small tall laid =
 -- bit 127 is set where bit 63 of the high word is
 pub marked : (low high : ℕ) → low < 2 ^ 64 → spell (low ∷ (high % 2 ^ 63 + 2 ^ 63) ∷ []) ≡ set127 (spell (low ∷ high ∷ []))
 marked low high small =
-    rw (two-words low (high % 2 ^ 63 + 2 ^ 63), two-words low high, upper-mod (2 ^ 64) (2 ^ 63) low high (lit< tt) small, mul-add)
+    rw (
+      two-words low (high % 2 ^ 63 + 2 ^ 63),
+      two-words low high,
+      upper-mod (2 ^ 64) (2 ^ 63) low high (lit< tt) small,
+      mul-add,
+    )
     (sym (add-assoc low (2 ^ 64 * (high % 2 ^ 63)) (2 ^ 127)))
 
 -- a buffer of one slot is its record
@@ -54,7 +59,13 @@ byte-top b h = go (decLe 128 b)
 set-last : (buffer : List ℕ) (at n value : ℕ) → at + n < length buffer
     → set buffer (at + n) value ≡ take at buffer ++ (take n (drop at buffer) ++ value ∷ []) ++ drop (at + suc n) buffer
 set-last buffer at n value h =
-    rw (set-split buffer (at + n) value h, take-add at n buffer, ← append-assoc (take at buffer) (take n (drop at buffer)) (value ∷ []), append-snoc (take at buffer ++ take n (drop at buffer)) value (drop (at + suc n) buffer), add-suc at n)
+    rw (
+      set-split buffer (at + n) value h,
+      take-add at n buffer,
+      ← append-assoc (take at buffer) (take n (drop at buffer)) (value ∷ []),
+      append-snoc (take at buffer ++ take n (drop at buffer)) value (drop (at + suc n) buffer),
+      add-suc at n,
+    )
 
 module _ (buffer : List ℕ) (slot : ℕ) (fits : 16 * slot + 16 ≤ length buffer) (bytes : (i : ℕ) → getD buffer i 0 < 256) where
   below : littleEndian (take 15 (drop (16 * slot) buffer)) < 256 ^ 15
@@ -70,7 +81,10 @@ module _ (buffer : List ℕ) (slot : ℕ) (fits : 16 * slot + 16 ≤ length buff
   pub standing-byte : leb 128 (getD buffer (16 * slot + 15) 0) ≡ standing buffer slot
   unfolding standing bits
   standing-byte =
-      rw (record-split, upper-div (256 ^ 15) 128 (littleEndian (take 15 (drop (16 * slot) buffer))) (getD buffer (16 * slot + 15) 0) below)
+      rw (
+        record-split,
+        upper-div (256 ^ 15) 128 (littleEndian (take 15 (drop (16 * slot) buffer))) (getD buffer (16 * slot + 15) 0) below,
+      )
       (byte-top (getD buffer (16 * slot + 15) 0) (bytes (16 * slot + 15)))
 
   pub cleared-byte : set buffer (16 * slot + 15) (getD buffer (16 * slot + 15) 0 % 128)
@@ -79,5 +93,11 @@ module _ (buffer : List ℕ) (slot : ℕ) (fits : 16 * slot + 16 ≤ length buff
   cleared-byte =
       let last = getD buffer (16 * slot + 15) 0 in
       let rest = drop (16 * slot) buffer in
-      rw (record-split, upper-mod (256 ^ 15) 128 (littleEndian (take 15 rest)) last (lit< tt) below, ← bytes-beside 15 1 (littleEndian (take 15 rest)) (last % 128) below, bytes-back 15 rest (rw length-drop (omega arith)) (λ i. rw getD-drop (bytes (16 * slot + i))), one-byte (last % 128) (omega arith))
+      rw (
+        record-split,
+        upper-mod (256 ^ 15) 128 (littleEndian (take 15 rest)) last (lit< tt) below,
+        ← bytes-beside 15 1 (littleEndian (take 15 rest)) (last % 128) below,
+        bytes-back 15 rest (rw length-drop (omega arith)) (λ i. rw getD-drop (bytes (16 * slot + i))),
+        one-byte (last % 128) (omega arith),
+      )
       (set-last buffer (16 * slot) 15 (last % 128) (omega arith))

@@ -24,5 +24,14 @@ module _ (p m low high : ℕ) where
   pub upper-mod : zero < m → low < p → (low + p * high) % (p * m) ≡ low + p * (high % m)
   upper-mod pos h =
       let p-pos : zero < p = omega arith in
-      rw (mul-comm p m, mod-mul (low + p * high) {m = m} {c = p} pos p-pos, add-mul-div-left low high p-pos, div-eq-of-lt h, zero-add, add-mul-mod-self-left low p high, mod-eq-of-lt h, mul-comm (high % m) p)
+      rw (
+        mul-comm p m,
+        mod-mul (low + p * high) {m = m} {c = p} pos p-pos,
+        add-mul-div-left low high p-pos,
+        div-eq-of-lt h,
+        zero-add,
+        add-mul-mod-self-left low p high,
+        mod-eq-of-lt h,
+        mul-comm (high % m) p,
+      )
       (add-comm (p * (high % m)) low)

@@ -46,7 +46,11 @@ module _ (buffer : List ℕ) (slots slot contents : ℕ) (sized : length buffer 
   record-same : recordAt (withRecord buffer slot contents) slot ≡ contents % 2 ^ 128
   unfolding recordAt withRecord
   record-same =
-      rw (append-assoc (take (16 * slot) buffer) (bytesOf 16 contents) (drop (16 * slot + 16) buffer), drop-at (take (16 * slot) buffer) (bytesOf 16 contents ++ drop (16 * slot + 16) buffer) (16 * slot) head, take-at (bytesOf 16 contents) (drop (16 * slot + 16) buffer) 16 (length-bytesOf 16 contents))
+      rw (
+        append-assoc (take (16 * slot) buffer) (bytesOf 16 contents) (drop (16 * slot + 16) buffer),
+        drop-at (take (16 * slot) buffer) (bytesOf 16 contents ++ drop (16 * slot + 16) buffer) (16 * slot) head,
+        take-at (bytesOf 16 contents) (drop (16 * slot + 16) buffer) 16 (length-bytesOf 16 contents),
+      )
       (number-back 16 contents)
 
   record-before : (other : ℕ) → other < slot → recordAt (withRecord buffer slot contents) other ≡ recordAt buffer other
@@ -56,7 +60,14 @@ module _ (buffer : List ℕ) (slots slot contents : ℕ) (sized : length buffer 
       let rest = bytesOf 16 contents ++ drop (16 * slot + 16) buffer in
       let starts : 16 * other ≤ length front = omega (arith, head) in
       let fits : 16 ≤ length (drop (16 * other) front) = rw length-drop (omega (arith, head)) in
-      rw (append-assoc front (bytesOf 16 contents) (drop (16 * slot + 16) buffer), drop-append-le (16 * other) front rest starts, take-append-le 16 (drop (16 * other) front) rest fits, part (16 * other) 16 front starts, take-take (16 * other + 16) (16 * slot) buffer (omega arith), part (16 * other) 16 buffer (omega arith))
+      rw (
+        append-assoc front (bytesOf 16 contents) (drop (16 * slot + 16) buffer),
+        drop-append-le (16 * other) front rest starts,
+        take-append-le 16 (drop (16 * other) front) rest fits,
+        part (16 * other) 16 front starts,
+        take-take (16 * other + 16) (16 * slot) buffer (omega arith),
+        part (16 * other) 16 buffer (omega arith),
+      )
 
   record-after : (other : ℕ) → slot < other → recordAt (withRecord buffer slot contents) other ≡ recordAt buffer other
   unfolding recordAt withRecord
@@ -65,7 +76,12 @@ module _ (buffer : List ℕ) (slots slot contents : ℕ) (sized : length buffer 
       let ends : length front ≡ 16 * slot + 16 = simp (length-append, head, length-bytesOf 16 contents) in
       let past : 16 * other ≡ 16 * slot + 16 + (16 * other - (16 * slot + 16)) = omega arith in
       let k = 16 * other - (16 * slot + 16) in
-      rw (past, ← drop-drop k (16 * slot + 16) (front ++ drop (16 * slot + 16) buffer), drop-at front (drop (16 * slot + 16) buffer) (16 * slot + 16) ends, drop-drop k (16 * slot + 16) buffer)
+      rw (
+        past,
+        ← drop-drop k (16 * slot + 16) (front ++ drop (16 * slot + 16) buffer),
+        drop-at front (drop (16 * slot + 16) buffer) (16 * slot + 16) ends,
+        drop-drop k (16 * slot + 16) buffer,
+      )
 
   pub standing-same : standing (withRecord buffer slot contents) slot ≡ bit contents 127
   unfolding standing

@@ -99,7 +99,7 @@ module _ (slots : ℕ) where
   call-keeps clearOverflow s sized = clearing-overflow-keeps slots (s .buffer) (s .next) (s .overflow) sized
 
   -- from any buffer of the right size
-  run-keeps : (calls : List Call) (s : State) → length (s .buffer) ≡ 16 * slots
+  pub run-keeps : (calls : List Call) (s : State) → length (s .buffer) ≡ 16 * slots
       → standingIn slots (s .buffer) + answered slots written calls s
       ≡ answered slots slotCleared calls s + standingIn slots (left slots calls s .buffer)
   unfolding answered left

@@ -8,7 +8,7 @@ ghost use Rattle.faults.specs.Slots.{recordAt, withRecord, standing, cle
 use image::store8;
 
 // A record of two words into its slot.
-pub fn write_record(buffer: &mut [u8], slot: usize, low: u64, high: u64)
+pub(crate) fn write_record(buffer: &mut [u8], slot: usize, low: u64, high: u64)
     requires { ⌜ 16 * slot + 16 ≤ length (now buffer) ⌝ }
     ensures { λ _. ⌜ now (buffer .exit) ≡ withRecord (now (buffer .entry)) slot (spell (low ∷ high ∷ [])) ⌝ }
 {
@@ -18,7 +18,7 @@ pub fn write_record(buffer: &mut [u8], slot: usize, low: u64, high: u64)
 }
 
 // Whether a record stands in a slot: bit 127 is the top bit of its last byte.
-pub fn is_standing(buffer: &[u8], slot: usize) -> bool
+pub(crate) fn is_standing(buffer: &[u8], slot: usize) -> bool
     requires { ⌜ 16 * slot + 16 ≤ length (now buffer) ⌝ }
     ensures { λ r. ⌜ r ≡ standing (now (buffer .entry)) slot ⌝ }
 {
@@ -26,7 +26,7 @@ pub fn is_standing(buffer: &[u8], slot: usize) -> bool
 }
 
 // Clears bit 127 of the record in a slot.
-pub fn clear_record(buffer: &mut [u8], slot: usize)
+pub(crate) fn clear_record(buffer: &mut [u8], slot: usize)
     requires { ⌜ 16 * slot + 16 ≤ length (now buffer) ⌝ }
     ensures { λ _. ⌜ now (buffer .exit) ≡ withRecord (now (buffer .entry)) slot (clear127 (recordAt (now (buffer .entry)) slot)) ⌝ }
 {

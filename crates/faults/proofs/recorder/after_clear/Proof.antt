@@ -37,7 +37,13 @@ returns-2 c =
     let cleared = c .before .before in
     let stood = cleared .before .before in
     let kept = stood .before .before .before in
-    rw (← kept .before .out-of-place .ensures, kept .if1 .left, ← stood .before .is-standing .ensures, stood .if2 .taken, cleared .clear-record .ensures)
+    rw (
+      ← kept .before .out-of-place .ensures,
+      kept .if1 .left,
+      ← stood .before .is-standing .ensures,
+      stood .if2 .taken,
+      cleared .clear-record .ensures,
+    )
 
 returns-3 : tie.Need-returns-3
 unfolding clearing

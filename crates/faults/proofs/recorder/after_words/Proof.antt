@@ -42,7 +42,14 @@ unfolding recording
 returns-4 c =
     let third = c .before .before .before in
     let kept = third .before .before in
-    rw (← kept .before .out-of-place .ensures, kept .if1 .left, third .before .if2 .left, third .if3 .left, ← c .before .is-standing .ensures, c .if4 .taken)
+    rw (
+      ← kept .before .out-of-place .ensures,
+      kept .if1 .left,
+      third .before .if2 .left,
+      third .if3 .left,
+      ← c .before .is-standing .ensures,
+      c .if4 .taken,
+    )
 
 write-record-requires : tie.Need-write-record-requires
 write-record-requires c κs = placed (c .before .before .before .before .before .before) .0
@@ -60,7 +67,16 @@ returns-5 c =
     let third = fourth .before .before .before in
     let kept = third .before .before in
     let s = kept .before .before .before in
-    rw (← kept .before .out-of-place .ensures, kept .if1 .left, third .before .if2 .left, third .if3 .left, ← fourth .before .is-standing .ensures, fourth .if4 .left, ← marked (s .args .low) (s .args .high) (s .fits .low .fits), wrote .write-record .ensures)
+    rw (
+      ← kept .before .out-of-place .ensures,
+      kept .if1 .left,
+      third .before .if2 .left,
+      third .if3 .left,
+      ← fourth .before .is-standing .ensures,
+      fourth .if4 .left,
+      ← marked (s .args .low) (s .args .high) (s .fits .low .fits),
+      wrote .write-record .ensures,
+    )
 
 pub after-words-spec : {M : Type 1} → statement M
 after-words-spec =
