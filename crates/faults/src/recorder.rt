@@ -3,7 +3,7 @@ ghost use mathlib.Core.Path.{_≡_};
 ghost use Prim.Native.Nat.{_%_, _+_, _<_};
 ghost use mathlib.Core.List.{[], _∷_};
 ghost use Rattle.image.specs.Entries.{spell};
-ghost use Rattle.faults.specs.Answers.{afterOf};
+ghost use Rattle.faults.specs.Answers.{afterOf, answerOf};
 ghost use Rattle.faults.specs.Fault.{faultOf};
 ghost use Rattle.faults.specs.Recorder.{recording, clearing, clearingOverflow, outOfPlace};
 use crate::fault::Fault;
@@ -29,6 +29,25 @@ pub enum RecorderAnswer {
     SlotCleared,
     OverflowClear,
     OverflowCleared,
+}
+
+impl RecorderAnswer {
+    // The refusal's own number; else the C interface's.
+    pub fn number(self) -> u32
+        ensures { λ r. ⌜ r ≡ answerOf self ⌝ }
+    {
+        match self {
+            RecorderAnswer::Refused => 0x03,
+            RecorderAnswer::NotRecordable => 0x11,
+            RecorderAnswer::Dropped => 0x12,
+            RecorderAnswer::Overflowed => 0x13,
+            RecorderAnswer::Written => 0x14,
+            RecorderAnswer::SlotClear => 0x20,
+            RecorderAnswer::SlotCleared => 0x21,
+            RecorderAnswer::OverflowClear => 0x30,
+            RecorderAnswer::OverflowCleared => 0x31,
+        }
+    }
 }
 
 // A call's answer, with the recorder that it leaves.
