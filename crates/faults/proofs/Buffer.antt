@@ -1,23 +1,35 @@
 -- The slots of a buffer as the code reads and writes them, byte by byte.
-use Prim.Native.Nat.{ℕ, suc, _+_, _*_, _/_, _%_, _^_, _<_, _≤_}
+use Prim.Native.Nat.{ℕ, zero, suc, _+_, _*_, _/_, _%_, _^_, _<_, _≤_}
 use mathlib.Core.Path.{_≡_, sym}
 use mathlib.Core.List.{List, [], _∷_, _++_, append-assoc, append-nil}
-use native.Mathlib.Nat.{add-assoc, add-suc, mul-add}
+use native.Mathlib.Nat.{
+  zero-add,
+  add-assoc,
+  add-comm,
+  add-suc,
+  mul-add,
+  mul-comm,
+  mod-eq-of-lt,
+  div-eq-of-lt,
+  add-mul-div-left,
+  add-mul-mod-self-left,
+}
 use native.Mathlib.Omega.{arith}
 use native.Mathlib.Decide.{decLe}
 use borrow.Author.Tests.{le-leb, lt-leb, eq-eqb}
+use lib.Arith.{mod-mul}
 use lib.Dec.{leb, eqb, lit<}
 use lib.ListN.{length, getD, set, take, drop, length-drop, drop-of-length-le}
 use lib.Seq.{take-add, set-split, append-snoc, getD-drop}
-use Rattle.image.specs.Bits.{bits}
+use Rattle.image.specs.Bits.{bits, bit}
 use Rattle.image.specs.Bytes.{littleEndian, bytesOf}
 use Rattle.image.specs.Entries.{spell}
 use Rattle.faults.specs.Slots.{recordAt, withRecord, standing, clear127, set127}
 use Rattle.image.specs.Memory.{withWord}
+use Rattle.image.proofs.Fields.{above-digit}
 use Rattle.image.proofs.Stores.{withWords, Words, all-stored}
 use Rattle.image.proofs.Bytes.{one-byte, bytes-beside, last-byte, bytes-below, bytes-back}
 use Rattle.faults.proofs.Contents.{two-words}
-use Rattle.faults.proofs.Digits.{upper-div, upper-mod}
 
 -- a record of two words, stored one behind the other
 pub two-stored : (buffer : List ℕ) (slot low high : ℕ) → 16 * slot + 16 ≤ length buffer → low < 2 ^ 64 → high < 2 ^ 64
@@ -26,6 +38,22 @@ pub two-stored : (buffer : List ℕ) (slot low high : ℕ) → 16 * slot + 16 �
 unfolding withRecord withWords Words
 two-stored buffer slot low high fits small tall laid =
     rw laid (all-stored (low ∷ high ∷ []) buffer (16 * slot) fits (small, (tall, tt)))
+
+-- the top digit of a number alone is cut by a remainder
+upper-mod : (p m low high : ℕ) → zero < m → low < p → (low + p * high) % (p * m) ≡ low + p * (high % m)
+upper-mod p m low high pos h =
+    let p-pos : zero < p = omega arith in
+    rw (
+      mul-comm p m,
+      mod-mul (low + p * high) {m = m} {c = p} pos p-pos,
+      add-mul-div-left low high p-pos,
+      div-eq-of-lt h,
+      zero-add,
+      add-mul-mod-self-left low p high,
+      mod-eq-of-lt h,
+      mul-comm (high % m) p,
+    )
+    (add-comm (p * (high % m)) low)
 
 -- bit 127 is set where bit 63 of the high word is
 pub marked : (low high : ℕ) → low < 2 ^ 64 → spell (low ∷ (high % 2 ^ 63 + 2 ^ 63) ∷ []) ≡ set127 (spell (low ∷ high ∷ []))
@@ -44,7 +72,8 @@ unfolding withRecord
 only-slot buffer contents sized =
     rw (drop-of-length-le buffer {i = 16} (omega arith), append-nil (bytesOf 16 contents))
 
-byte-top : (b : ℕ) → b < 256 → leb 128 b ≡ eqb (b / 128 % 2) 1
+byte-top : (b : ℕ) → b < 256 → leb 128 b ≡ bit b 7
+unfolding bits
 byte-top b h = go (decLe 128 b)
   where
     go : Dec (128 ≤ b) → leb 128 b ≡ eqb (b / 128 % 2) 1
@@ -79,12 +108,9 @@ module _ (buffer : List ℕ) (slot : ℕ) (fits : 16 * slot + 16 ≤ length buff
       rw (last-byte 15 (drop (16 * slot) buffer) (rw length-drop (omega arith)), getD-drop)
 
   pub standing-byte : leb 128 (getD buffer (16 * slot + 15) 0) ≡ standing buffer slot
-  unfolding standing bits
+  unfolding standing
   standing-byte =
-      rw (
-        record-split,
-        upper-div (256 ^ 15) 128 (littleEndian (take 15 (drop (16 * slot) buffer))) (getD buffer (16 * slot + 15) 0) below,
-      )
+      rw (record-split, above-digit 120 (getD buffer (16 * slot + 15) 0) below 7 7)
       (byte-top (getD buffer (16 * slot + 15) 0) (bytes (16 * slot + 15)))
 
   pub cleared-byte : set buffer (16 * slot + 15) (getD buffer (16 * slot + 15) 0 % 128)

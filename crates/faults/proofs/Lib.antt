@@ -1,6 +1,5 @@
 pub mod Buffer
 pub mod Contents
-pub mod Digits
 pub mod Examples
 pub mod InPlace
 pub mod Recording
