@@ -1,0 +1,32 @@
+-- The twelve cases of document 01 hold, proved together by computing the table.
+use mathlib.Core.Path.{_≡_, refl}
+use lib.ListN.{length}
+use Rattle.image.specs.Bits.{bits}
+use Rattle.image.specs.Bytes.{littleEndian, bytesOf}
+use Rattle.image.specs.Entries.{spell}
+use Rattle.image.specs.Memory.{wordAt, ofImage, entry}
+use Rattle.image.specs.Rules.{run, mapRules}
+use Rattle.registers.specs.Admission.{admission}
+use Rattle.registers.specs.Registers.{badRegisters}
+use Rattle.faults.specs.Record.{silenced, memoryRecord, fromBit64, memoryFault, indexField, interruptRecord, interruptFault}
+use Rattle.dma.specs.Context.{contextReserved, contextInvalid, contextCheck}
+use Rattle.dma.specs.Page.{pageReserved, pageCheck}
+use Rattle.dma.specs.Requests.{memoryRules}
+use Rattle.dma.specs.Root.{rootReserved, rootCheck}
+use Rattle.dma.specs.Translation.{widthRules, contextRules, rootRules}
+use Rattle.dma.specs.Walk.{walkRules}
+use Rattle.interrupts.specs.Descriptor.{descriptorCheck}
+use Rattle.interrupts.specs.Interrupts.{descriptorRules, entryRules, indexRules, requestRules, interruptRules}
+use Rattle.interrupts.specs.Irte.{reservedIrte, irteCheck}
+use Rattle.interrupts.specs.Post.{setBit}
+use Rattle.interrupts.specs.Request.{requestCheck}
+use Rattle.interrupts.specs.Source.{sourceAllowed}
+use Rattle.unit.specs.Bench.{layout, bench, changed, resultOf, rows, answers, said}
+
+pub whole : length bench ≡ 32768
+unfolding bench layout bytesOf
+whole = refl
+
+pub cases : answers (rows bench) ≡ said (rows bench)
+unfolding answers said resultOf changed bench layout bytesOf littleEndian bits spell wordAt ofImage entry run mapRules admission badRegisters silenced memoryRecord fromBit64 memoryFault indexField interruptRecord interruptFault contextReserved contextInvalid contextCheck pageReserved pageCheck memoryRules rootReserved rootCheck widthRules contextRules rootRules walkRules descriptorCheck descriptorRules entryRules indexRules requestRules interruptRules reservedIrte irteCheck setBit requestCheck sourceAllowed
+cases = refl

@@ -1,0 +1,180 @@
+-- Document 01's bench image and its twelve cases, as rows of one table.
+use Prim.Native.Nat.{ℕ, _+_, _-_}
+use mathlib.Core.Bool.{Bool, true, false}
+use mathlib.Core.List.{List, [], _∷_, _++_}
+use lib.ListN.{take, replicate, set}
+use Rattle.image.specs.Bytes.{bytesOf}
+use Rattle.image.specs.Entries.{spell}
+use Rattle.image.specs.Memory.{ofImage}
+use Rattle.image.specs.Rules.{run}
+use Rattle.registers.specs.declared.Registers.{Registers}
+use Rattle.faults.specs.Record.{FaultAnswer}
+use Rattle.dma.specs.Requests.{MemoryOutcome, granted, blocked, memoryRules}
+use Rattle.dma.specs.declared.MemoryRequest.{MemoryRequest}
+use Rattle.interrupts.specs.Descriptor.{silent, notice}
+use Rattle.interrupts.specs.Interrupts as interrupts
+use Rattle.interrupts.specs.Post.{written}
+use Rattle.interrupts.specs.declared.InterruptRequest.{InterruptRequest}
+
+-- the bytes from an address up to an end: zero but for words given as (address, value), in rising order of address
+unfoldable pub layout : (from : ℕ) → List (ℕ × ℕ) → (end : ℕ) → List ℕ
+layout from [] end = replicate (end - from) 0
+layout from (w ∷ ws) end = replicate (w .0 - from) 0 ++ (bytesOf 8 (w .1) ++ layout (w .0 + 8) ws end)
+
+unfoldable pub bench : List ℕ
+bench =
+    layout 0
+    ((0x1030, 0x2001)
+    ∷ (0x2100, 0x3001)
+    ∷ (0x2108, 0x501)
+    ∷ (0x3008, 0x4003)
+    ∷ (0x4008, 0x5003)
+    ∷ (0x4010, 0x40600083)
+    ∷ (0x4018, 0x9003)
+    ∷ (0x4020, 0x8000000003)
+    ∷ (0x4028, 0x7003)
+    ∷ (0x5008, 0x12345001)
+    ∷ (0x6020, 0x0000070000410001)
+    ∷ (0x6028, 0x40310)
+    ∷ (0x6040, 0x0000640000318001)
+    ∷ (0x6420, 0x0000070000F20000)
+    ∷ (0x7FF8, 0x23456003)
+    ∷ [])
+    32768
+
+abbrev pub benchRegisters : Registers
+benchRegisters =
+    record {
+      haw = 39;
+      mgaw = 48;
+      levels3 = true;
+      levels4 = true;
+      levels5 = false;
+      «pages_2m» = true;
+      «pages_1g» = true;
+      posting = true;
+      «root_table» = 0x1000;
+      «interrupt_table» = 0x6000;
+      s = 3;
+      te = true;
+      ire = true;
+      eime = false;
+      cfis = false;
+    }
+
+-- bytes of an image that become others
+unfoldable pub changed : List (ℕ × ℕ) → List ℕ → List ℕ
+changed [] image = image
+changed (b ∷ bs) image = changed bs (set image (b .0) (b .1))
+
+-- what a case asks: a read or a write of an address, or an interrupt's address and data
+pub data Ask : Type 0 where
+  read : ℕ → Ask
+  write : ℕ → Ask
+  interrupt : (address message : ℕ) → Ask
+
+-- what becomes of it: a memory request's outcome, or an interrupt's with the image at exit
+pub data Result : Type 0 where
+  memory : MemoryOutcome → Result
+  delivered : interrupts.InterruptOutcome → List ℕ → Result
+
+abbrev pub memoryRequest : (source address : ℕ) (writes : Bool) → MemoryRequest
+memoryRequest source address writes = record { source = record { id = source }; address = address; write = writes }
+
+abbrev pub interruptRequest : (source address message : ℕ) → InterruptRequest
+interruptRequest source address message =
+    record { source = record { id = source }; address = address; «data» = message }
+
+abbrev pub deliveredBy : interrupts.InterruptOutcome → (image : List ℕ) → Result
+deliveredBy outcome image = delivered outcome (written outcome image)
+
+-- the rules' answer under the bench registers
+unfoldable pub resultOf : (source : ℕ) → Ask → (image : List ℕ) → Result
+resultOf source (read address) image =
+    memory (run (memoryRules benchRegisters (memoryRequest source address false)) (ofImage image))
+resultOf source (write address) image =
+    memory (run (memoryRules benchRegisters (memoryRequest source address true)) (ofImage image))
+resultOf source (interrupt address message) image =
+    deliveredBy (run (interrupts.interruptRules benchRegisters (interruptRequest source address message)) (ofImage image)) image
+
+-- a recordable fault by its reason and its record's two words
+abbrev pub faulted : (reason low high : ℕ) → FaultAnswer
+faulted reason low high = record { reason = reason; recordable = true; contents = spell (low ∷ high ∷ []) }
+
+-- what a case answers: a host address, a fault, or an interrupt's outcome with the bytes that change
+pub data Answer : Type 0 where
+  host : ℕ → Answer
+  fault : (reason low high : ℕ) → Answer
+  delivery : interrupts.InterruptOutcome → List (ℕ × ℕ) → Answer
+
+abbrev pub expected : Answer → (image : List ℕ) → Result
+expected (host address) image = memory (granted address)
+expected (fault reason low high) image = memory (blocked (faulted reason low high))
+expected (delivery outcome bytes) image = delivered outcome (changed bytes image)
+
+pub record Row : Type 0 where
+  pub image : List ℕ
+  pub source : ℕ
+  pub ask : Ask
+  pub answer : Answer
+
+abbrev pub row : (image : List ℕ) (source : ℕ) → Ask → Answer → Row
+row image source ask answer = record { image = image; source = source; ask = ask; answer = answer }
+
+-- a fixed, edge-triggered interrupt to one destination
+abbrev pub delivers : (vector destination : ℕ) → interrupts.InterruptOutcome
+delivers vector destination =
+    interrupts.remapped
+    (record {
+      destinationMode = false;
+      redirectionHint = false;
+      trigger = false;
+      delivery = 0;
+      vector = vector;
+      destination = destination;
+    })
+
+-- document 01's rows; record words that it doesn't give follow from its rule
+abbrev pub rows : List ℕ → List Row
+rows image =
+    -- 1
+    row image 0x0310 (read 0x40201ABC) (host 0x12345ABC)
+    -- 2
+    ∷ row image 0x0310 (write 0x40201ABC) (fault 0x05 0x40201000 0x8000000500000310)
+    -- 3
+    ∷ row image 0x0310 (read 0x40202000) (fault 0x06 0x40202000 0xC000000600000310)
+    -- 4
+    ∷ row image 0x0310 (read 0x40412345) (host 0x40612345)
+    -- 5
+    ∷ row image 0x0310 (read 0x40600000) (fault 0x07 0x40600000 0xC000000700000310)
+    -- 6
+    ∷ row image 0x0310 (read 0x40800000) (fault 0x0C 0x40800000 0xC000000C00000310)
+    -- 7, then with the image one byte shorter
+    ∷ row image 0x0310 (read 0x40BFF000) (host 0x23456000)
+    ∷ row (take 32767 image) 0x0310 (read 0x40BFF000) (fault 0x07 0x40BFF000 0xC000000700000310)
+    -- 8
+    ∷ row image 0x0310 (read 0x7FFFFFFFFF) (fault 0x06 0x7FFFFFF000 0xC000000600000310)
+    ∷ row image 0x0310 (read 0x8000000000) (fault 0x04 0x8000000000 0xC000000400000310)
+    -- 9
+    ∷ row image 0x0410 (read 0x40201ABC) (fault 0x01 0x40201000 0xC000000100000410)
+    ∷ row image 0x0311 (read 0x40201ABC) (fault 0x02 0x40201000 0xC000000200000311)
+    -- 10
+    ∷ row image 0x0310 (interrupt 0xFEE00050 0) (delivery (delivers 0x41 7) [])
+    ∷ row image 0x0311 (interrupt 0xFEE00050 0) (delivery (interrupts.blocked (faulted 0x26 0x0002000000000000 0x8000002600000311)) [])
+    -- 11: index 65,538
+    ∷ row image 0x0310 (interrupt 0xFEEFFFFC 3) (delivery (interrupts.blocked (faulted 0x21 0xFFFF000000000000 0x8000002100000310)) [])
+    -- 12, then again over what it left
+    ∷ row image 0x0310 (interrupt 0xFEE00090 0)
+    (delivery (interrupts.posted 0x6400 0x31 (notice 0xF2 7)) ((0x6406, 2) ∷ (0x6420, 1) ∷ []))
+    ∷ row (changed ((0x6406, 2) ∷ (0x6420, 1) ∷ []) image) 0x0310 (interrupt 0xFEE00090 0)
+    (delivery (interrupts.posted 0x6400 0x31 silent) [])
+    ∷ []
+
+-- what the rules answer to each row, and what each row says
+unfoldable pub answers : List Row → List Result
+answers [] = []
+answers (r ∷ rs) = resultOf (r .source) (r .ask) (r .image) ∷ answers rs
+
+unfoldable pub said : List Row → List Result
+said [] = []
+said (r ∷ rs) = expected (r .answer) (r .image) ∷ said rs
