@@ -17,42 +17,42 @@ pub struct Row {
 pub const ROWS: &[Row] = &[
     Row {
         name: "case 1 reads",
-        passes: 250,
+        passes: 20,
         make: case_1,
     },
     Row {
         name: "streaming, 4 KiB pages",
-        passes: 10,
+        passes: 1,
         make: || streamed(pages_4k()),
     },
     Row {
         name: "streaming, 2 MiB pages",
-        passes: 10,
+        passes: 1,
         make: || streamed(pages_2m()),
     },
     Row {
         name: "random over 64 MiB, 4 KiB pages",
-        passes: 10,
+        passes: 1,
         make: || shuffled(pages_4k()),
     },
     Row {
         name: "faults 05h, 06h, 07h",
-        passes: 100,
+        passes: 10,
         make: faults,
     },
     Row {
         name: "remapped interrupts",
-        passes: 150,
+        passes: 20,
         make: remapped,
     },
     Row {
         name: "posted, notice due",
-        passes: 150,
+        passes: 20,
         make: posted_with_notice,
     },
     Row {
         name: "posted, ON already set",
-        passes: 150,
+        passes: 20,
         make: posted,
     },
 ];

@@ -2,29 +2,58 @@
 
 use crate::load::Load;
 use crate::sides::{run, Prepared, Side};
+use std::fs;
 use std::time::Instant;
 
-/// Rounds of a row.
-pub const ROUNDS: usize = 40;
+/// Rounds of a row. Each lasts less than a millisecond or about that, so that most of them are left
+/// alone by whatever else the machine does.
+pub const ROUNDS: usize = 500;
+
+/// Times that a round is taken again where it wasn't left alone.
+const AGAIN: usize = 20;
 
 /// Nanoseconds for each request: a list of rounds for each side.
 pub struct Times([Vec<f64>; 3]);
+
+/// How often this thread was put aside for another, where the system tells.
+fn put_aside() -> Option<u64> {
+    let status = fs::read_to_string("/proc/thread-self/status").ok()?;
+    let counts = status.lines().filter_map(|line| {
+        let (name, count) = line.split_once(':')?;
+        let count: u64 = count.trim().parse().ok()?;
+        name.ends_with("ctxt_switches").then_some(count)
+    });
+    Some(counts.sum())
+}
+
+/// Seconds of one round in which the thread wasn't put aside, if there was such a one.
+fn round(mut work: impl FnMut()) -> f64 {
+    let mut seconds = 0.0;
+    for _ in 0..AGAIN {
+        let before = put_aside();
+        let start = Instant::now();
+        work();
+        seconds = start.elapsed().as_secs_f64();
+        if put_aside() == before {
+            break;
+        }
+    }
+    seconds
+}
 
 /// Measures a load.
 pub fn measure(load: &Load, prepared: &Prepared, passes: usize) -> Times {
     let mut image = load.image.clone();
     let requests = (passes * load.requests.len()) as f64;
     let mut times = Times(Default::default());
-    // One round to warm up; the order turns from round to round.
-    for round in 0..=ROUNDS {
+    // The first round warms up; the order turns from round to round.
+    for number in 0..=ROUNDS {
         for turn in 0..Side::ALL.len() {
-            let which = (round + turn) % Side::ALL.len();
-            let start = Instant::now();
+            let which = (number + turn) % Side::ALL.len();
             let side = Side::ALL[which];
-            run(side, prepared, &mut image, &load.requests, passes);
-            let nanoseconds = start.elapsed().as_secs_f64() * 1e9 / requests;
-            if round > 0 {
-                times.0[which].push(nanoseconds);
+            let seconds = round(|| run(side, prepared, &mut image, &load.requests, passes));
+            if number > 0 {
+                times.0[which].push(seconds * 1e9 / requests);
             }
         }
     }
@@ -41,13 +70,13 @@ impl Times {
         self.of(side).iter().copied().fold(f64::INFINITY, f64::min)
     }
 
-    /// How often as long the proved unit takes: by the best rounds, and the tenth and the
-    /// ninetieth of a hundred parts of the rounds' own ratios.
+    /// How often as long the proved unit takes: by the best rounds, and, of the rounds' own ratios,
+    /// those with a tenth below and with a tenth above.
     pub fn ratio(&self, to: Side) -> (f64, f64, f64) {
         let rounds = self.of(Side::Proved).iter().zip(self.of(to));
         let mut ratios: Vec<f64> = rounds.map(|(proved, other)| proved / other).collect();
         ratios.sort_by(f64::total_cmp);
-        let part = |n: usize| ratios[ratios.len() * n / 100];
-        (self.best(Side::Proved) / self.best(to), part(10), part(90))
+        let part = |n: usize| ratios[ratios.len() * n / 10];
+        (self.best(Side::Proved) / self.best(to), part(1), part(9))
     }
 }
