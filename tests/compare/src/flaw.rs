@@ -1,6 +1,7 @@
 //! Flaws put into the reference's side on purpose: a comparison that doesn't see them is worth
 //! nothing.
 
+use crate::parts::Part;
 use reference::Slip;
 use std::fmt;
 
@@ -41,9 +42,14 @@ impl Flaw {
         Flaw::RefusalForgets,
     ];
 
-    /// Whether it is one of the recorder.
-    pub fn in_recorder(self) -> bool {
-        !matches!(self, Flaw::None | Flaw::Known(_) | Flaw::StrayBit)
+    /// Whether it can make a difference in a part.
+    pub fn may_show_in(self, part: &Part) -> bool {
+        match (self, part) {
+            (_, Part::Malformed) => false,
+            (Flaw::None, _) => true,
+            (Flaw::Known(_) | Flaw::StrayBit, part) => matches!(part, Part::Worlds(_)),
+            (_, part) => matches!(part, Part::Recorder),
+        }
     }
 
     /// The slip among them, as the reference knows it.

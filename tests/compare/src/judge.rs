@@ -2,10 +2,10 @@
 
 use crate::bytes;
 use crate::classify::Read;
-use crate::difference::Difference;
 use crate::flaw::Flaw;
 use crate::lent::Lent;
 use crate::met::Met;
+use crate::print::hex;
 use crate::tally::Tally;
 use cases::{Request, World};
 use interface::ANSWER_SIZE;
@@ -37,7 +37,7 @@ impl Judge {
     }
 
     /// Puts each request of a world to both sides and compares status, answer and image.
-    pub fn world(&mut self, world: &World, tally: Option<&mut Tally>) -> Result<(), Difference> {
+    pub fn world(&mut self, world: &World, tally: Option<&mut Tally>) -> Result<(), String> {
         // Any alignment, but the same whenever this world is run.
         let before = world.image.len() / 8 % 8;
         self.ours.take(&world.image, before);
@@ -104,23 +104,26 @@ impl Judge {
         }
     }
 
-    fn compare(&self, request: usize, status: u32, outcome: &Outcome) -> Result<(), Difference> {
+    fn compare(&self, request: usize, status: u32, outcome: &Outcome) -> Result<(), String> {
         let expected = bytes::answer(outcome);
         let (ours, answer) = (self.ours.content(), self.answer.content());
         let kept = self.ours.kept() && self.answer.kept();
         if status == 0 && answer == expected && ours == self.theirs && kept {
             return Ok(());
         }
+        let (expected, answer) = (hex(&expected), hex(answer));
+        let mut said = format!(
+            "request {request} differs\n  reference: {outcome:X?}\n  expected: status 0, answer \
+             {expected}\n  Galitzaf: status {status:X}, answer {answer}"
+        );
         let mut bytes = ours.iter().zip(&self.theirs);
-        Err(Difference {
-            request,
-            status,
-            answer: answer.to_vec(),
-            expected,
-            outcome: outcome.clone(),
-            image: bytes.position(|(a, b)| a != b),
-            kept,
-        })
+        if let Some(address) = bytes.position(|(a, b)| a != b) {
+            said += &format!("\n  the images differ from byte {address:X}h on");
+        }
+        if !kept {
+            said += "\n  bytes beside the image or the answer were written";
+        }
+        Err(said)
     }
 
     fn count(

@@ -3,7 +3,7 @@
 //!
 //!     compare                     all of it; prints how often each outcome came
 //!     compare --slips             a part of it, with known flaws put into the reference
-//!     compare --case SUITE WORLD  one world by itself, with all that is in it
+//!     compare --case PART NUMBER  one case by itself, with all that is in it
 //!
 //! Exit status 0: nothing differed and every outcome came often enough, or every flaw was noticed.
 
@@ -11,13 +11,14 @@
 
 mod bytes;
 mod classify;
-mod difference;
 mod flaw;
 mod judge;
 mod lent;
 mod malformed;
 mod met;
+mod parts;
 mod pool;
+mod print;
 mod recorder;
 mod runs;
 mod tally;
@@ -31,9 +32,9 @@ fn main() -> ExitCode {
     let good = match arguments[..] {
         [] => runs::whole(),
         ["--slips"] => runs::flaws(),
-        ["--case", suite, world] => runs::case(suite, world),
+        ["--case", part, number] => runs::case(part, number),
         _ => {
-            eprintln!("usage: compare [--slips | --case SUITE WORLD]");
+            eprintln!("usage: compare [--slips | --case PART NUMBER]");
             return ExitCode::from(2);
         }
     };

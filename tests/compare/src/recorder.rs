@@ -1,10 +1,10 @@
 //! Sequences of recorder calls: status, buffer and state compared after each.
 
 use crate::bytes;
-use crate::difference::hex;
 use crate::flaw::Flaw;
 use crate::met::{Call, Met};
 use crate::pool::Pool;
+use crate::print::hex;
 use crate::tally::Tally;
 use cases::Random;
 use interface::{ANSWER_SIZE, RECORDER_SIZE, RECORDS_SIZE};

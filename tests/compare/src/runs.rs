@@ -1,64 +1,36 @@
 //! The runs.
 
-use crate::difference::print_world;
 use crate::flaw::Flaw;
-use crate::judge::Judge;
-use crate::malformed;
-use crate::pool::Pool;
-use crate::recorder::{self, Sequence};
+use crate::parts::{Part, Runner};
 use crate::tally::Tally;
-use cases::{World, SUITES};
 
 /// Differences after which a run gives up.
 const TOO_MANY: usize = 10;
 
-/// Of each suite, a run with a flaw takes one world in so many.
-const PART: usize = 16;
+/// Of each part, a run with a flaw takes one case in so many.
+const TAKEN: usize = 16;
 
-/// Worlds in which a flaw has to be noticed.
-const NOTICED: u64 = 10;
-
-/// Says that a world differs and how to have it again.
-fn say(suite: &str, world: u64) {
-    println!("difference in {suite} {world}; again with: compare --case {suite} {world}");
-}
+/// Cases in which a flaw has to be noticed.
+const NOTICED: usize = 10;
 
 /// Everything, without a flaw.
 pub fn whole() -> bool {
+    let mut runner = Runner::new(Flaw::None);
     let mut tally = Tally::default();
     let mut differences = 0;
-    let mut world = World::new();
-    let mut judge = Judge::new(Flaw::None);
-    for suite in SUITES {
-        for number in 0..suite.worlds {
-            (suite.build)(number, &mut world);
-            if let Err(difference) = judge.world(&world, Some(&mut tally)) {
-                differences += 1;
-                say(suite.name, number);
-                print_world(&world);
-                difference.print();
-            }
+    for part in Part::all() {
+        for number in 0..part.cases() {
+            let Err(difference) = runner.run(part, number, Some(&mut tally)) else {
+                continue;
+            };
+            let name = part.name();
+            println!("difference in {name} {number}; again: compare --case {name} {number}");
+            runner.print(part, number);
+            println!("{difference}");
+            differences += 1;
             if differences == TOO_MANY {
                 return false;
             }
-        }
-    }
-    let pool = Pool::new();
-    let sequences = (0..recorder::SEQUENCES).map(|n| (recorder::NAME, n));
-    let calls = (0..malformed::CALLS).map(|n| (malformed::NAME, n));
-    for (suite, number) in sequences.chain(calls) {
-        let result = if suite == recorder::NAME {
-            Sequence::build(number, &pool).run(Flaw::None, Some(&mut tally))
-        } else {
-            malformed::run(number, Some(&mut tally))
-        };
-        if let Err(difference) = result {
-            differences += 1;
-            say(suite, number);
-            println!("{difference}");
-        }
-        if differences == TOO_MANY {
-            return false;
         }
     }
     tally.print();
@@ -71,31 +43,24 @@ pub fn whole() -> bool {
     differences == 0 && complaints.is_empty()
 }
 
-/// How many worlds and sequences of the part show a flaw.
-fn noticed(flaw: Flaw, pool: &Pool) -> u64 {
-    let mut world = World::new();
-    let mut judge = Judge::new(flaw);
-    let mut count = 0;
-    let suites = if flaw.in_recorder() { &[] } else { SUITES };
-    for suite in suites {
-        for number in (0..suite.worlds).step_by(PART) {
-            (suite.build)(number, &mut world);
-            count += u64::from(judge.world(&world, None).is_err());
-        }
-    }
-    for number in (0..recorder::SEQUENCES).step_by(PART) {
-        let sequence = Sequence::build(number, pool);
-        count += u64::from(sequence.run(flaw, None).is_err());
-    }
-    count
+/// How many cases show a flaw.
+fn noticed(flaw: Flaw) -> usize {
+    let mut runner = Runner::new(flaw);
+    let parts = Part::all().filter(|part| flaw.may_show_in(part));
+    parts
+        .flat_map(|part| {
+            let taken = (0..part.cases()).step_by(TAKEN);
+            taken.map(move |number| (part, number))
+        })
+        .filter(|&(part, number)| runner.run(part, number, None).is_err())
+        .count()
 }
 
 /// Each flaw has to be noticed, and without one nothing.
 pub fn flaws() -> bool {
-    let pool = Pool::new();
     let mut good = true;
     for flaw in [Flaw::None].into_iter().chain(Flaw::ALL) {
-        let count = noticed(flaw, &pool);
+        let count = noticed(flaw);
         println!("{count:>9}  {flaw}");
         good &= match flaw {
             Flaw::None => count == 0,
@@ -105,33 +70,19 @@ pub fn flaws() -> bool {
     good
 }
 
-/// One world by itself.
-pub fn case(suite: &str, number: &str) -> bool {
-    let Ok(number) = number.parse() else {
-        println!("not a number: {number}");
+/// One case by itself.
+pub fn case(part: &str, number: &str) -> bool {
+    let part = Part::all().find(|known| known.name() == part);
+    let (Some(part), Ok(number)) = (part, number.parse()) else {
+        println!("there is no such case");
         return false;
     };
-    let result = if suite == recorder::NAME {
-        let sequence = Sequence::build(number, &Pool::new());
-        sequence.print();
-        sequence.run(Flaw::None, None)
-    } else if suite == malformed::NAME {
-        malformed::run(number, None)
-    } else if let Some(found) = SUITES.iter().find(|found| found.name == suite) {
-        let mut world = World::new();
-        (found.build)(number, &mut world);
-        print_world(&world);
-        let judged = Judge::new(Flaw::None).world(&world, None);
-        judged.map_err(|difference| {
-            difference.print();
-            String::new()
-        })
-    } else {
-        Err(format!("no suite {suite}"))
-    };
-    match result {
+    let mut runner = Runner::new(Flaw::None);
+    runner.print(part, number);
+    let result = runner.run(part, number, None);
+    match &result {
         Ok(()) => println!("no difference"),
-        Err(ref difference) => println!("{difference}"),
+        Err(difference) => println!("{difference}"),
     }
     result.is_ok()
 }

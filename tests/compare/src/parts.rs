@@ -1,0 +1,96 @@
+//! The parts of a run: the suites of worlds, the recorder's sequences, the malformed calls.
+
+use crate::flaw::Flaw;
+use crate::judge::Judge;
+use crate::malformed;
+use crate::pool::Pool;
+use crate::print::print_world;
+use crate::recorder::{self, Sequence};
+use crate::tally::Tally;
+use cases::{Suite, World, SUITES};
+
+/// A part, whose cases have numbers.
+#[derive(Clone, Copy)]
+pub enum Part {
+    /// Requests.
+    Worlds(&'static Suite),
+    /// Recorder calls.
+    Recorder,
+    /// Malformed calls.
+    Malformed,
+}
+
+impl Part {
+    /// Each of them.
+    pub fn all() -> impl Iterator<Item = Part> {
+        let others = [Part::Recorder, Part::Malformed];
+        SUITES.iter().map(Part::Worlds).chain(others)
+    }
+
+    /// Its name.
+    pub fn name(self) -> &'static str {
+        match self {
+            Part::Worlds(suite) => suite.name,
+            Part::Recorder => recorder::NAME,
+            Part::Malformed => malformed::NAME,
+        }
+    }
+
+    /// How many cases it has.
+    pub fn cases(self) -> u64 {
+        match self {
+            Part::Worlds(suite) => suite.worlds,
+            Part::Recorder => recorder::SEQUENCES,
+            Part::Malformed => malformed::CALLS,
+        }
+    }
+}
+
+/// Runs cases of any part.
+pub struct Runner {
+    flaw: Flaw,
+    judge: Judge,
+    world: World,
+    pool: Pool,
+}
+
+impl Runner {
+    /// One whose reference has a flaw, or none.
+    pub fn new(flaw: Flaw) -> Self {
+        Self {
+            flaw,
+            judge: Judge::new(flaw),
+            world: World::new(),
+            pool: Pool::new(),
+        }
+    }
+
+    /// Runs a case; the error says where the two sides differ.
+    pub fn run(
+        &mut self,
+        part: Part,
+        number: u64,
+        tally: Option<&mut Tally>,
+    ) -> Result<(), String> {
+        match part {
+            Part::Worlds(suite) => {
+                (suite.build)(number, &mut self.world);
+                self.judge.world(&self.world, tally)
+            }
+            Part::Recorder => Sequence::build(number, &self.pool).run(self.flaw, tally),
+            Part::Malformed => malformed::run(number, tally),
+        }
+    }
+
+    /// Prints a case.
+    pub fn print(&mut self, part: Part, number: u64) {
+        match part {
+            Part::Worlds(suite) => {
+                (suite.build)(number, &mut self.world);
+                print_world(&self.world);
+            }
+            Part::Recorder => Sequence::build(number, &self.pool).print(),
+            Part::Malformed => {}
+        }
+    }
+}
