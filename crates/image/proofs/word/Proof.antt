@@ -1,5 +1,5 @@
-use native.Mathlib.Omega.{arith}
-use Rattle.image.proofs.Words.{spelled}
+use mathlib.Core.Path.{sym}
+use Rattle.image.proofs.Words.{summed}
 use borrow.Author.Needs.{needs}
 use Rattle.image.proofs.word.Statement.{statement}
 use Rattle.image.proofs.word.Tie as tie
@@ -118,7 +118,8 @@ add-result-7 c = search needs
 returns : tie.Need-returns
 returns c =
     let s = c .before .before .before .before .before .before .before .before .before .before .before .before .before .before .before .before .before in
-    omega (arith, spelled (s .args .image .now) (s .args .at) (s .pre), c .before .before .before .before .before .before .before .before .before .before .before .before .before .before .wide .ensures .0, c .before .before .before .before .before .before .before .before .before .before .before .before .wide2 .ensures .0, c .before .before .before .before .before .before .before .before .before .before .wide3 .ensures .0, c .before .before .before .before .before .before .before .before .wide4 .ensures .0, c .before .before .before .before .before .before .wide5 .ensures .0, c .before .before .before .before .wide6 .ensures .0, c .before .before .wide7 .ensures .0, c .wide8 .ensures .0)
+    rw (c .before .before .before .before .before .before .before .before .before .before .before .before .before .before .wide .ensures .0, c .before .before .before .before .before .before .before .before .before .before .before .before .wide2 .ensures .0, c .before .before .before .before .before .before .before .before .before .before .wide3 .ensures .0, c .before .before .before .before .before .before .before .before .wide4 .ensures .0, c .before .before .before .before .before .before .wide5 .ensures .0, c .before .before .before .before .wide6 .ensures .0, c .before .before .wide7 .ensures .0, c .wide8 .ensures .0)
+    (sym (summed (s .args .image .now) (s .args .at) (s .pre)))
 
 pub word-spec : {M : Type 1} → statement M
 word-spec =
