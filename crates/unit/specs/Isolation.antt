@@ -1,0 +1,15 @@
+-- The customer's demand 3, whole: more memory or more rights never takes back a grant. Each statement speaks of whole requests, from
+-- registers to answer, for any registers, any image and any request, over the definition of named words that the answers come from.
+-- The proof of all of it is `isolation` in proofs/Demand3.antt.
+use Rattle.dma.specs.Isolation.{Locality, RightsOn, RightsOff}
+use Rattle.interrupts.specs.Claims.{Isolated}
+
+pub record Isolation : Type 0 where
+  -- a memory request that doesn't end in 07h, 08h or 09h gets the same answer over a second image alike in its named words
+  pub memory : Locality
+  -- so does an interrupt that doesn't end in 23h or 27h, record bytes and notice among its parts; and the same bits are written
+  pub interrupts : Isolated
+  -- whichever walked page entries have read, write or both switched on, a granted request stays granted, with the same host address
+  pub rights-on : RightsOn
+  -- whichever have either or both switched off, a request that was blocked or refused isn't granted
+  pub rights-off : RightsOff
