@@ -50,9 +50,11 @@ fn notice_of(eime: bool, d: Entry64) -> Notice
     if (descriptor_bits(d, 256, 256) == 1) | (descriptor_bits(d, 257, 257) == 1) {
         return Notice::Silent;
     }
+    let vector = descriptor_bits(d, 279, 272) as u8;
+    let destination = notice_destination(eime, d);
     Notice::Due {
-        vector: descriptor_bits(d, 279, 272) as u8,
-        destination: notice_destination(eime, d),
+        vector,
+        destination,
     }
 }
 

@@ -91,12 +91,14 @@ fn destination(eime: bool, e: Entry16) -> u32
 fn remapped_by(eime: bool, e: Entry16) -> Remapped
     ensures { λ r. ⌜ remappedOf r ≡ remappedBy eime (number16 e) ⌝ }
 {
+    let delivery = irte_bits(e, 7, 5) as u8;
+    let vector = irte_bits(e, 23, 16) as u8;
     Remapped {
         destination_mode: irte_bit(e, 2),
         redirection_hint: irte_bit(e, 3),
         trigger: irte_bit(e, 4),
-        delivery: irte_bits(e, 7, 5) as u8,
-        vector: irte_bits(e, 23, 16) as u8,
+        delivery,
+        vector,
         destination: destination(eime, e),
     }
 }
@@ -105,10 +107,9 @@ fn irte_of(eime: bool, e: Entry16) -> Irte
     ensures { λ r. ⌜ askedOf r ≡ irteOf eime (number16 e) ⌝ }
 {
     if irte_bit(e, 15) {
-        return Irte::Posts {
-            vector: irte_bits(e, 23, 16) as u8,
-            descriptor: descriptor_address(e),
-        };
+        let vector = irte_bits(e, 23, 16) as u8;
+        let descriptor = descriptor_address(e);
+        return Irte::Posts { vector, descriptor };
     }
     Irte::Remaps(remapped_by(eime, e))
 }

@@ -15,7 +15,7 @@ pub enum RequestCheck {
     Fault(Reason),
 }
 
-fn handle(address: u64) -> u32
+fn handle_of(address: u64) -> u32
     ensures { λ r. ⌜ (r ≡ handleOf address) × (r < 2 ^ 16) ⌝ }
 {
     (field(address, 19, 5) + field(address, 2, 2) * 0x8000) as u32
@@ -30,11 +30,14 @@ pub fn request_check(registers: Registers, address: u64, data: u32) -> RequestCh
         }
         return RequestCheck::Compatibility;
     }
+    let handle = handle_of(address);
     if field(address, 3, 3) != 1 {
-        return RequestCheck::Remappable(handle(address));
+        return RequestCheck::Remappable(handle);
     }
     if field(data as u64, 31, 16) != 0 {
         return RequestCheck::Fault(Reason::RequestReserved);
     }
-    RequestCheck::Remappable(handle(address) + field(data as u64, 15, 0) as u32)
+    let subhandle = field(data as u64, 15, 0) as u32;
+    let index = handle + subhandle;
+    RequestCheck::Remappable(index)
 }

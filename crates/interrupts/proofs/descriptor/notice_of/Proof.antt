@@ -16,8 +16,8 @@ returns c = rw (← c .before .before .descriptor-bits .ensures, ← c .before .
 descriptor-bits-requires-3 : tie.Need-descriptor-bits-requires-3
 descriptor-bits-requires-3 c κs = search needs
 
-cast-t8 : tie.Need-cast-t8
-cast-t8 c = record { fits = rw (c .descriptor-bits3 .ensures) (fits (number64 (c .before .before .before .before .args .d)) 279 272) }
+cast-vector : tie.Need-cast-vector
+cast-vector c = record { fits = rw (c .descriptor-bits3 .ensures) (fits (number64 (c .before .before .before .before .args .d)) 279 272) }
 
 notice-destination-requires : tie.Need-notice-destination-requires
 notice-destination-requires c κs = search needs
@@ -35,6 +35,6 @@ notice-of-spec =
     descriptor-bits-requires-2
     returns
     descriptor-bits-requires-3
-    cast-t8
+    cast-vector
     notice-destination-requires
     returns-2)

@@ -10,9 +10,9 @@ irte-bit-requires c κs = search needs
 irte-bits-requires : tie.Need-irte-bits-requires
 irte-bits-requires c κs = search needs
 
-cast-t5 : tie.Need-cast-t5
+cast-vector : tie.Need-cast-vector
 unfolding bits
-cast-t5 c = omega arith
+cast-vector c = omega arith
 
 descriptor-address-requires : tie.Need-descriptor-address-requires
 descriptor-address-requires c κs = search needs
@@ -32,7 +32,7 @@ irte-of-spec =
     (tie.spec
     irte-bit-requires
     irte-bits-requires
-    cast-t5
+    cast-vector
     descriptor-address-requires
     returns
     remapped-by-requires

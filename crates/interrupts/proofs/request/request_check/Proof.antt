@@ -23,11 +23,11 @@ returns-2 c =
     let old = c .before .before .before in
     rw (← old .before .field .ensures, ne-eqb _ _ (old .if1 .taken), c .if2 .left)
 
+handle-of-requires : tie.Need-handle-of-requires
+handle-of-requires c κs = search needs
+
 field-requires-2 : tie.Need-field-requires-2
 field-requires-2 c κs = search needs
-
-handle-requires : tie.Need-handle-requires
-handle-requires c κs = search needs
 
 new-format : (c : tie.Else1) → bits (c .before .before .args .address) 4 4 ≡ 1
 new-format c = sym (c .before .field .ensures) ∙ c .if1 .left
@@ -35,41 +35,39 @@ new-format c = sym (c .before .field .ensures) ∙ c .if1 .left
 returns-3 : tie.Need-returns-3
 unfolding requestCheck
 returns-3 c =
-    let plain = c .before in
-    rw (new-format (plain .before .before), ← plain .before .field2 .ensures, ne-eqb _ _ (plain .if3 .taken), c .handle .ensures .0)
+    let h = c .before .before in
+    rw (new-format (h .before), ← c .before .field2 .ensures, ne-eqb _ _ (c .if3 .taken), h .handle-of .ensures .0)
 
 field-requires-3 : tie.Need-field-requires-3
 field-requires-3 c κs = search needs
 
-with-shv : (c : tie.Else3) → bits (c .before .before .before .before .args .address) 3 3 ≡ 1
+with-shv : (c : tie.Else3) → bits (c .before .before .before .before .before .args .address) 3 3 ≡ 1
 with-shv c = sym (c .before .field2 .ensures) ∙ c .if3 .left
 
 returns-4 : tie.Need-returns-4
 unfolding requestCheck
 returns-4 c =
     let shv = c .before .before in
-    rw (new-format (shv .before .before), with-shv shv, ← c .before .field3 .ensures, ne-eqb _ _ (c .if4 .taken))
-
-handle-requires-2 : tie.Need-handle-requires-2
-handle-requires-2 c κs = search needs
+    rw (new-format (shv .before .before .before), with-shv shv, ← c .before .field3 .ensures, ne-eqb _ _ (c .if4 .taken))
 
 field-requires-4 : tie.Need-field-requires-4
 field-requires-4 c κs = search needs
 
-cast-t13 : tie.Need-cast-t13
+cast-subhandle : tie.Need-cast-subhandle
 unfolding bits
-cast-t13 c = omega arith
+cast-subhandle c = omega arith
 
-add-t14 : tie.Need-add-t14
+add-index : tie.Need-add-index
 unfolding bits
-add-t14 c = omega arith
+add-index c = omega arith
 
 returns-5 : tie.Need-returns-5
 unfolding requestCheck
 returns-5 c =
-    let fits = c .before .before in
-    let shv = fits .before .before in
-    rw (new-format (shv .before .before), with-shv shv, ← fits .before .field3 .ensures, eq-eqb _ _ (fits .if4 .left), c .before .handle2 .ensures .0, c .field4 .ensures)
+    let clear = c .before in
+    let shv = clear .before .before in
+    let h = shv .before .before in
+    rw (new-format (h .before), with-shv shv, ← clear .before .field3 .ensures, eq-eqb _ _ (clear .if4 .left), h .handle-of .ensures .0, c .field4 .ensures)
 
 pub request-check-spec : {M : Type 1} → statement M
 request-check-spec =
@@ -78,13 +76,12 @@ request-check-spec =
     field-requires
     returns
     returns-2
+    handle-of-requires
     field-requires-2
-    handle-requires
     returns-3
     field-requires-3
     returns-4
-    handle-requires-2
     field-requires-4
-    cast-t13
-    add-t14
+    cast-subhandle
+    add-index
     returns-5)

@@ -1,10 +1,10 @@
 use Rattle.image.specs.Bits.{bits}
 use native.Mathlib.Omega.{arith}
 use borrow.Author.Needs.{needs}
-use Rattle.interrupts.proofs.request.handle.Statement.{statement}
-use Rattle.interrupts.proofs.request.handle.Tie as tie
-use Rattle.interrupts.proofs.request.handle.Reads as reads
-use Rattle.interrupts.proofs.request.handle.Lts as lts
+use Rattle.interrupts.proofs.request.handle_of.Statement.{statement}
+use Rattle.interrupts.proofs.request.handle_of.Tie as tie
+use Rattle.interrupts.proofs.request.handle_of.Reads as reads
+use Rattle.interrupts.proofs.request.handle_of.Lts as lts
 use Rattle.image.proofs.field.Reads as field-reads
 
 -- src/request.rt:23:6
@@ -35,6 +35,6 @@ returns : tie.Need-returns
 unfolding bits
 returns c = omega arith
 
-pub handle-spec : {M : Type 1} → statement M
-handle-spec =
+pub handle-of-spec : {M : Type 1} → statement M
+handle-of-spec =
     tie.close (tie.spec field-requires field-requires-2 mul-result add-result cast-result returns)
