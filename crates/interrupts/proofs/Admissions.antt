@@ -1,19 +1,20 @@
 -- An interrupt request by what becomes of it at admission, and then by its format.
 use Prim.Native.Nat.{ℕ, _^_, _<_}
 use mathlib.Core.Bool.{Bool, true, false, not}
-use mathlib.Core.Path.{_≡_, refl, sym}
+use mathlib.Core.Path.{_≡_, refl, ap}
 use native.Mathlib.Omega.{arith}
-use Rattle.image.specs.Check.{Check, onCheck}
+use Rattle.image.specs.Check.{Check, stop, go}
 use Rattle.image.specs.Choice.{if_then_else_}
 use Rattle.image.specs.Memory.{Memory}
-use Rattle.image.specs.Rules.{answer, run}
-use Rattle.registers.specs.Admission.{Admitted, refusal, pass, take, admission, inInterruptRange}
+use Rattle.image.specs.Rules.{run}
+use Rattle.image.proofs.Trees.{run-map}
+use Rattle.registers.specs.Admission.{refusal, pass, take, admission, inInterruptRange}
 use Rattle.registers.specs.Registers.{badRegisters}
 use Rattle.registers.specs.declared.Registers.{Registers}
 use Rattle.registers.proofs.Good.{Good, good, below-most}
 use Rattle.faults.specs.Record.{interruptFault}
-use Rattle.interrupts.specs.Request.{Format, requestCheck}
-use Rattle.interrupts.specs.Interrupts.{passed, blocked, refused, onFormat, requestRules, interruptRules}
+use Rattle.interrupts.specs.Request.{Format, compatibility, remappable, requestCheck}
+use Rattle.interrupts.specs.Interrupts.{Delivery, indexRules, passed, blocked, refused, delivered, requestRules, interruptRules}
 use Rattle.interrupts.specs.declared.InterruptRequest.{InterruptRequest}
 
 -- registers under which a request is taken up are good
@@ -49,8 +50,20 @@ module _ (registers : Registers) (request : InterruptRequest) (m : Memory) where
     unfolding interruptRules
     takes h = rw (← kind, ← h)
 
-  pub formatted : {k : Check Format} → k ≡ requestCheck registers (request .address) (request .«data»)
-      → run (onCheck k (λ reason. answer (blocked (interruptFault reason false (request .source .id) 0))) (onFormat registers (request .source .id))) m
-      ≡ run (requestRules registers request) m
-  unfolding requestRules
-  formatted h = rw (← h)
+  module _ {k : Check Format} (checked : k ≡ requestCheck registers (request .address) (request .«data»)) where
+    pub stops : {reason : ℕ} → k ≡ stop reason
+        → blocked (interruptFault reason false (request .source .id) 0) ≡ run (requestRules registers request) m
+    unfolding requestRules run
+    stops told = rw (← checked, told)
+
+    pub compatible : k ≡ go compatibility → passed ≡ run (requestRules registers request) m
+    unfolding requestRules run
+    compatible told = rw (← checked, told)
+
+    pub indexed : {index : ℕ} {d : Delivery} → k ≡ go (remappable index)
+        → d ≡ run (indexRules registers (request .source .id) index) m
+        → delivered (request .source .id) index d ≡ run (requestRules registers request) m
+    unfolding requestRules
+    indexed {index} told comes =
+        rw (← checked, told, run-map (delivered (request .source .id) index) (indexRules registers (request .source .id) index) m)
+        (ap (delivered (request .source .id) index) comes)

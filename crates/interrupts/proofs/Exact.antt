@@ -1,7 +1,7 @@
 -- A request sets exactly the bits that its outcome says.
 use Prim.Native.Nat.{ℕ, zero, suc, _+_, _-_, _*_, _/_, _%_, _^_, _≤_, _<_}
 use mathlib.Core.Bool.{Bool, true, false, _&&_, _||_}
-use mathlib.Core.List.{List, [], _∷_}
+use mathlib.Core.List.{List}
 use mathlib.Core.Path.{_≡_, refl, ap, sym, _∙_}
 use native.Mathlib.Decide.{decLe}
 use native.Mathlib.Nat.{mod-lt, div-eq-of-lt, mul-mod-left, one-mul}
@@ -10,17 +10,13 @@ use borrow.Author.Tests.{eq-eqb, ne-eqb, eqb-true, eqb-false}
 use lib.Bits.{bitOr, or-shr, or-mod, or-zero-r}
 use lib.Dec.{eqb}
 use lib.ListN.{length, getD, set, length-set}
-use lib.Pow.{pow-lt, pow-add, pow-pos, shl-shr}
+use lib.Pow.{pow-lt, pow-add, shl-shr}
 use lib.Seq.{getD-set-same, getD-set-other}
 use Rattle.image.specs.Bits.{bits, bit}
-use Rattle.image.specs.Choice.{if_then_else_}
-use Rattle.image.specs.Memory.{ofImage}
-use Rattle.registers.specs.declared.Registers.{Registers}
 use Rattle.interrupts.specs.Claims.{bitAt, due, sets, outcome, SetsExactly, StaysInside}
 use Rattle.interrupts.specs.Descriptor.{Notice, silent, notice}
 use Rattle.interrupts.specs.Interrupts.{InterruptOutcome, passed, remapped, posted, blocked, refused}
 use Rattle.interrupts.specs.Post.{withBit, setBit, notified, written}
-use Rattle.interrupts.specs.declared.InterruptRequest.{InterruptRequest}
 use Rattle.interrupts.proofs.Inside.{Within, within}
 use Rattle.interrupts.proofs.Posts.{one-bit, or-power}
 

@@ -11,7 +11,7 @@ use Rattle.image.specs.Bits.{bit, bits}
 use Rattle.image.specs.Check.{Check, stop, go, onCheck}
 use Rattle.image.specs.Choice.{if_then_else_}
 use Rattle.image.specs.Memory.{Fetched, missing, found, onFetch, entry, ofImage}
-use Rattle.image.specs.Rules.{Rules, answer, fetch, run, mapRules}
+use Rattle.image.specs.Rules.{answer, run}
 use Rattle.image.proofs.Fields.{fits}
 use Rattle.image.proofs.Trees.{run-map}
 use Rattle.image.proofs.Words.{outside}

@@ -1,18 +1,17 @@
 -- The customer's demand 3 for interrupts: what a request is answered, and what it writes, is settled by its named words.
 use Prim.Native.Nat.{ℕ, _+_, _^_}
 use mathlib.Core.Bool.{Bool, false, not, _||_}
-use mathlib.Core.List.{List}
-use mathlib.Core.Logic.{_⊎_, inl, inr}
-use mathlib.Core.Path.{_≡_, refl, ap, sym, _∙_}
+use mathlib.Core.Logic.{inl, inr}
+use mathlib.Core.Path.{refl, ap, sym, _∙_}
 use lib.Dec.{leb}
 use Rattle.image.specs.Check.{Check, stop, go, onCheck}
-use Rattle.image.specs.Rules.{Rules, answer, Outside}
+use Rattle.image.specs.Rules.{answer, Outside}
 use Rattle.image.proofs.Isolated.{isolated}
 use Rattle.image.proofs.Trees.{outside-map, outside-if}
 use Rattle.registers.specs.Admission.{Admitted, refusal, pass, take, admission, onAdmission, inInterruptRange}
 use Rattle.registers.specs.declared.Registers.{Registers}
 use Rattle.faults.specs.Record.{interruptFault}
-use Rattle.interrupts.specs.Claims.{bitAt, sets, outcome, AccessFault, Isolated}
+use Rattle.interrupts.specs.Claims.{bitAt, sets, AccessFault, Isolated}
 use Rattle.interrupts.specs.Interrupts.{Delivery, fault, onIrte, descriptorRules, entryRules, indexRules, InterruptOutcome, passed, refused, blocked, delivered, onFormat, requestRules, interruptRules}
 use Rattle.interrupts.specs.Irte.{Irte, remaps, posts, irteCheck, faultProcessingDisabled}
 use Rattle.interrupts.specs.Request.{Format, compatibility, remappable, requestCheck}

@@ -2,26 +2,26 @@
 use Prim.Native.Nat.{ℕ, _+_, _*_, _^_, _≤_, _<_}
 use mathlib.Core.Bool.{Bool, true, false, not, _||_}
 use mathlib.Core.List.{List, [], _∷_, _++_}
-use mathlib.Core.Path.{_≡_, refl, ap, sym, _∙_}
+use mathlib.Core.Path.{_≡_, refl, sym}
 use native.Mathlib.Nat.{add-zero}
 use native.Mathlib.Omega.{arith}
 use borrow.Author.Tests.{not-true, not-false}
-use lib.Dec.{eqb, leb, lit≤}
+use lib.Dec.{eqb, leb}
 use lib.ListN.{length}
-use Rattle.image.specs.Bits.{bit, bits, anySet}
+use Rattle.image.specs.Bits.{bit, anySet}
 use Rattle.image.specs.Check.{Check, stop, go, onCheck}
 use Rattle.image.specs.Choice.{if_then_else_}
 use Rattle.image.specs.Memory.{Memory, Fetched, missing, found, onFetch, entry, ofImage}
-use Rattle.image.specs.Rules.{Rules, answer, fetch, run, named, wordsFrom}
+use Rattle.image.specs.Rules.{Rules, answer, run, named, wordsFrom}
 use Rattle.image.proofs.Fields.{fits}
 use Rattle.image.proofs.Trees.{run-map, named-map}
 use Rattle.registers.specs.Admission.{Admitted, refusal, pass, take, admission, onAdmission, inInterruptRange}
 use Rattle.registers.specs.declared.Registers.{Registers}
 use Rattle.faults.specs.Record.{interruptFault}
 use Rattle.interrupts.specs.Claims.{wholeIndex, beforeTable, IndexBound, NoWrap, AtMostTen, NoneBeforeTable}
-use Rattle.interrupts.specs.Descriptor.{Notice, reservedDescriptor, noticeOf, descriptorCheck}
+use Rattle.interrupts.specs.Descriptor.{Notice, reservedDescriptor, descriptorCheck}
 use Rattle.interrupts.specs.Interrupts.{Delivery, fault, remap, post, onIrte, descriptorRules, entryRules, indexRules, InterruptOutcome, passed, refused, blocked, delivered, onFormat, requestRules, interruptRules}
-use Rattle.interrupts.specs.Irte.{Irte, remaps, posts, reservedIrte, irteOf, irteCheck, faultProcessingDisabled}
+use Rattle.interrupts.specs.Irte.{Irte, remaps, posts, reservedIrte, irteCheck, faultProcessingDisabled}
 use Rattle.interrupts.specs.Request.{Format, compatibility, remappable, handleOf, requestCheck}
 use Rattle.interrupts.specs.Source.{sourceAllowed}
 use Rattle.interrupts.specs.declared.InterruptRequest.{InterruptRequest}

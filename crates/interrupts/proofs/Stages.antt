@@ -1,7 +1,7 @@
 -- What each stage of the rules answers once its entry is known.
 use Prim.Native.Nat.{ℕ, _+_, _*_, _^_}
 use mathlib.Core.Bool.{Bool, true, false, not}
-use mathlib.Core.Path.{_≡_, sym, _∙_}
+use mathlib.Core.Path.{_≡_}
 use lib.Dec.{leb}
 use Rattle.image.specs.Bits.{bit}
 use Rattle.image.specs.Check.{Check, stop, go, onCheck}
@@ -41,12 +41,13 @@ module _ (m : Memory) (registers : Registers) (source e : ℕ) {fpd : Bool} (f :
       unfolding entryRules irteCheck run
       rejected h = rw (f, present, went (reservedIrte registers e) 0x24 (irteOf (registers .eime) e) checked valid .0, h)
 
-      pub accepted : not (sourceAllowed source e) ≡ false
-          → run (onIrte (registers .eime) fpd i) m ≡ run (entryRules registers source e) m
+      -- the entry asks for j, and d comes of it
+      pub accepted : not (sourceAllowed source e) ≡ false → {j : Irte} {d : Delivery} → i ≡ j
+          → d ≡ run (onIrte (registers .eime) fpd j) m → d ≡ run (entryRules registers source e) m
       unfolding entryRules irteCheck
-      accepted h =
+      accepted h asked comes =
           let k = went (reservedIrte registers e) 0x24 (irteOf (registers .eime) e) checked valid in
-          rw (f, present, k .0, h, k .1)
+          rw (present, k .0, h, k .1, asked, ← f) comes
 
 module _ (m : Memory) (registers : Registers) (source index : ℕ) where
   pub out-of-range : leb (2 ^ (registers .s + 1)) index ≡ true → fault 0x21 false ≡ run (indexRules registers source index) m
@@ -59,7 +60,7 @@ module _ (m : Memory) (registers : Registers) (source index : ℕ) where
     unfolding indexRules run
     no-entry h = rw (inside, h)
 
-    pub entry-found : {e : ℕ} → entry 2 m (registers .«interrupt_table» + 16 * index) ≡ found e
-        → run (entryRules registers source e) m ≡ run (indexRules registers source index) m
+    pub entry-found : {e : ℕ} {d : Delivery} → entry 2 m (registers .«interrupt_table» + 16 * index) ≡ found e
+        → d ≡ run (entryRules registers source e) m → d ≡ run (indexRules registers source index) m
     unfolding indexRules run
-    entry-found h = rw (inside, h)
+    entry-found h comes = rw (inside, h) comes

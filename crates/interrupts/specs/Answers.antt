@@ -1,5 +1,4 @@
 -- What the code's answers say, in document 01's numbers.
-use mathlib.Core.Path.{_≡_}
 use Rattle.faults.specs.Fault.{faultOf}
 use Rattle.faults.specs.Reason.{numberOf}
 use Rattle.interrupts.specs.Checked.{remappedOf, dueOf}

@@ -1,6 +1,6 @@
 -- What holds of every interrupt request, whatever the registers, the request and the image. Each claim is proved under its name
 -- in proofs/: Exact, Named, Isolation.
-use Prim.Native.Nat.{ℕ, _+_, _*_, _/_, _%_, _^_, _≤_, _<_}
+use Prim.Native.Nat.{ℕ, _+_, _*_, _/_, _%_, _≤_, _<_}
 use mathlib.Core.Bool.{Bool, true, false, _&&_, _||_}
 use mathlib.Core.List.{List, [], _∷_}
 use mathlib.Core.Logic.{_⊎_}
@@ -10,7 +10,7 @@ use lib.ListN.{length, getD}
 use Rattle.image.specs.Alike.{SameWords}
 use Rattle.image.specs.Bits.{bits, bit}
 use Rattle.image.specs.Choice.{if_then_else_}
-use Rattle.image.specs.Memory.{Memory, ofImage}
+use Rattle.image.specs.Memory.{ofImage}
 use Rattle.image.specs.Rules.{run, named}
 use Rattle.registers.specs.declared.Registers.{Registers}
 use Rattle.interrupts.specs.Descriptor.{Notice, silent, notice}

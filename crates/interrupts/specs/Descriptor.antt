@@ -1,4 +1,5 @@
--- The posted interrupt descriptor, 64 bytes: request bits 255:0, ON 256, SN 257, the notice's vector 279:272 and destination.
+-- Document 01, "Posted": the posted interrupt descriptor, 64 bytes, with request bits 255:0, ON 256, SN 257, and the notice's
+-- vector and destination.
 use Prim.Native.Nat.{ℕ}
 use mathlib.Core.Bool.{Bool, not, _&&_, _||_}
 use Rattle.image.specs.Bits.{bits, bit, anySet}

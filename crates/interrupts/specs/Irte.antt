@@ -1,4 +1,5 @@
--- The interrupt remapping table entry, 16 bytes: a remapped one, or with bit 15 a posted one.
+-- Document 01, "Reserved" and "Remapped answer": the interrupt remapping table entry (IRTE), 16 bytes, a remapped one or with
+-- bit 15 a posted one.
 use Prim.Native.Nat.{ℕ, _+_, _*_, _^_}
 use mathlib.Core.Bool.{Bool, not, _&&_, _||_}
 use lib.Dec.{eqb}

@@ -1,4 +1,4 @@
--- The two formats of an interrupt request, and the index that one of the remappable format has.
+-- Document 01, "Bells: interrupts": the two formats of a request, and the index of a remappable one.
 use Prim.Native.Nat.{ℕ, _+_, _*_, _^_}
 use mathlib.Core.Bool.{not, _||_}
 use Rattle.image.specs.Bits.{bits, bit, anySet}

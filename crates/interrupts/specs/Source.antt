@@ -1,4 +1,4 @@
--- The source check of a remapping entry: SVT is 83:82, SQ 81:80, SID 79:64.
+-- Document 01, "Source check": SVT is 83:82 of the remapping entry, SQ 81:80, SID 79:64.
 use Prim.Native.Nat.{ℕ}
 use mathlib.Core.Bool.{Bool, true, _&&_}
 use lib.Dec.{eqb, leb}

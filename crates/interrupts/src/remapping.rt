@@ -44,6 +44,7 @@ fn follow_descriptor(image: &[u8], eime: bool, fpd: bool, vector: u8, at: u64) -
 fn follow_entry(image: &[u8], registers: Registers, source: SourceId, e: Entry16) -> Delivery
     ensures { λ r. ⌜ deliveryOf r ≡ run (entryRules registers (source .id) (number16 e)) (ofImage (now (image .entry))) ⌝ }
 {
+    // FPD is read whether the entry is present or not.
     let fpd = irte_bit(e, 1);
     if !irte_bit(e, 0) {
         return Delivery::Fault(Reason::IrteNotPresent, fpd);

@@ -1,8 +1,9 @@
-use mathlib.Core.Path.{_≡_, ap, sym, _∙_}
+-- Each answer by what admission tells.
+use mathlib.Core.Path.{ap, sym, _∙_}
+use borrow.Author.Needs.{needs}
 use Rattle.image.specs.Memory.{ofImage}
 use Rattle.registers.specs.Admitted.{admittedOf}
 use Rattle.interrupts.proofs.Admissions.{table-below, refuses, passes, takes}
-use borrow.Author.Needs.{needs}
 use Rattle.interrupts.proofs.decide.Statement.{statement}
 use Rattle.interrupts.proofs.decide.Tie as tie
 

@@ -1,11 +1,10 @@
-use mathlib.Core.Path.{_≡_, ap, sym, _∙_}
-use Rattle.image.specs.Memory.{ofImage}
-use Rattle.image.specs.Rules.{run}
-use Rattle.image.proofs.Trees.{run-map}
-use Rattle.interrupts.specs.Checked.{requestChecked}
-use Rattle.interrupts.specs.Interrupts.{blocked, delivered, indexRules}
-use Rattle.interrupts.proofs.Admissions.{formatted}
+-- Each answer by what the request's check tells.
+use mathlib.Core.Path.{ap, _∙_}
 use borrow.Author.Needs.{needs}
+use Rattle.image.specs.Memory.{ofImage}
+use Rattle.interrupts.specs.Checked.{requestChecked}
+use Rattle.interrupts.specs.Interrupts.{blocked}
+use Rattle.interrupts.proofs.Admissions.{stops, compatible, indexed}
 use Rattle.interrupts.proofs.decide_taken.Statement.{statement}
 use Rattle.interrupts.proofs.decide_taken.Tie as tie
 
@@ -31,12 +30,11 @@ interrupt-fault-requires : tie.Need-interrupt-fault-requires
 interrupt-fault-requires c κs = search needs
 
 returns : tie.Need-returns
-unfolding run
 returns c =
     let k = c .before .before in
     let a = k .before .before .args in
-    formatted (a .registers) (a .request) (ofImage (a .image .now))
-    (sym (ap requestChecked (c .enum-told .given .1)) ∙ k .request-check .ensures)
+    compatible (a .registers) (a .request) (ofImage (a .image .now)) (k .request-check .ensures)
+    (ap requestChecked (c .enum-told .given .1))
 
 returns-2 : tie.Need-returns-2
 returns-2 c =
@@ -44,20 +42,17 @@ returns-2 c =
     let k = i .before .before in
     let a = k .before .before .args in
     c .answer-of .ensures
-    ∙ ap (delivered (a .request .source .id) (i .index .given .0 .0)) (c .before .follow-index .ensures)
-    ∙ sym (run-map (delivered (a .request .source .id) (i .index .given .0 .0)) (indexRules (a .registers) (a .request .source .id) (i .index .given .0 .0)) (ofImage (a .image .now)))
-    ∙ formatted (a .registers) (a .request) (ofImage (a .image .now))
-    (sym (ap requestChecked (i .index .given .1)) ∙ k .request-check .ensures)
+    ∙ indexed (a .registers) (a .request) (ofImage (a .image .now)) (k .request-check .ensures)
+    (ap requestChecked (i .index .given .1)) (c .before .follow-index .ensures)
 
 returns-3 : tie.Need-returns-3
-unfolding run
 returns-3 c =
     let i = c .before .before in
     let k = i .before .before in
     let a = k .before .before .args in
     ap blocked (c .interrupt-fault .ensures)
-    ∙ formatted (a .registers) (a .request) (ofImage (a .image .now))
-    (sym (ap requestChecked (i .reason .given .1)) ∙ k .request-check .ensures)
+    ∙ stops (a .registers) (a .request) (ofImage (a .image .now)) (k .request-check .ensures)
+    (ap requestChecked (i .reason .given .1))
 
 pub decide-taken-spec : {M : Type 1} → statement M
 decide-taken-spec =

@@ -1,6 +1,8 @@
+-- The decision's answer; the image by the post, and left alone by any other answer.
 use Prim.Native.Nat.{ℕ, _+_, _≤_}
 use mathlib.Core.List.{List}
 use mathlib.Core.Path.{_≡_, ap, sym, subst, _∙_}
+use borrow.Author.Needs.{needs}
 use lib.ListN.{length}
 use Rattle.image.specs.Memory.{ofImage}
 use Rattle.image.specs.Rules.{run}
@@ -14,7 +16,6 @@ use Rattle.interrupts.specs.declared.answer.InterruptAnswer.the-variants
 use Rattle.interrupts.specs.declared.answer.Posted as posted
 use Rattle.interrupts.proofs.Inside.{Within, within}
 use Rattle.interrupts.proofs.Posts.{unposted}
-use borrow.Author.Needs.{needs}
 use Rattle.interrupts.proofs.interrupt_request.Statement.{statement}
 use Rattle.interrupts.proofs.interrupt_request.Tie as tie
 

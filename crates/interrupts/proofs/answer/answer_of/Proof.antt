@@ -1,6 +1,7 @@
+-- Each case as it came; the fault by its callee.
 use mathlib.Core.Path.{ap}
-use Rattle.interrupts.specs.Interrupts.{blocked}
 use borrow.Author.Needs.{needs}
+use Rattle.interrupts.specs.Interrupts.{blocked}
 use Rattle.interrupts.proofs.answer.answer_of.Statement.{statement}
 use Rattle.interrupts.proofs.answer.answer_of.Tie as tie
 

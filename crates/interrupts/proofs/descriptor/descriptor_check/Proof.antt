@@ -1,5 +1,6 @@
-use Rattle.interrupts.specs.Descriptor.{descriptorCheck}
+-- One test, then what its callee says.
 use borrow.Author.Needs.{needs}
+use Rattle.interrupts.specs.Descriptor.{descriptorCheck}
 use Rattle.interrupts.proofs.descriptor.descriptor_check.Statement.{statement}
 use Rattle.interrupts.proofs.descriptor.descriptor_check.Tie as tie
 

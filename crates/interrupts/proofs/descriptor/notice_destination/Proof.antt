@@ -1,9 +1,10 @@
+-- One field or the other, each no wider than 32 bits.
 use Prim.Native.Nat.{_^_}
+use native.Mathlib.Nat.{lt-of-lt-of-le}
+use borrow.Author.Needs.{needs}
+use lib.Dec.{lit≤}
 use Rattle.image.specs.Entries.{number64}
 use Rattle.image.proofs.Fields.{fits}
-use native.Mathlib.Nat.{lt-of-lt-of-le}
-use lib.Dec.{lit≤}
-use borrow.Author.Needs.{needs}
 use Rattle.interrupts.proofs.descriptor.notice_destination.Statement.{statement}
 use Rattle.interrupts.proofs.descriptor.notice_destination.Tie as tie
 

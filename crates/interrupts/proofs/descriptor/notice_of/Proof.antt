@@ -1,6 +1,7 @@
+-- ON and SN as their fields tell; what is due by its callees.
+use borrow.Author.Needs.{needs}
 use Rattle.image.specs.Entries.{number64}
 use Rattle.image.proofs.Fields.{fits}
-use borrow.Author.Needs.{needs}
 use Rattle.interrupts.proofs.descriptor.notice_of.Statement.{statement}
 use Rattle.interrupts.proofs.descriptor.notice_of.Tie as tie
 

@@ -1,3 +1,4 @@
+-- Each item by its callee.
 use borrow.Author.Needs.{needs}
 use Rattle.interrupts.proofs.descriptor.reserved_descriptor.Statement.{statement}
 use Rattle.interrupts.proofs.descriptor.reserved_descriptor.Tie as tie

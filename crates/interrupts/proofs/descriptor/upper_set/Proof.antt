@@ -1,3 +1,4 @@
+-- Bits 511:320 are the last three words.
 use Prim.Native.Nat.{_^_, _<_}
 use mathlib.Core.Path.{sym}
 use native.Mathlib.Omega.{arith}

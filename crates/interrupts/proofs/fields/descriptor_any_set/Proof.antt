@@ -1,3 +1,4 @@
+-- A field is 0 or not.
 use borrow.Author.Needs.{needs}
 use Rattle.interrupts.proofs.fields.descriptor_any_set.Statement.{statement}
 use Rattle.interrupts.proofs.fields.descriptor_any_set.Tie as tie

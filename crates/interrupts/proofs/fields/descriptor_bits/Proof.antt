@@ -1,9 +1,10 @@
+-- The field of the fifth word.
 use Prim.Native.Nat.{_^_, _<_}
 use mathlib.Core.List.{[], _∷_}
 use mathlib.Core.Path.{sym, _∙_}
 use native.Mathlib.Omega.{arith}
-use Rattle.interrupts.proofs.Words.{fifth}
 use borrow.Author.Needs.{needs}
+use Rattle.interrupts.proofs.Words.{fifth}
 use Rattle.interrupts.proofs.fields.descriptor_bits.Statement.{statement}
 use Rattle.interrupts.proofs.fields.descriptor_bits.Tie as tie
 

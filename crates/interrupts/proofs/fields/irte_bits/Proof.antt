@@ -1,15 +1,16 @@
+-- A field of the low word, or of the high one.
 use Prim.Native.Nat.{ℕ, _-_, _^_, _≤_, _<_}
 use mathlib.Core.Bool.{true, _||_}
 use mathlib.Core.List.{[], _∷_}
 use mathlib.Core.Path.{_≡_, ap, sym, _∙_}
-use Rattle.image.specs.Bits.{bits}
-use Rattle.image.proofs.Words.{spell-one}
 use native.Mathlib.Omega.{arith}
 use borrow.Author.Tests.{leb-true, le-ltb}
+use borrow.Author.Needs.{needs}
 use lib.Dec.{leb, ltb}
+use Rattle.image.specs.Bits.{bits}
+use Rattle.image.proofs.Words.{spell-one}
 use Rattle.image.proofs.Fields.{low-field}
 use Rattle.interrupts.proofs.Words.{from-64}
-use borrow.Author.Needs.{needs}
 use Rattle.interrupts.proofs.fields.irte_bits.Statement.{statement}
 use Rattle.interrupts.proofs.fields.irte_bits.Tie as tie
 

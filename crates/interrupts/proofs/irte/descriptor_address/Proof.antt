@@ -1,6 +1,7 @@
+-- Two fields that do not meet: 6 + 26 bits, then 32.
 use native.Mathlib.Omega.{arith}
-use Rattle.image.specs.Bits.{bits}
 use borrow.Author.Needs.{needs}
+use Rattle.image.specs.Bits.{bits}
 use Rattle.interrupts.proofs.irte.descriptor_address.Statement.{statement}
 use Rattle.interrupts.proofs.irte.descriptor_address.Tie as tie
 

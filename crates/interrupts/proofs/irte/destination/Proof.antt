@@ -1,6 +1,7 @@
+-- One field or the other.
 use native.Mathlib.Omega.{arith}
-use Rattle.image.specs.Bits.{bits}
 use borrow.Author.Needs.{needs}
+use Rattle.image.specs.Bits.{bits}
 use Rattle.interrupts.proofs.irte.destination.Statement.{statement}
 use Rattle.interrupts.proofs.irte.destination.Tie as tie
 

@@ -1,3 +1,4 @@
+-- One test, then what its callee says.
 use borrow.Author.Needs.{needs}
 use Rattle.interrupts.proofs.irte.irte_check.Statement.{statement}
 use Rattle.interrupts.proofs.irte.irte_check.Tie as tie

@@ -1,6 +1,7 @@
+-- By bit 15.
 use native.Mathlib.Omega.{arith}
-use Rattle.image.specs.Bits.{bits}
 use borrow.Author.Needs.{needs}
+use Rattle.image.specs.Bits.{bits}
 use Rattle.interrupts.proofs.irte.irte_of.Statement.{statement}
 use Rattle.interrupts.proofs.irte.irte_of.Tie as tie
 

@@ -1,6 +1,7 @@
+-- Field by field.
 use native.Mathlib.Omega.{arith}
-use Rattle.image.specs.Bits.{bits}
 use borrow.Author.Needs.{needs}
+use Rattle.image.specs.Bits.{bits}
 use Rattle.interrupts.proofs.irte.remapped_by.Statement.{statement}
 use Rattle.interrupts.proofs.irte.remapped_by.Tie as tie
 

@@ -1,3 +1,4 @@
+-- Each item by its callee.
 use borrow.Author.Needs.{needs}
 use Rattle.interrupts.proofs.irte.reserved_in_all.Statement.{statement}
 use Rattle.interrupts.proofs.irte.reserved_in_all.Tie as tie

@@ -1,5 +1,6 @@
-use Rattle.registers.proofs.Powers.{from-bit}
+-- Each item by its callee; address bits from HAW up as a comparison with 2^HAW.
 use borrow.Author.Needs.{needs}
+use Rattle.registers.proofs.Powers.{from-bit}
 use Rattle.interrupts.proofs.irte.reserved_in_posted.Statement.{statement}
 use Rattle.interrupts.proofs.irte.reserved_in_posted.Tie as tie
 

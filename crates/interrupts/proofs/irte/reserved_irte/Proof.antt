@@ -1,5 +1,6 @@
-use Rattle.interrupts.specs.Irte.{reservedIrte}
+-- By bit 15, the entry's kind.
 use borrow.Author.Needs.{needs}
+use Rattle.interrupts.specs.Irte.{reservedIrte}
 use Rattle.interrupts.proofs.irte.reserved_irte.Statement.{statement}
 use Rattle.interrupts.proofs.irte.reserved_irte.Tie as tie
 

@@ -1,10 +1,11 @@
+-- A store of one byte.
 use Prim.Native.Nat.{_+_, _/_, _%_}
 use mathlib.Core.Path.{ap}
 use native.Mathlib.Omega.{arith}
-use lib.ListN.{getD, set}
-use Rattle.interrupts.proofs.Posts.{with-bit}
-use Rattle.interrupts.specs.Post.{setBit}
 use borrow.Author.Needs.{needs}
+use lib.ListN.{getD, set}
+use Rattle.interrupts.specs.Post.{setBit}
+use Rattle.interrupts.proofs.Posts.{with-bit}
 use Rattle.interrupts.proofs.post.set_bit.Statement.{statement}
 use Rattle.interrupts.proofs.post.set_bit.Tie as tie
 

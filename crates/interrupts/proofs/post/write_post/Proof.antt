@@ -1,6 +1,7 @@
+-- One bit, and with a notice a second.
 use mathlib.Core.Path.{ap, _∙_}
-use Rattle.interrupts.specs.Post.{setBit}
 use borrow.Author.Needs.{needs}
+use Rattle.interrupts.specs.Post.{setBit}
 use Rattle.interrupts.proofs.post.write_post.Statement.{statement}
 use Rattle.interrupts.proofs.post.write_post.Tie as tie
 

@@ -1,9 +1,10 @@
-use mathlib.Core.Path.{_≡_, ap, sym, _∙_}
+-- Each answer by what the fetch and the check tell.
+use mathlib.Core.Path.{ap, sym, _∙_}
+use borrow.Author.Needs.{needs}
 use Rattle.image.specs.Memory.{ofImage}
 use Rattle.image.specs.Entries.{fetched64}
 use Rattle.interrupts.specs.Checked.{descriptorChecked}
 use Rattle.interrupts.proofs.Stages.{no-descriptor, descriptor-checked}
-use borrow.Author.Needs.{needs}
 use Rattle.interrupts.proofs.remapping.follow_descriptor.Statement.{statement}
 use Rattle.interrupts.proofs.remapping.follow_descriptor.Tie as tie
 

@@ -1,17 +1,13 @@
-use mathlib.Core.Bool.{Bool, not, false}
+-- Each answer by what the tests and the check tell.
+use mathlib.Core.Bool.{not, false}
+use mathlib.Core.Path.{_≡_, refl, ap, sym, _∙_}
+use borrow.Author.Needs.{needs}
 use Rattle.image.specs.Rules.{run}
-use Rattle.interrupts.specs.Checked.{askedOf, irteChecked}
-use Rattle.interrupts.specs.Interrupts.{onIrte, entryRules}
-use Rattle.interrupts.specs.declared.irte.Irte.{Irte}
-use mathlib.Core.Path.{_≡_, ap, sym, _∙_}
 use Rattle.image.specs.Memory.{ofImage}
 use Rattle.image.specs.Bits.{bit}
 use Rattle.image.specs.Entries.{number16}
+use Rattle.interrupts.specs.Checked.{askedOf, irteChecked}
 use Rattle.interrupts.proofs.Stages.{absent, reserved, rejected, accepted}
-use Rattle.interrupts.specs.Irte.{irteCheck}
-use Rattle.interrupts.specs.Interrupts.{entryRules}
-use Rattle.interrupts.proofs.Checks.{stopped, went}
-use borrow.Author.Needs.{needs}
 use Rattle.interrupts.proofs.remapping.follow_entry.Statement.{statement}
 use Rattle.interrupts.proofs.remapping.follow_entry.Tie as tie
 
@@ -70,39 +66,30 @@ enum-known-irte-3 c = search needs
 follow-descriptor-requires : tie.Need-follow-descriptor-requires
 follow-descriptor-requires c κs = search needs
 
-abbrev start : tie.Else2 → tie.Start
-start c = c .before .before .before .before .before .before .before .before .before .before
-
-abbrev fpd : tie.Else2 → Bool
-fpd c = c .before .before .before .before .before .before .before .before .irte-bit .result
-
-allowed : (c : tie.Else2)
-    → run (onIrte (start c .args .registers .eime) (fpd c) (askedOf (c .before .before .before .irte .given .0 .0))) (ofImage (start c .args .image .now))
-    ≡ run (entryRules (start c .args .registers) (start c .args .source .id) (number16 (start c .args .e))) (ofImage (start c .args .image .now))
-allowed c =
-    let v = c .before .before .before in
-    let k = v .before .before in
-    let b = k .before .before .before in
-    let a = start c .args in
-    accepted (ofImage (a .image .now)) (a .registers) (a .source .id) (number16 (a .e)) (b .irte-bit .ensures) (present (k .before))
-    (k .irte-check .ensures) (ap irteChecked (v .irte .given .1))
-    (ap not (sym (c .before .source-allowed .ensures)) ∙ c .if2 .left)
-
 returns-4 : tie.Need-returns-4
 unfolding run
 returns-4 c =
     let s = c .before .before .before in
-    let a = start s .args in
-    ap (λ (i : Irte). run (onIrte (a .registers .eime) (fpd s) (askedOf i)) (ofImage (a .image .now))) (sym (c .before .irte2 .given .1))
-    ∙ allowed s
+    let v = s .before .before .before in
+    let k = v .before .before in
+    let b = k .before .before .before in
+    let a = b .before .before .args in
+    accepted (ofImage (a .image .now)) (a .registers) (a .source .id) (number16 (a .e)) (b .irte-bit .ensures) (present (k .before))
+    (k .irte-check .ensures) (ap irteChecked (v .irte .given .1))
+    (ap not (sym (s .before .source-allowed .ensures)) ∙ s .if2 .left)
+    (ap askedOf (c .before .irte2 .given .1)) refl
 
 returns-5 : tie.Need-returns-5
 returns-5 c =
     let s = c .before .before .before .before in
-    let a = start s .args in
-    c .follow-descriptor .ensures
-    ∙ ap (λ (i : Irte). run (onIrte (a .registers .eime) (fpd s) (askedOf i)) (ofImage (a .image .now))) (sym (c .before .before .irte3 .given .1))
-    ∙ allowed s
+    let v = s .before .before .before in
+    let k = v .before .before in
+    let b = k .before .before .before in
+    let a = b .before .before .args in
+    accepted (ofImage (a .image .now)) (a .registers) (a .source .id) (number16 (a .e)) (b .irte-bit .ensures) (present (k .before))
+    (k .irte-check .ensures) (ap irteChecked (v .irte .given .1))
+    (ap not (sym (s .before .source-allowed .ensures)) ∙ s .if2 .left)
+    (ap askedOf (c .before .before .irte3 .given .1)) (c .follow-descriptor .ensures)
 
 pub follow-entry-spec : {M : Type 1} → statement M
 follow-entry-spec =

@@ -1,8 +1,9 @@
-use mathlib.Core.Path.{_≡_, ap, sym, _∙_}
+-- Each answer by what the index and the fetch tell.
+use mathlib.Core.Path.{ap, sym, _∙_}
+use borrow.Author.Needs.{needs}
 use Rattle.image.specs.Memory.{ofImage}
 use Rattle.image.specs.Entries.{fetched16}
 use Rattle.interrupts.proofs.Stages.{out-of-range, no-entry, entry-found}
-use borrow.Author.Needs.{needs}
 use Rattle.interrupts.proofs.remapping.follow_index.Statement.{statement}
 use Rattle.interrupts.proofs.remapping.follow_index.Tie as tie
 
@@ -54,10 +55,10 @@ returns-3 c =
     let f = found .before .before in
     let i = f .before .before in
     let a = i .before .before .before .before .args in
-    c .follow-entry .ensures
-    ∙ entry-found (ofImage (a .image .now)) (a .registers) (a .source .id) (a .index)
+    entry-found (ofImage (a .image .now)) (a .registers) (a .source .id) (a .index)
     (sym (i .before .at-or-above-power .ensures) ∙ i .if1 .left)
     (sym (f .fetch16 .ensures) ∙ ap fetched16 (found .e .given .1))
+    (c .follow-entry .ensures)
 
 pub follow-index-spec : {M : Type 1} → statement M
 follow-index-spec =

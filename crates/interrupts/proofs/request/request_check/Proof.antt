@@ -2,9 +2,9 @@
 use mathlib.Core.Path.{_≡_, sym, _∙_}
 use native.Mathlib.Omega.{arith}
 use borrow.Author.Tests.{eq-eqb, ne-eqb}
+use borrow.Author.Needs.{needs}
 use Rattle.image.specs.Bits.{bits}
 use Rattle.interrupts.specs.Request.{requestCheck}
-use borrow.Author.Needs.{needs}
 use Rattle.interrupts.proofs.request.request_check.Statement.{statement}
 use Rattle.interrupts.proofs.request.request_check.Tie as tie
 

@@ -1,23 +1,18 @@
-use Rattle.image.specs.Bits.{bits}
-use native.Mathlib.Omega.{arith}
-use mathlib.Core.Path.{_≡_}
+-- 15:8 and 7:0 of 16 bits are quotient and rest by 256.
 use Prim.Native.Nat.{_/_, _%_}
+use mathlib.Core.Path.{_≡_}
+use native.Mathlib.Omega.{arith}
 use borrow.Author.Needs.{needs}
+use Rattle.image.specs.Bits.{bits}
 use Rattle.interrupts.proofs.source.bus_in_range.Statement.{statement}
 use Rattle.interrupts.proofs.source.bus_in_range.Tie as tie
-use Rattle.interrupts.proofs.source.bus_in_range.Reads as reads
-use Rattle.interrupts.proofs.source.bus_in_range.Lts as lts
-use Rattle.registers.proofs.source_id.SourceId.bus.Reads as bus-reads
 
--- src/source.rt:23:15
 bus-requires : tie.Need-bus-requires
 bus-requires c κs = search needs
 
--- src/source.rt:23:15
 cast-bus : tie.Need-cast-bus
 cast-bus c = search needs
 
--- src/source.rt:20:1
 returns : tie.Need-returns
 unfolding bits
 returns c =

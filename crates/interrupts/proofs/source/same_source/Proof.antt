@@ -1,27 +1,22 @@
-use Rattle.interrupts.proofs.SourceId.{above-function, low-two, lowest}
+-- By SQ: fields of 16 bits as quotients and rests.
 use borrow.Author.Tests.{eq-eqb, ne-eqb}
+use Rattle.interrupts.proofs.SourceId.{above-function, low-two, lowest}
 use Rattle.interrupts.proofs.source.same_source.Statement.{statement}
 use Rattle.interrupts.proofs.source.same_source.Tie as tie
-use Rattle.interrupts.proofs.source.same_source.Reads as reads
-use Rattle.interrupts.proofs.source.same_source.Lts as lts
 
--- src/source.rt:9:1
 returns : tie.Need-returns
 returns c = rw (eq-eqb _ _ (c .match .keys1))
 
--- src/source.rt:9:1
 returns-2 : tie.Need-returns-2
 returns-2 c =
     let a = c .before .args in
     rw (c .match .keys2, above-function (c .before .fits .sid .fits), above-function (c .before .fits .source .fits), low-two (a .sid), low-two (a .source))
 
--- src/source.rt:9:1
 returns-3 : tie.Need-returns-3
 returns-3 c =
     let a = c .before .args in
     rw (c .match .keys3, above-function (c .before .fits .sid .fits), above-function (c .before .fits .source .fits), lowest (a .sid), lowest (a .source))
 
--- src/source.rt:9:1
 returns-4 : tie.Need-returns-4
 returns-4 c =
     let no = c .match .rest in

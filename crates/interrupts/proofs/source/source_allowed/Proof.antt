@@ -1,8 +1,9 @@
+-- By SVT; then what the callee says.
 use native.Mathlib.Omega.{arith}
 use borrow.Author.Tests.{ne-eqb}
+use borrow.Author.Needs.{needs}
 use Rattle.image.specs.Bits.{bits}
 use Rattle.interrupts.specs.Source.{sourceAllowed}
-use borrow.Author.Needs.{needs}
 use Rattle.interrupts.proofs.source.source_allowed.Statement.{statement}
 use Rattle.interrupts.proofs.source.source_allowed.Tie as tie
 
