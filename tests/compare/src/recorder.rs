@@ -15,7 +15,7 @@ use std::fmt;
 pub const NAME: &str = "recorder";
 
 /// Sequences.
-pub const SEQUENCES: u64 = 40_000;
+pub const SEQUENCES: u64 = 60_000;
 
 /// One call.
 #[derive(Clone, Copy)]

@@ -5,7 +5,7 @@ use ordinary::{Fault, InterruptAnswer, MemoryAnswer, Registers, Unit};
 use reference::{Notice, Outcome};
 
 /// Of each suite, one world in so many.
-const PART: usize = 8;
+const PART: usize = 16;
 
 /// Cases at the least.
 const CASES: u64 = 500_000;

@@ -11,7 +11,7 @@ const NAME: &str = "both";
 /// As many as there is time for.
 pub const SUITE: Suite = Suite {
     name: NAME,
-    worlds: 120_000,
+    worlds: 200_000,
     build,
 };
 

@@ -13,7 +13,7 @@ const NAME: &str = "self-referring";
 /// As many as there is time for.
 pub const SUITE: Suite = Suite {
     name: NAME,
-    worlds: 60_000,
+    worlds: 110_000,
     build,
 };
 
