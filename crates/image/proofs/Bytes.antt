@@ -31,8 +31,10 @@ use native.Mathlib.Omega.{arith}
 use lib.Arith.{mod-mul}
 use lib.Dec.{lit<}
 use lib.ListN.{length, getD, set, take, drop}
-use lib.Seq.{paste, paste-suc, take-all}
+use lib.Seq.{paste, paste-suc, take-all, getD-drop}
+use Rattle.image.specs.Bits.{bits}
 use Rattle.image.specs.Bytes.{littleEndian, bytesOf}
+use Rattle.image.proofs.Fields.{past-top, in-digit, above-digit}
 
 pub length-bytesOf : (n value : ℕ) → length (bytesOf n value) ≡ n
 unfolding bytesOf
@@ -89,7 +91,11 @@ last-byte zero (x ∷ xs) h = simp (mul-zero, add-zero, one-mul, zero-add)
 last-byte (suc n) (x ∷ xs) h =
     rw (last-byte n xs (omega arith), mul-add, ← add-assoc, ← mul-assoc, ← pow-succ' 256 n)
 
-pub bytes-below : (n : ℕ) (xs : List ℕ) → ((i : ℕ) → getD xs i 0 < 256) → littleEndian (take n xs) < 256 ^ n
+-- a run of bytes, each below 256
+abbrev pub AreBytes : List ℕ → Type 0
+AreBytes xs = (i : ℕ) → getD xs i 0 < 256
+
+pub bytes-below : (n : ℕ) (xs : List ℕ) → AreBytes xs → littleEndian (take n xs) < 256 ^ n
 unfolding littleEndian
 bytes-below zero xs bytes = lit< tt
 bytes-below (suc n) [] bytes = one-le-pow (suc n) 256 (lit< tt)
@@ -98,15 +104,21 @@ bytes-below (suc n) (x ∷ xs) bytes =
     let rest = bytes-below n xs (λ i. bytes (suc i)) in
     rw (pow-succ' 256 n) (omega arith)
 
+-- the bytes of a number with one more byte below it
+pub byte-before : (n d rest : ℕ) → d < 256 → bytesOf (suc n) (d + 256 * rest) ≡ d ∷ bytesOf n rest
+unfolding bytesOf
+byte-before n d rest h =
+    rw (add-mul-mod-self-left d 256 rest, add-mul-div-left d rest (lit< tt), mod-eq-of-lt h, div-eq-of-lt h, zero-add)
+
 -- the number that bytes spell has those bytes, and the bytes of a number spell what they hold of it
-pub bytes-back : (n : ℕ) (xs : List ℕ) → n ≤ length xs → ((i : ℕ) → getD xs i 0 < 256)
+pub bytes-back : (n : ℕ) (xs : List ℕ) → n ≤ length xs → AreBytes xs
     → bytesOf n (littleEndian (take n xs)) ≡ take n xs
 unfolding bytesOf littleEndian
 bytes-back zero xs h bytes = refl
 bytes-back (suc n) [] h bytes = absurd (omega arith)
 bytes-back (suc n) (x ∷ xs) h bytes =
-    rw (add-mul-mod-self-left x 256 (littleEndian (take n xs)), add-mul-div-left x (littleEndian (take n xs)) (lit< tt), mod-eq-of-lt (bytes 0), div-eq-of-lt (bytes 0), zero-add)
-    (ap (λ (l : List ℕ). x ∷ l) (bytes-back n xs (omega arith) (λ i. bytes (suc i))))
+    byte-before n x (littleEndian (take n xs)) (bytes 0)
+    ∙ ap (λ (l : List ℕ). x ∷ l) (bytes-back n xs (omega arith) (λ i. bytes (suc i)))
 
 pub number-back : (n value : ℕ) → littleEndian (bytesOf n value) ≡ value % 256 ^ n
 unfolding bytesOf littleEndian
@@ -114,3 +126,37 @@ number-back zero value = sym (mod-one value)
 number-back (suc n) value =
     rw (number-back n (value / 256), pow-suc 256 n, mod-mul value {m = 256 ^ n} {c = 256} (one-le-pow n 256 (lit< tt)) (lit< tt))
     (add-comm (value % 256) _ ∙ rw (mul-comm 256 (value / 256 % 256 ^ n)))
+
+pub bytes-taken : (n : ℕ) (xs : List ℕ) → AreBytes xs → AreBytes (take n xs)
+bytes-taken zero xs bytes i = lit< tt
+bytes-taken (suc n) [] bytes i = lit< tt
+bytes-taken (suc n) (x ∷ xs) bytes zero = bytes 0
+bytes-taken (suc n) (x ∷ xs) bytes (suc i) = bytes-taken n xs (λ j. bytes (suc j)) i
+
+no-bits : (high low : ℕ) → bits 0 high low ≡ 0
+no-bits high low = past-top 0 0 high {low = low} (lit< tt) (omega arith)
+
+-- a field from byte n up
+pub from-byte : (n : ℕ) (xs : List ℕ) → AreBytes xs → (high low : ℕ)
+    → bits (littleEndian xs) (8 * n + high) (8 * n + low) ≡ bits (littleEndian (drop n xs)) high low
+unfolding littleEndian
+from-byte zero xs bytes high low = rw (zero-add high, zero-add low)
+from-byte (suc n) [] bytes high low = no-bits (8 * suc n + high) (8 * suc n + low) ∙ sym (no-bits high low)
+from-byte (suc n) (x ∷ xs) bytes high low =
+    let top : 8 * suc n + high ≡ 8 + (8 * n + high) = omega arith in
+    let end : 8 * suc n + low ≡ 8 + (8 * n + low) = omega arith in
+    rw (top, end, above-digit 8 (littleEndian xs) (bytes 0) (8 * n + high) (8 * n + low))
+    (from-byte n xs (λ i. bytes (suc i)) high low)
+
+first-byte : (xs : List ℕ) → AreBytes xs → (high low : ℕ) → high < 8 → bits (littleEndian xs) high low ≡ bits (getD xs 0 0) high low
+unfolding littleEndian
+first-byte [] bytes high low h = refl
+first-byte (x ∷ xs) bytes high low h = in-digit 8 (littleEndian xs) (bytes 0) high low h
+
+-- a field within byte n
+pub in-byte : (n : ℕ) (xs : List ℕ) → AreBytes xs → (high low : ℕ) → high < 8
+    → bits (littleEndian xs) (8 * n + high) (8 * n + low) ≡ bits (getD xs n 0) high low
+in-byte n xs bytes high low h =
+    from-byte n xs bytes high low
+    ∙ first-byte (drop n xs) (λ i. rw getD-drop (bytes (n + i))) high low h
+    ∙ ap (λ (b : ℕ). bits b high low) (getD-drop n xs 0 0 ∙ ap (λ (i : ℕ). getD xs i 0) (add-zero n))

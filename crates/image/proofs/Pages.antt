@@ -35,7 +35,7 @@ page size image table {from} {held} starts holds = go (decLe table (length image
     go (no h) =
         rw (drop-of-length-le image {i = from} (omega arith), drop-of-length-le image {i = table} (omega arith), take-nil ((from + held) - from), take-nil size)
 
-drop-take : (k n : ℕ) (l : List ℕ) → drop k (take (k + n) l) ≡ take n (drop k l)
+pub drop-take : (k n : ℕ) (l : List ℕ) → drop k (take (k + n) l) ≡ take n (drop k l)
 drop-take zero n l = rw (zero-add n)
 drop-take (suc k) n [] = rw (take-nil (suc k + n), take-nil n)
 drop-take (suc k) n (a ∷ l) = rw (suc-add k n) (drop-take k n l)

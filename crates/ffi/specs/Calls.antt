@@ -1,0 +1,27 @@
+-- What each call answers, and what it leaves in the buffers that are lent to be written. The first line that applies decides.
+use Prim.Native.Nat.{ℕ}
+use mathlib.Core.Bool.{Bool, not}
+use mathlib.Core.List.{List}
+use lib.Dec.{eqb, ltb}
+use lib.ListN.{length}
+use Rattle.image.specs.Choice.{if_then_else_}
+use Rattle.image.specs.Memory.{ofImage}
+use Rattle.image.specs.Rules.{run}
+use Rattle.dma.specs.Requests.{memoryRules}
+use Rattle.dma.specs.declared.MemoryRequest.{MemoryRequest}
+use Rattle.ffi.specs.Answer.{memoryBytes}
+use Rattle.ffi.specs.Registers.{malformed, unpacked}
+use Rattle.ffi.specs.Status.{ok, badRegisters, badAnswer, badKind}
+
+-- write is 1 for a write, 0 for a read
+abbrev pub memoryRequest : (source address write : ℕ) → MemoryRequest
+memoryRequest source address write =
+    record { source = record { id = source }; address = address; write = eqb write 1 }
+
+-- the status, and the buffer for the answer
+unfoldable pub memoryCall : (registers image : List ℕ) (source address write : ℕ) (answer : List ℕ) → ℕ × List ℕ
+memoryCall registers image source address write answer =
+    if malformed registers then (badRegisters, answer)
+    else if not (eqb (length answer) 24) then (badAnswer, answer)
+    else if ltb 1 write then (badKind, answer)
+    else (ok, memoryBytes (run (memoryRules (unpacked registers) (memoryRequest source address write)) (ofImage image)))

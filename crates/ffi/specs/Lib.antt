@@ -1,0 +1,5 @@
+pub mod Answer
+pub mod Buffer
+pub mod Calls
+pub mod Registers
+pub mod Status

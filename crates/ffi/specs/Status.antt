@@ -1,0 +1,14 @@
+-- What a call answers, by number, beside what the recorder answers.
+use Prim.Native.Nat.{ℕ}
+
+abbrev pub ok : ℕ
+ok = 0x00
+
+abbrev pub badRegisters : ℕ
+badRegisters = 0x101
+
+abbrev pub badAnswer : ℕ
+badAnswer = 0x102
+
+abbrev pub badKind : ℕ
+badKind = 0x103

@@ -1,0 +1,44 @@
+// A device's requests.
+ghost use mathlib.Core.Path.{_≡_};
+ghost use Rattle.ffi.specs.Calls.{memoryCall};
+use crate::answer::pack_memory;
+use crate::answer::store;
+use crate::status::BAD_ANSWER;
+use crate::status::BAD_KIND;
+use crate::status::BAD_REGISTERS;
+use crate::status::OK;
+use crate::unpack::malformed;
+use crate::unpack::unpack;
+use dma::MemoryRequest;
+use dma::memory_request;
+use registers::SourceId;
+
+#[no_mangle]
+pub extern "C" fn galitzaf_memory_request(
+    registers: &[u8],
+    image: &[u8],
+    source: u16,
+    address: u64,
+    write: u8,
+    answer: &mut [u8],
+) -> u32
+    ensures { λ r. ⌜ (r, now (answer .exit)) ≡ memoryCall (now (registers .entry)) (now (image .entry)) source address write (now (answer .entry)) ⌝ }
+{
+    if malformed(registers) {
+        return BAD_REGISTERS;
+    }
+    if answer.len() != 24 {
+        return BAD_ANSWER;
+    }
+    if 1 < write {
+        return BAD_KIND;
+    }
+    let request = MemoryRequest {
+        source: SourceId::from_number(source),
+        address,
+        write: write == 1,
+    };
+    let packed = pack_memory(memory_request(unpack(registers), image, request));
+    store(answer, packed.head, packed.low, packed.high);
+    OK
+}
