@@ -1,5 +1,6 @@
 pub mod Answer
 pub mod Buffer
 pub mod Calls
+pub mod Recording
 pub mod Registers
 pub mod Status

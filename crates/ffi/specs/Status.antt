@@ -12,3 +12,9 @@ badAnswer = 0x102
 
 abbrev pub badKind : ℕ
 badKind = 0x103
+
+abbrev pub badRecorder : ℕ
+badRecorder = 0x104
+
+abbrev pub noFault : ℕ
+noFault = 0x10

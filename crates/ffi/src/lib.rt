@@ -1,7 +1,11 @@
 // The C interface that include/galitzaf.h fixes: arguments are unpacked, the unit is asked, and its answer is packed.
 mod answer;
+mod recorder;
 mod requests;
 mod status;
 mod unpack;
 
+pub use recorder::galitzaf_clear_overflow;
+pub use recorder::galitzaf_clear_slot;
+pub use recorder::galitzaf_record;
 pub use requests::galitzaf_memory_request;

@@ -10,7 +10,7 @@ use image::field;
 use registers::Registers;
 
 // A word of a buffer; 0 where it doesn't lie whole in it.
-fn word(buffer: &[u8], at: u64) -> u64
+pub fn word(buffer: &[u8], at: u64) -> u64
     ensures { λ r. ⌜ r ≡ onFetch (entry 1 (ofImage (now (buffer .entry))) at) 0 (λ w. w) ⌝ }
 {
     match fetch8(buffer, at) {

@@ -1,0 +1,16 @@
+use Rattle.ffi.proofs.States.{wrong-answer-length, by-kind}
+use borrow.Author.Needs.{needs}
+use Rattle.ffi.proofs.recorder.bad_answer.Statement.{statement}
+use Rattle.ffi.proofs.recorder.bad_answer.Tie as tie
+
+returns : tie.Need-returns
+returns c = wrong-answer-length (c .before .args .answer .now) (c .if1 .taken)
+
+shared-slice-read-result : tie.Need-shared-slice-read-result
+shared-slice-read-result c = search needs
+
+returns-2 : tie.Need-returns-2
+returns-2 c = by-kind (c .before .before .args .answer .now) (c .before .if1 .left)
+
+pub bad-answer-spec : {M : Type 1} → statement M
+bad-answer-spec = tie.close (tie.spec returns shared-slice-read-result returns-2)

@@ -1,0 +1,107 @@
+// The recorder's calls, its state in two bytes: the next slot, and overflow as 0 or 1.
+ghost use mathlib.Core.Path.{_≡_};
+ghost use mathlib.Core.Bool.{false};
+ghost use lib.Dec.{eqb};
+ghost use lib.ListN.{length};
+ghost use Rattle.ffi.specs.Buffer.{byte};
+ghost use Rattle.ffi.specs.Recording.{badState, stateBytes, badFault, clearSlotCall, clearOverflowCall, recordCall};
+use crate::answer::flag;
+use crate::status::BAD_ANSWER;
+use crate::status::BAD_RECORDER;
+use crate::status::NO_FAULT;
+use crate::status::REFUSED_3;
+use crate::unpack::word;
+use faults::Recorder;
+use faults::after_clear;
+use faults::after_clear_overflow;
+use faults::after_words;
+use faults::out_of_place;
+
+fn bad_state(recorder: &[u8]) -> bool
+    ensures { λ r. ⌜ r ≡ badState (now (recorder .entry)) ⌝ }
+{
+    if recorder.len() != 2 {
+        return true;
+    }
+    1 < recorder[1]
+}
+
+fn read_state(recorder: &[u8]) -> Recorder
+    requires { ⌜ badState (now recorder) ≡ false ⌝ }
+    ensures { λ r. ⌜ (r .next ≡ byte (now (recorder .entry)) 0) × (r .overflow ≡ eqb (byte (now (recorder .entry)) 1) 1) ⌝ }
+{
+    Recorder {
+        next: recorder[0],
+        overflow: recorder[1] == 1,
+    }
+}
+
+fn write_state(recorder: &mut [u8], state: Recorder)
+    requires { ⌜ length (now recorder) ≡ 2 ⌝ }
+    ensures { λ _. ⌜ now (recorder .exit) ≡ stateBytes (state .next) (state .overflow) ⌝ }
+{
+    recorder[0] = state.next;
+    recorder[1] = flag(state.overflow);
+}
+
+#[no_mangle]
+pub extern "C" fn galitzaf_clear_slot(records: &mut [u8], recorder: &[u8], slot: u8) -> u32
+    ensures { λ r. ⌜ (r, now (records .exit)) ≡ clearSlotCall (now (records .entry)) (now (recorder .entry)) slot ⌝ }
+{
+    if bad_state(recorder) {
+        return BAD_RECORDER;
+    }
+    let step = after_clear(records, read_state(recorder), slot);
+    let answer = step.answer;
+    answer.number()
+}
+
+#[no_mangle]
+pub extern "C" fn galitzaf_clear_overflow(records: &[u8], recorder: &mut [u8]) -> u32
+    ensures { λ r. ⌜ (r, now (recorder .exit)) ≡ clearOverflowCall (now (records .entry)) (now (recorder .entry)) ⌝ }
+{
+    if bad_state(recorder) {
+        return BAD_RECORDER;
+    }
+    let step = after_clear_overflow(records, read_state(recorder));
+    let answer = step.answer;
+    let left = step.recorder;
+    write_state(recorder, left);
+    answer.number()
+}
+
+// Not 24 bytes, or of no kind that a request answers.
+fn bad_answer(answer: &[u8]) -> bool
+    ensures { λ r. ⌜ r ≡ badFault (now (answer .entry)) ⌝ }
+{
+    if answer.len() != 24 {
+        return true;
+    }
+    5 < answer[0]
+}
+
+#[no_mangle]
+pub extern "C" fn galitzaf_record(answer: &[u8], records: &mut [u8], recorder: &mut [u8]) -> u32
+    ensures { λ r. ⌜ (r, now (records .exit), now (recorder .exit)) ≡ recordCall (now (answer .entry)) (now (records .entry)) (now (recorder .entry)) ⌝ }
+{
+    if bad_answer(answer) {
+        return BAD_ANSWER;
+    }
+    if bad_state(recorder) {
+        return BAD_RECORDER;
+    }
+    let state = read_state(recorder);
+    if out_of_place(records.len(), state.next) {
+        return REFUSED_3;
+    }
+    if answer[0] != 1 {
+        return NO_FAULT;
+    }
+    let low = word(answer, 8);
+    let high = word(answer, 16);
+    let step = after_words(records, state, answer[2] == 1, low, high);
+    let said = step.answer;
+    let left = step.recorder;
+    write_state(recorder, left);
+    said.number()
+}
