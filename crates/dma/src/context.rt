@@ -23,7 +23,7 @@ fn address_width(e: Entry16) -> u64
 }
 
 // Of page tables: 3, 4 or 5 where AW is 1, 2 or 3.
-pub fn levels(e: Entry16) -> u32
+pub(crate) fn levels(e: Entry16) -> u32
     ensures { λ r. ⌜ (r ≡ levelsOf (number16 e)) × (r < 10) ⌝ }
 {
     address_width(e) as u32 + 2
@@ -36,7 +36,7 @@ fn translation_type(e: Entry16) -> u64
     field(e.low, 3, 2)
 }
 
-pub fn passes_through(e: Entry16) -> bool
+pub(crate) fn passes_through(e: Entry16) -> bool
     ensures { λ r. ⌜ r ≡ eqb (translationType (number16 e)) 2 ⌝ }
 {
     translation_type(e) == 2
@@ -73,14 +73,14 @@ fn context_invalid(registers: Registers, e: Entry16) -> bool
 }
 
 // FPD, bit 1, read whether the entry is present or not.
-pub fn fault_processing_disabled(e: Entry16) -> bool
+pub(crate) fn fault_processing_disabled(e: Entry16) -> bool
     ensures { λ r. ⌜ r ≡ faultProcessingDisabled (number16 e) ⌝ }
 {
     field(e.low, 1, 1) == 1
 }
 
 // The top page table's address.
-pub fn context_check(registers: Registers, e: Entry16) -> Translation
+pub(crate) fn context_check(registers: Registers, e: Entry16) -> Translation
     ensures { λ r. ⌜ translationOf r ≡ checked (faultProcessingDisabled (number16 e)) (contextCheck registers (number16 e)) ⌝ }
 {
     let fpd = fault_processing_disabled(e);

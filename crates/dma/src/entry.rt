@@ -6,14 +6,14 @@ use image::Entry16;
 use image::field;
 use image::in_place;
 
-pub fn present(e: Entry16) -> bool
+pub(crate) fn present(e: Entry16) -> bool
     ensures { λ r. ⌜ r ≡ bit (number16 e) 0 ⌝ }
 {
     field(e.low, 0, 0) == 1
 }
 
 // The address of the table that the entry leads to.
-pub fn table_address(e: Entry16) -> u64
+pub(crate) fn table_address(e: Entry16) -> u64
     ensures { λ r. ⌜ r ≡ inPlace (number16 e) 63 12 ⌝ }
 {
     in_place(e.low, 63, 12)

@@ -25,7 +25,7 @@ pub enum Step {
 }
 
 // Bit 7 at level 1 is not looked at.
-pub fn large_page(level: u32, e: u64) -> bool
+fn large_page(level: u32, e: u64) -> bool
     ensures { λ r. ⌜ r ≡ largePage level e ⌝ }
 {
     (1 < level) & (field(e, 7, 7) == 1)
@@ -84,7 +84,7 @@ fn page_check(registers: Registers, write: bool, fpd: bool, level: u32, e: u64) 
 }
 
 // One level of the walk: below is how many levels come after it.
-pub fn page_step(
+pub(crate) fn page_step(
     image: &[u8],
     registers: Registers,
     request: MemoryRequest,

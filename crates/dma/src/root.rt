@@ -20,7 +20,7 @@ fn root_reserved(haw: u8, e: Entry16) -> bool
 }
 
 // The context table's address.
-pub fn root_check(haw: u8, e: Entry16) -> Translation
+pub(crate) fn root_check(haw: u8, e: Entry16) -> Translation
     ensures { λ r. ⌜ translationOf r ≡ checked false (rootCheck haw (number16 e)) ⌝ }
 {
     if !present(e) {

@@ -80,7 +80,7 @@ fn translate_context(
     translate_width(image, registers, request, e, top)
 }
 
-pub fn translate(image: &[u8], registers: Registers, request: MemoryRequest) -> Translation
+pub(crate) fn translate(image: &[u8], registers: Registers, request: MemoryRequest) -> Translation
     ensures { λ r. ⌜ translationOf r ≡ run (rootRules registers (request .address) (request .write) (request .source .id)) (ofImage (now (image .entry))) ⌝ }
 {
     let bus = request.source.bus();

@@ -12,7 +12,7 @@ use crate::translation::Translation;
 use image::field;
 use registers::Registers;
 
-pub fn walk(
+pub(crate) fn walk(
     image: &[u8],
     registers: Registers,
     request: MemoryRequest,

@@ -32,7 +32,7 @@ pub enum InterruptAnswer {
     Refused(u8),
 }
 
-pub fn answer_of(source: SourceId, index: u32, delivery: Delivery) -> InterruptAnswer
+pub(crate) fn answer_of(source: SourceId, index: u32, delivery: Delivery) -> InterruptAnswer
     ensures { λ r. ⌜ outcomeOf r ≡ delivered (source .id) index (deliveryOf delivery) ⌝ }
 {
     match delivery {

@@ -58,7 +58,7 @@ fn notice_of(eime: bool, d: Entry64) -> Notice
     }
 }
 
-pub fn descriptor_check(eime: bool, d: Entry64) -> DescriptorCheck
+pub(crate) fn descriptor_check(eime: bool, d: Entry64) -> DescriptorCheck
     ensures { λ r. ⌜ descriptorChecked r ≡ descriptorCheck eime (number64 d) ⌝ }
 {
     if reserved_descriptor(eime, d) {

@@ -115,7 +115,7 @@ fn irte_of(eime: bool, e: Entry16) -> Irte
 }
 
 // The reserved bits alone: presence is looked at before them, and the source after.
-pub fn irte_check(registers: Registers, e: Entry16) -> IrteCheck
+pub(crate) fn irte_check(registers: Registers, e: Entry16) -> IrteCheck
     ensures { λ r. ⌜ irteChecked r ≡ (if reservedIrte registers (number16 e) then stop 0x24 else go (irteOf (registers .eime) (number16 e))) ⌝ }
 {
     if reserved_irte(registers, e) {

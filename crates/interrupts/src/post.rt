@@ -18,7 +18,7 @@ fn set_bit(image: &mut [u8], descriptor: usize, place: usize)
     image[at] = image[at] | 1u8 << (place % 8);
 }
 
-pub fn write_post(image: &mut [u8], posted: Posted)
+pub(crate) fn write_post(image: &mut [u8], posted: Posted)
     requires { ⌜ posted .descriptor + 64 ≤ length (now image) ⌝ }
     ensures { λ _. ⌜ now (image .exit) ≡ notified (posted .descriptor) (dueOf (posted .notice)) (setBit (posted .descriptor) (posted .vector) (now (image .entry))) ⌝ }
 {

@@ -64,7 +64,12 @@ fn follow_entry(image: &[u8], registers: Registers, source: SourceId, e: Entry16
 }
 
 // The table lies below 2^HAW, so that no entry's address wraps.
-pub fn follow_index(image: &[u8], registers: Registers, source: SourceId, index: u32) -> Delivery
+pub(crate) fn follow_index(
+    image: &[u8],
+    registers: Registers,
+    source: SourceId,
+    index: u32,
+) -> Delivery
     requires { ⌜ registers .«interrupt_table» < 2 ^ 52 ⌝ }
     ensures { λ r. ⌜ deliveryOf r ≡ run (indexRules registers (source .id) index) (ofImage (now (image .entry))) ⌝ }
 {

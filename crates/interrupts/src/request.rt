@@ -21,7 +21,7 @@ fn handle_of(address: u64) -> u32
     (field(address, 19, 5) + field(address, 2, 2) * 0x8000) as u32
 }
 
-pub fn request_check(registers: Registers, address: u64, data: u32) -> RequestCheck
+pub(crate) fn request_check(registers: Registers, address: u64, data: u32) -> RequestCheck
     ensures { λ r. ⌜ requestChecked r ≡ requestCheck registers address «data» ⌝ }
 {
     if field(address, 4, 4) != 1 {

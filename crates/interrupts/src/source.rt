@@ -24,7 +24,7 @@ fn bus_in_range(sid: u16, source: SourceId) -> bool
     (sid / 256 <= bus) & (bus <= sid % 256)
 }
 
-pub fn source_allowed(source: SourceId, e: Entry16) -> bool
+pub(crate) fn source_allowed(source: SourceId, e: Entry16) -> bool
     ensures { λ r. ⌜ r ≡ sourceAllowed (source .id) (number16 e) ⌝ }
 {
     let sid = irte_bits(e, 79, 64) as u16;
