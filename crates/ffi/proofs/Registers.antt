@@ -10,22 +10,15 @@ use lib.ListN.{length, take, drop, getD}
 use lib.Seq.{getD-take, getD-drop}
 use Rattle.image.specs.Bits.{bits, bit, anySet}
 use Rattle.image.specs.Bytes.{littleEndian}
-use Rattle.image.specs.Memory.{Fetched, found, onFetch, entry, ofImage, wordAt}
+use Rattle.image.specs.Memory.{wordAt}
 use Rattle.image.proofs.Bytes.{AreBytes, bytes-taken, bytes-below, from-byte, in-byte}
 use Rattle.image.proofs.Fields.{whole}
 use Rattle.image.proofs.Pages.{drop-take}
-use Rattle.image.proofs.Words.{wordsIn, inside, spell-one}
+use Rattle.faults.proofs.Recording.{neither}
 use Rattle.registers.specs.declared.Registers.{Registers}
 use Rattle.ffi.specs.Buffer.{byte, bytes}
-use Rattle.ffi.specs.Registers.{malformed, unpacked}
-
--- a word of a buffer, 0 where it doesn't lie whole in it
-abbrev pub wordOr0 : List ℕ → ℕ → ℕ
-wordOr0 b at = onFetch (entry 1 (ofImage b) at) 0 (λ w. w)
-
-pub whole-word : (b : List ℕ) (at : ℕ) → at + 8 ≤ length b → wordOr0 b at ≡ wordAt b at
-unfolding wordsIn
-whole-word b at h = rw (inside b 1 at h) (spell-one (wordAt b at))
+use Rattle.ffi.specs.Registers.{malformedRegisters, unpacked}
+use Rattle.ffi.proofs.Whole.{wordOr0, whole-word}
 
 module _ (b : List ℕ) (are : AreBytes b) (sized : length b ≡ 24) where
   -- a field within one of the first word's bytes
@@ -45,8 +38,8 @@ module _ (b : List ℕ) (are : AreBytes b) (sized : length b ≡ 24) where
 
   pub told-malformed :
       (not (eqb (bits (wordOr0 b 0) 23 22) 0) || not (eqb (bits (wordOr0 b 0) 31 28) 0)) || not (eqb (bits (wordOr0 b 0) 63 40) 0)
-      ≡ malformed b
-  unfolding malformed
+      ≡ malformedRegisters b
+  unfolding malformedRegisters
   told-malformed =
       rw (eq-eqb (length b) 24 sized, in-head 2 7 6 (lit< tt) (lit< tt), in-head 3 7 4 (lit< tt) (lit< tt), zero-bytes)
 
@@ -74,12 +67,8 @@ module _ (b : List ℕ) (are : AreBytes b) (sized : length b ≡ 24) where
   told-unpacked =
       rw (byte-of-head 0 (lit< tt), byte-of-head 1 (lit< tt), byte-of-head 4 (lit< tt), whole-word b 8 (omega arith), whole-word b 16 (omega arith), in-head 2 0 0 (lit< tt) (lit< tt), in-head 2 1 1 (lit< tt) (lit< tt), in-head 2 2 2 (lit< tt) (lit< tt), in-head 2 3 3 (lit< tt) (lit< tt), in-head 2 4 4 (lit< tt) (lit< tt), in-head 2 5 5 (lit< tt) (lit< tt), in-head 3 0 0 (lit< tt) (lit< tt), in-head 3 1 1 (lit< tt) (lit< tt), in-head 3 2 2 (lit< tt) (lit< tt), in-head 3 3 3 (lit< tt) (lit< tt))
 
-pub length-of : (b : List ℕ) → malformed b ≡ false → length b ≡ 24
-unfolding malformed
-length-of b h = go (eqb (length b) 24) refl h
-  where
-    go : (t : Bool) → eqb (length b) 24 ≡ t
-        → ((not t || anySet (byte b 2) 7 6) || anySet (byte b 3) 7 4) || not (eqb (bytes b 7 5) 0) ≡ false
-        → length b ≡ 24
-    go true e h = eqb-true (length b) 24 e
-    go false e h = let z : _≡_ {A = ℕ} 0 1 = cc in absurd (omega arith)
+pub registers-length : (b : List ℕ) → malformedRegisters b ≡ false → length b ≡ 24
+unfolding malformedRegisters
+registers-length b h =
+    let sized = neither _ _ (neither _ _ (neither _ _ h .0) .0) .0 in
+    eqb-true (length b) 24 (not-false _ sized)

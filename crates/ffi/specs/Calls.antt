@@ -9,8 +9,11 @@ use Rattle.image.specs.Memory.{ofImage}
 use Rattle.image.specs.Rules.{run}
 use Rattle.dma.specs.Requests.{memoryRules}
 use Rattle.dma.specs.declared.MemoryRequest.{MemoryRequest}
-use Rattle.ffi.specs.Answer.{memoryBytes}
-use Rattle.ffi.specs.Registers.{malformed, unpacked}
+use Rattle.interrupts.specs.Interrupts.{InterruptOutcome, interruptRules}
+use Rattle.interrupts.specs.Post.{written}
+use Rattle.interrupts.specs.declared.InterruptRequest.{InterruptRequest}
+use Rattle.ffi.specs.Answer.{memoryBytes, interruptBytes}
+use Rattle.ffi.specs.Registers.{malformedRegisters, unpacked}
 use Rattle.ffi.specs.Status.{ok, badRegisters, badAnswer, badKind}
 
 -- write is 1 for a write, 0 for a read
@@ -21,7 +24,21 @@ memoryRequest source address write =
 -- the status, and the buffer for the answer
 unfoldable pub memoryCall : (registers image : List ℕ) (source address write : ℕ) (answer : List ℕ) → ℕ × List ℕ
 memoryCall registers image source address write answer =
-    if malformed registers then (badRegisters, answer)
+    if malformedRegisters registers then (badRegisters, answer)
     else if not (eqb (length answer) 24) then (badAnswer, answer)
     else if ltb 1 write then (badKind, answer)
     else (ok, memoryBytes (run (memoryRules (unpacked registers) (memoryRequest source address write)) (ofImage image)))
+
+abbrev pub interruptRequest : (source address «data» : ℕ) → InterruptRequest
+interruptRequest source address «data» =
+    record { source = record { id = source }; address = address; «data» = «data» }
+
+-- the status, the image, and the buffer for the answer
+abbrev pub interrupted : InterruptOutcome → List ℕ → ℕ × List ℕ × List ℕ
+interrupted outcome image = (ok, written outcome image, interruptBytes outcome)
+
+unfoldable pub interruptCall : (registers image : List ℕ) (source address «data» : ℕ) (answer : List ℕ) → ℕ × List ℕ × List ℕ
+interruptCall registers image source address «data» answer =
+    if malformedRegisters registers then (badRegisters, image, answer)
+    else if not (eqb (length answer) 24) then (badAnswer, image, answer)
+    else interrupted (run (interruptRules (unpacked registers) (interruptRequest source address «data»)) (ofImage image)) image

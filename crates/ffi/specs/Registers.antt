@@ -9,8 +9,8 @@ use Rattle.registers.specs.declared.Registers.{Registers}
 use Rattle.ffi.specs.Buffer.{byte, bytes}
 
 -- not 24 bytes, or a bit set that has to be zero
-unfoldable pub malformed : List ℕ → Bool
-malformed b =
+unfoldable pub malformedRegisters : List ℕ → Bool
+malformedRegisters b =
     not (eqb (length b) 24)
     || anySet (byte b 2) 7 6
     || anySet (byte b 3) 7 4

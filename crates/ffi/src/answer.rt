@@ -1,16 +1,34 @@
 // An answer's 24 bytes, as three words.
 ghost use mathlib.Core.Path.{_≡_};
 ghost use mathlib.Core.List.{[], _∷_, _++_};
+ghost use Prim.Native.Nat.{_<_};
 ghost use lib.ListN.{length};
 ghost use Rattle.image.specs.Bytes.{bytesOf};
 ghost use Rattle.image.specs.Entries.{spell};
 ghost use Rattle.faults.specs.Fault.{faultOf};
 ghost use Rattle.faults.specs.Slots.{one-if};
-ghost use Rattle.dma.specs.Answers.{outcomeOf};
-ghost use Rattle.ffi.specs.Answer.{bytesOfPacked, blockedBytes, refusedBytes, memoryBytes};
-use dma::MemoryAnswer;
+ghost use Rattle.dma.specs.Answers as dma;
+ghost use Rattle.interrupts.specs.Answers as interrupts;
+ghost use Rattle.interrupts.specs.Checked.{remappedOf, dueOf};
+ghost use Rattle.ffi.specs.Answer.{bytesOfPacked, blockedBytes, refusedBytes, memoryBytes, modes, remappedBytes, postedBytes, interruptBytes};
 use faults::Fault;
 use image::store8;
+use unit::InterruptAnswer;
+use unit::MemoryAnswer;
+use unit::Notice;
+use unit::Remapped;
+
+const GRANTED: u8 = 0;
+
+pub const BLOCKED: u8 = 1;
+
+const REFUSED: u8 = 2;
+
+const PASSED: u8 = 3;
+
+const REMAPPED: u8 = 4;
+
+const POSTED: u8 = 5;
 
 pub struct Packed {
     pub head: u64,
@@ -29,10 +47,21 @@ fn head(kind: u8, one: u8, two: u8, three: u8, four: u32) -> u64
         + four as u64 * 0x1_0000_0000
 }
 
-pub fn flag(on: bool) -> u8
-    ensures { λ r. ⌜ r ≡ one-if on ⌝ }
+pub(crate) fn flag(on: bool) -> u8
+    ensures { λ r. ⌜ (r ≡ one-if on) × (r < 2) ⌝ }
 {
     if on { 1 } else { 0 }
+}
+
+// An answer that names no byte from 8 up.
+fn short(head: u64) -> Packed
+    ensures { λ r. ⌜ bytesOfPacked r ≡ bytesOf 8 head ++ bytesOf 16 0 ⌝ }
+{
+    Packed {
+        head,
+        low: 0,
+        high: 0,
+    }
 }
 
 fn pack_fault(fault: Fault) -> Packed
@@ -40,7 +69,7 @@ fn pack_fault(fault: Fault) -> Packed
 {
     let reason = fault.reason;
     Packed {
-        head: head(1, reason.number(), flag(fault.recordable), 0, 0),
+        head: head(BLOCKED, reason.number(), flag(fault.recordable), 0, 0),
         low: fault.low,
         high: fault.high,
     }
@@ -49,19 +78,15 @@ fn pack_fault(fault: Fault) -> Packed
 fn pack_refusal(number: u8) -> Packed
     ensures { λ r. ⌜ bytesOfPacked r ≡ refusedBytes number ⌝ }
 {
-    Packed {
-        head: head(2, number, 0, 0, 0),
-        low: 0,
-        high: 0,
-    }
+    short(head(REFUSED, number, 0, 0, 0))
 }
 
-pub fn pack_memory(answer: MemoryAnswer) -> Packed
-    ensures { λ r. ⌜ bytesOfPacked r ≡ memoryBytes (outcomeOf answer) ⌝ }
+pub(crate) fn pack_memory(answer: MemoryAnswer) -> Packed
+    ensures { λ r. ⌜ bytesOfPacked r ≡ memoryBytes (dma.outcomeOf answer) ⌝ }
 {
     match answer {
         MemoryAnswer::Granted(address) => Packed {
-            head: head(0, 0, 0, 0, 0),
+            head: head(GRANTED, 0, 0, 0, 0),
             low: address,
             high: 0,
         },
@@ -70,7 +95,48 @@ pub fn pack_memory(answer: MemoryAnswer) -> Packed
     }
 }
 
-pub fn store(buffer: &mut [u8], head: u64, low: u64, high: u64)
+fn modes_of(remapped: Remapped) -> u8
+    ensures { λ r. ⌜ r ≡ modes (remappedOf remapped) ⌝ }
+{
+    flag(remapped.destination_mode)
+        + 2 * flag(remapped.redirection_hint)
+        + 4 * flag(remapped.trigger)
+}
+
+fn pack_remapped(r: Remapped) -> Packed
+    ensures { λ p. ⌜ bytesOfPacked p ≡ remappedBytes (remappedOf r) ⌝ }
+{
+    short(head(REMAPPED, r.vector, r.delivery, modes_of(r), r.destination))
+}
+
+fn pack_posted(notice: Notice) -> Packed
+    ensures { λ r. ⌜ bytesOfPacked r ≡ postedBytes (dueOf notice) ⌝ }
+{
+    match notice {
+        Notice::Silent => short(head(POSTED, 0, 0, 0, 0)),
+        Notice::Due {
+            vector,
+            destination,
+        } => short(head(POSTED, 1, vector, 0, destination)),
+    }
+}
+
+pub(crate) fn pack_interrupt(answer: InterruptAnswer) -> Packed
+    ensures { λ r. ⌜ bytesOfPacked r ≡ interruptBytes (interrupts.outcomeOf answer) ⌝ }
+{
+    match answer {
+        InterruptAnswer::Passed => short(head(PASSED, 0, 0, 0, 0)),
+        InterruptAnswer::Remapped(remapped) => pack_remapped(remapped),
+        InterruptAnswer::Posted(posted) => {
+            let notice = posted.notice;
+            pack_posted(notice)
+        }
+        InterruptAnswer::Blocked(fault) => pack_fault(fault),
+        InterruptAnswer::Refused(number) => pack_refusal(number),
+    }
+}
+
+pub(crate) fn store(buffer: &mut [u8], head: u64, low: u64, high: u64)
     requires { ⌜ length (now buffer) ≡ 24 ⌝ }
     ensures { λ _. ⌜ now (buffer .exit) ≡ bytesOf 8 head ++ bytesOf 16 (spell (low ∷ high ∷ [])) ⌝ }
 {

@@ -1,5 +1,6 @@
 // The C interface that include/galitzaf.h fixes: arguments are unpacked, the unit is asked, and its answer is packed.
 mod answer;
+mod buffer;
 mod recorder;
 mod requests;
 mod status;
@@ -8,4 +9,5 @@ mod unpack;
 pub use recorder::galitzaf_clear_overflow;
 pub use recorder::galitzaf_clear_slot;
 pub use recorder::galitzaf_record;
+pub use requests::galitzaf_interrupt_request;
 pub use requests::galitzaf_memory_request;

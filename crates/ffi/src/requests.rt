@@ -1,6 +1,7 @@
 // A device's requests.
 ghost use mathlib.Core.Path.{_≡_};
-ghost use Rattle.ffi.specs.Calls.{memoryCall};
+ghost use Rattle.ffi.specs.Calls.{memoryCall, interruptCall};
+use crate::answer::pack_interrupt;
 use crate::answer::pack_memory;
 use crate::answer::store;
 use crate::status::BAD_ANSWER;
@@ -9,9 +10,11 @@ use crate::status::BAD_REGISTERS;
 use crate::status::OK;
 use crate::unpack::malformed;
 use crate::unpack::unpack;
-use dma::MemoryRequest;
-use dma::memory_request;
 use registers::SourceId;
+use unit::InterruptRequest;
+use unit::MemoryRequest;
+use unit::interrupt_request;
+use unit::memory_request;
 
 #[no_mangle]
 pub extern "C" fn galitzaf_memory_request(
@@ -39,6 +42,33 @@ pub extern "C" fn galitzaf_memory_request(
         write: write == 1,
     };
     let packed = pack_memory(memory_request(unpack(registers), image, request));
+    store(answer, packed.head, packed.low, packed.high);
+    OK
+}
+
+#[no_mangle]
+pub extern "C" fn galitzaf_interrupt_request(
+    registers: &[u8],
+    image: &mut [u8],
+    source: u16,
+    address: u64,
+    data: u32,
+    answer: &mut [u8],
+) -> u32
+    ensures { λ r. ⌜ (r, now (image .exit), now (answer .exit)) ≡ interruptCall (now (registers .entry)) (now (image .entry)) source address «data» (now (answer .entry)) ⌝ }
+{
+    if malformed(registers) {
+        return BAD_REGISTERS;
+    }
+    if answer.len() != 24 {
+        return BAD_ANSWER;
+    }
+    let request = InterruptRequest {
+        source: SourceId::from_number(source),
+        address,
+        data,
+    };
+    let packed = pack_interrupt(interrupt_request(unpack(registers), image, request));
     store(answer, packed.head, packed.low, packed.high);
     OK
 }

@@ -1,6 +1,10 @@
 // What a call answers, by number.
 pub const OK: u32 = 0x00;
 
+pub const REFUSED_3: u32 = 0x03;
+
+pub const NO_FAULT: u32 = 0x10;
+
 pub const BAD_REGISTERS: u32 = 0x101;
 
 pub const BAD_ANSWER: u32 = 0x102;
@@ -8,8 +12,3 @@ pub const BAD_ANSWER: u32 = 0x102;
 pub const BAD_KIND: u32 = 0x103;
 
 pub const BAD_RECORDER: u32 = 0x104;
-
-pub const NO_FAULT: u32 = 0x10;
-
-// The recorder's refusal, by its own number.
-pub const REFUSED_3: u32 = 0x03;

@@ -1,23 +1,11 @@
 // The registers' 24 bytes.
 ghost use mathlib.Core.Path.{_≡_};
 ghost use mathlib.Core.Bool.{false};
-ghost use Rattle.image.specs.Bits.{bits, bit};
-ghost use Rattle.image.specs.Memory.{entry, ofImage, onFetch};
-ghost use Rattle.ffi.specs.Registers as layout;
-use image::Found8;
-use image::fetch8;
+ghost use Rattle.image.specs.Bits.{bit};
+ghost use Rattle.ffi.specs.Registers.{malformedRegisters, unpacked};
+use crate::buffer::word;
 use image::field;
 use registers::Registers;
-
-// A word of a buffer; 0 where it doesn't lie whole in it.
-pub fn word(buffer: &[u8], at: u64) -> u64
-    ensures { λ r. ⌜ r ≡ onFetch (entry 1 (ofImage (now (buffer .entry))) at) 0 (λ w. w) ⌝ }
-{
-    match fetch8(buffer, at) {
-        Found8::Entry(word) => word,
-        Found8::Missing => 0,
-    }
-}
 
 fn bit(word: u64, place: u32) -> bool
     ensures { λ r. ⌜ r ≡ bit word place ⌝ }
@@ -25,8 +13,8 @@ fn bit(word: u64, place: u32) -> bool
     field(word, place, place) == 1
 }
 
-pub fn malformed(registers: &[u8]) -> bool
-    ensures { λ r. ⌜ r ≡ layout.malformed (now (registers .entry)) ⌝ }
+pub(crate) fn malformed(registers: &[u8]) -> bool
+    ensures { λ r. ⌜ r ≡ malformedRegisters (now (registers .entry)) ⌝ }
 {
     if registers.len() != 24 {
         return true;
@@ -35,9 +23,9 @@ pub fn malformed(registers: &[u8]) -> bool
     (field(head, 23, 22) != 0) | (field(head, 31, 28) != 0) | (field(head, 63, 40) != 0)
 }
 
-pub fn unpack(registers: &[u8]) -> Registers
-    requires { ⌜ layout.malformed (now registers) ≡ false ⌝ }
-    ensures { λ r. ⌜ r ≡ layout.unpacked (now (registers .entry)) ⌝ }
+pub(crate) fn unpack(registers: &[u8]) -> Registers
+    requires { ⌜ malformedRegisters (now registers) ≡ false ⌝ }
+    ensures { λ r. ⌜ r ≡ unpacked (now (registers .entry)) ⌝ }
 {
     let head = word(registers, 0);
     Registers {

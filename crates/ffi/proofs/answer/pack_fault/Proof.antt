@@ -12,7 +12,7 @@ head-requires : tie.Need-head-requires
 head-requires c κs = search needs
 
 returns : tie.Need-returns
-returns c = rw (c .head .ensures, c .before .flag .ensures, c .before .before .number .ensures)
+returns c = rw (c .head .ensures, c .before .flag .ensures .0, c .before .before .number .ensures)
 
 pub pack-fault-spec : {M : Type 1} → statement M
 pack-fault-spec = tie.close (tie.spec number-requires flag-requires head-requires returns)

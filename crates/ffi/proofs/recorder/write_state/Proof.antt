@@ -17,7 +17,7 @@ same-length : tie.Need-same-length
 same-length c = search needs
 
 returns : tie.Need-returns
-returns c = rw (c .flag .ensures) (both-set (c .before .before .args .recorder .now) _ _ (c .before .before .pre))
+returns c = rw (c .flag .ensures .0) (both-set (c .before .before .args .recorder .now) _ _ (c .before .before .pre))
 
 pub write-state-spec : {M : Type 1} → statement M
 write-state-spec =

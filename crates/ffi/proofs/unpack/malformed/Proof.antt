@@ -1,14 +1,14 @@
 use borrow.Author.Tests.{ne-eqb}
 use lib.ListN.{length}
 use denote.Ref.{now}
-use Rattle.ffi.specs.Registers.{malformed}
+use Rattle.ffi.specs.Registers.{malformedRegisters}
 use Rattle.ffi.proofs.Registers.{told-malformed}
 use borrow.Author.Needs.{needs}
 use Rattle.ffi.proofs.unpack.malformed.Statement.{statement}
 use Rattle.ffi.proofs.unpack.malformed.Tie as tie
 
 returns : tie.Need-returns
-unfolding malformed
+unfolding malformedRegisters
 returns c = rw (ne-eqb _ _ (c .if1 .taken))
 
 word-requires : tie.Need-word-requires

@@ -1,6 +1,6 @@
 use denote.Ref.{now}
 use Rattle.image.proofs.Fields.{fits}
-use Rattle.ffi.proofs.Registers.{told-unpacked, length-of}
+use Rattle.ffi.proofs.Registers.{told-unpacked, registers-length}
 use borrow.Author.Needs.{needs}
 use Rattle.ffi.proofs.unpack.unpack.Statement.{statement}
 use Rattle.ffi.proofs.unpack.unpack.Tie as tie
@@ -72,7 +72,7 @@ returns c =
     let head = widths .before .before in
     let s = head .before .before in
     rw (widths .before .field .ensures, widths .field2 .ensures, levels .before .before .bit .ensures, levels .before .bit2 .ensures, levels .bit3 .ensures, posting .before .before .bit4 .ensures, posting .before .bit5 .ensures, posting .bit6 .ensures, tables .before .word2 .ensures, tables .word3 .ensures, switches .before .field3 .ensures, switches .bit7 .ensures, c .before .before .bit8 .ensures, c .before .bit9 .ensures, c .bit10 .ensures, head .word .ensures)
-    (told-unpacked (now (s .args .registers)) (λ i. head .before .shared-slice-known .given i .fits) (length-of (now (s .args .registers)) (s .pre)))
+    (told-unpacked (now (s .args .registers)) (λ i. head .before .shared-slice-known .given i .fits) (registers-length (now (s .args .registers)) (s .pre)))
 
 pub unpack-spec : {M : Type 1} → statement M
 unpack-spec =

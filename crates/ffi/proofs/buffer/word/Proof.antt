@@ -3,8 +3,8 @@ use Prim.Native.Nat.{ℕ}
 use Rattle.image.specs.Entries.{fetched8}
 use Rattle.image.specs.Memory.{Fetched, onFetch}
 use borrow.Author.Needs.{needs}
-use Rattle.ffi.proofs.unpack.word.Statement.{statement}
-use Rattle.ffi.proofs.unpack.word.Tie as tie
+use Rattle.ffi.proofs.buffer.word.Statement.{statement}
+use Rattle.ffi.proofs.buffer.word.Tie as tie
 
 fetch8-requires : tie.Need-fetch8-requires
 fetch8-requires c κs = search needs
