@@ -1,9 +1,10 @@
 /* Galitzaf: Intel's VT-d remapping unit in software, proved.
  *
- * Link with libgalitzaf_ffi.a. No function allocates, blocks, keeps a pointer or reads anything but
- * its arguments, and each may be called from any thread. Every length is checked: a call with a
- * malformed argument answers GALITZAF_BAD_... and changes nothing. A length of 0 may come with any
- * pointer that isn't null. Buffers of one call must not overlap where one of them is written.
+ * Link with target/staticlib/libffi.a, which `rt staticlib ffi` writes. No function allocates, blocks,
+ * keeps a pointer or reads anything but its arguments, and each may be called from any thread. Every
+ * length is checked: a call with a malformed argument answers GALITZAF_BAD_... and changes nothing. A
+ * length of 0 may come with any pointer that isn't null. Buffers of one call must not overlap where one
+ * of them is written.
  */
 #ifndef GALITZAF_H
 #define GALITZAF_H
@@ -68,7 +69,7 @@ extern "C" {
 #define GALITZAF_OVERFLOW_CLEAR 0x30 /* clear overflow: it was clear */
 #define GALITZAF_OVERFLOW_CLEARED 0x31 /* clear overflow: it was set */
 #define GALITZAF_BAD_REGISTERS 0x101 /* not 24 bytes, or a bit set that has to be zero */
-#define GALITZAF_BAD_ANSWER 0x102    /* not 24 bytes, or, to be recorded, none that a request left */
+#define GALITZAF_BAD_ANSWER 0x102    /* not 24 bytes, or, to be recorded, of no kind above */
 #define GALITZAF_BAD_KIND 0x103      /* write is neither 0 nor 1 */
 #define GALITZAF_BAD_RECORDER 0x104  /* not 2 bytes, or overflow is neither 0 nor 1 */
 
@@ -86,7 +87,8 @@ uint32_t galitzaf_interrupt_request(const uint8_t *registers, size_t registers_l
                                     uint16_t source, uint64_t address, uint32_t data,
                                     uint8_t *answer, size_t answer_len);
 
-/* Records the fault of a request's answer. */
+/* Records the fault of a request's answer. A malformed answer is told first, then a malformed recorder,
+ * then refusal 3, then that the answer holds no fault. */
 uint32_t galitzaf_record(const uint8_t *answer, size_t answer_len,
                          uint8_t *records, size_t records_len,
                          uint8_t *recorder, size_t recorder_len);
