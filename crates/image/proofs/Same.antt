@@ -11,7 +11,7 @@ use Rattle.image.specs.Memory.{missing, found, wordAt, ofImage, entry}
 use Rattle.image.proofs.Words.{bytesFrom, part, outside}
 
 module _ (image image′ : List ℕ) (same-length : length image′ ≡ length image) where
-  same-bytes : (n at : ℕ) → ((k : ℕ) → at ≤ k → k < at + n → getD image′ k 0 ≡ getD image k 0)
+  pub same-bytes : (n at : ℕ) → ((k : ℕ) → at ≤ k → k < at + n → getD image′ k 0 ≡ getD image k 0)
       → bytesFrom image′ n at ≡ bytesFrom image n at
   unfolding bytesFrom
   same-bytes zero at same = refl
