@@ -99,8 +99,8 @@ module _ (registers : Registers) (request : MemoryRequest) (taken : take ≡ adm
   unfolding rootRules contextRules entriesOf
   context-in m {e} {table} {e′} root passed context = rw (← tables m, root, passed, context) (List·Memᴰ·tail (List·Memᴰ·head refl))
 
-  module _ {turned : ℕ → ℕ → Type 0} (image image′ : List ℕ) (apart : Apart registers request image)
-      (switched : Switched turned (walkedOver registers request image) image image′) where
+  module _ {turned : ℕ → ℕ → Type 0} (walker : MemoryRequest) (image image′ : List ℕ) (apart : Apart registers walker request image)
+      (switched : Switched turned (walkedOver registers walker image) image image′) where
     same-table : (place : ℕ)
         → ((e : ℕ) → entry 2 (ofImage image) place ≡ found e → List·Memᴰ place (tableEntries registers request (ofImage image)))
         → entry 2 (ofImage image) place ≡ entry 2 (ofImage image′) place
@@ -158,9 +158,9 @@ carried registers request image image′ same raised host = go (admission regist
         (granted-at request _ (takes registers request (ofImage image) refl h ∙ was)))
 
 pub rights-on : RightsOn
-rights-on registers request image image′ apart on =
-    carried registers request image image′ (λ taken. same-tables registers request taken image image′ apart on)
-    (raised-words (walkedOver registers request image) image image′ (aligned-walked registers request (ofImage image)) on)
+rights-on registers walker request image image′ apart on =
+    carried registers request image image′ (λ taken. same-tables registers request taken walker image image′ apart on)
+    (raised-words (walkedOver registers walker image) image image′ (aligned-walked registers walker (ofImage image)) on)
 
 mirrored : {registers : Registers} {request : MemoryRequest} {m m′ : Memory} → SameTables registers request m m′ → SameTables registers request m′ m
 mirrored same =
@@ -170,8 +170,8 @@ mirrored same =
     }
 
 pub rights-off : RightsOff
-rights-off registers request image image′ apart off denied host was =
+rights-off registers walker request image image′ apart off denied host was =
     denied host
-    (carried registers request image′ image (λ taken. mirrored (same-tables registers request taken image image′ apart off))
-    (raised-words (walkedOver registers request image) image′ image (aligned-walked registers request (ofImage image)) (flipped off))
+    (carried registers request image′ image (λ taken. mirrored (same-tables registers request taken walker image image′ apart off))
+    (raised-words (walkedOver registers walker image) image′ image (aligned-walked registers walker (ofImage image)) (flipped off))
     host was)

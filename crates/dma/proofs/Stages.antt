@@ -20,11 +20,10 @@ use Rattle.dma.specs.Translation.{Translation, reached, fault, checked}
 use Rattle.dma.proofs.Steps.{past}
 
 -- an entry taken from its table's page is the one that the rules name
-pub placed : (image : List ℕ) (table : ℕ) {k : ℕ} {page : List ℕ} {f : Fetched} → k < 256
-    → page ≡ take 4096 (drop table image)
-    → f ≡ entry 2 (ofImage page) (16 * k)
+pub placed : (image : List ℕ) (table : ℕ) {k : ℕ} {f : Fetched} → k < 256
+    → f ≡ entry 2 (ofImage (take 4096 (drop table image))) (16 * k)
     → f ≡ entry 2 (ofImage image) (table + 16 * k)
-placed image table {k} h paged fetched = rw paged at fetched ∙ in-page 4096 image table 2 (16 * k) (omega arith)
+placed image table {k} h fetched = fetched ∙ in-page 4096 image table 2 (16 * k) (omega arith)
 
 module _ (m : Memory) (place : ℕ) (none : Translation) (fpd : ℕ → Bool) (check : ℕ → Check ℕ) (next : ℕ → ℕ → Rules Translation) where
   abbrev stage : Rules Translation

@@ -18,14 +18,13 @@ use Rattle.dma.specs.Walk.{Step, done, down, onStep, placeIn, stepOver}
 use Rattle.dma.proofs.Steps.{index-lt, page-frame-lt, walk-step, walk-arrived}
 
 -- an entry taken from its table's page is the one that the rules name
-pub placed : (image : List ℕ) (address table n : ℕ) {index : ℕ} {page : List ℕ} {f : Fetched}
+pub placed : (image : List ℕ) (address table n : ℕ) {index : ℕ} {f : Fetched}
     → index ≡ bits address (20 + 9 * n) (12 + 9 * n)
-    → page ≡ take 4096 (drop table image)
-    → f ≡ entry 1 (ofImage page) (8 * index)
+    → f ≡ entry 1 (ofImage (take 4096 (drop table image))) (8 * index)
     → f ≡ entry 1 (ofImage image) (placeIn address table n)
-placed image address table n {index} {page} {f} indexed paged fetched =
+placed image address table n {index} {f} indexed fetched =
     let here = bits address (20 + 9 * n) (12 + 9 * n) in
-    rw (paged, indexed) at fetched
+    rw indexed at fetched
     ∙ in-page 4096 image table 1 (8 * here) (omega (arith, index-lt address n))
 
 -- a check that goes on, and one that stops

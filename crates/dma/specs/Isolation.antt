@@ -43,11 +43,11 @@ walkedOver registers request image = walked registers request (ofImage image)
 abbrev pub Disjoint : (page table : ℕ) → Type 0
 Disjoint page table = (page + 8 ≤ table) ⊎ (table + 16 ≤ page)
 
--- No walked entry shares a byte with the request's root or context entry.
-abbrev pub Apart : Registers → MemoryRequest → List ℕ → Type 0
-Apart registers request image =
+-- No entry that the walker walked shares a byte with the request's root or context entry.
+abbrev pub Apart : Registers → (walker request : MemoryRequest) → List ℕ → Type 0
+Apart registers walker request image =
     (page table : ℕ)
-    → List·Memᴰ page (walkedOver registers request image)
+    → List·Memᴰ page (walkedOver registers walker image)
     → List·Memᴰ table (tableEntries registers request (ofImage image))
     → Disjoint page table
 
@@ -67,21 +67,22 @@ SwitchedOn = Switched (λ before after. before ≤ after)
 abbrev pub SwitchedOff : (entries image image′ : List ℕ) → Type 0
 SwitchedOff = Switched (λ before after. after ≤ before)
 
--- 2. Whichever walked entries have read, write or both switched on, a granted request stays granted, with the same host address.
+-- 2. Whichever of the entries that any memory request, the walker, walked have read, write or both switched on, a granted request
+-- stays granted, with the same host address: the walker itself, and any other request.
 abbrev pub RightsOn : Type 0
 RightsOn =
-    (registers : Registers) (request : MemoryRequest) (image image′ : List ℕ)
-    → Apart registers request image
-    → SwitchedOn (walkedOver registers request image) image image′
+    (registers : Registers) (walker request : MemoryRequest) (image image′ : List ℕ)
+    → Apart registers walker request image
+    → SwitchedOn (walkedOver registers walker image) image image′
     → (address : ℕ) → answerOver registers request image ≡ granted address
     → answerOver registers request image′ ≡ granted address
 
--- 3. Whichever have either or both switched off, a request that was blocked or refused isn't granted.
+-- 3. Whichever of them have either or both switched off, a request that was blocked or refused isn't granted.
 abbrev pub RightsOff : Type 0
 RightsOff =
-    (registers : Registers) (request : MemoryRequest) (image image′ : List ℕ)
-    → Apart registers request image
-    → SwitchedOff (walkedOver registers request image) image image′
+    (registers : Registers) (walker request : MemoryRequest) (image image′ : List ℕ)
+    → Apart registers walker request image
+    → SwitchedOff (walkedOver registers walker image) image image′
     → ((address : ℕ) → answerOver registers request image ≡ granted address → ⊥)
     → (address : ℕ) → answerOver registers request image′ ≡ granted address
     → ⊥

@@ -45,14 +45,18 @@ pub(crate) fn passes_through(e: Entry16) -> bool
 fn width_supported(registers: Registers, aw: u64) -> bool
     ensures { λ r. ⌜ r ≡ widthSupported registers aw ⌝ }
 {
+    // All three are read first: a load chosen by AW would keep the registers in memory.
+    let levels3 = registers.levels3;
+    let levels4 = registers.levels4;
+    let levels5 = registers.levels5;
     if aw == 1 {
-        return registers.levels3;
+        return levels3;
     }
     if aw == 2 {
-        return registers.levels4;
+        return levels4;
     }
     if aw == 3 {
-        return registers.levels5;
+        return levels5;
     }
     false
 }

@@ -10,10 +10,9 @@ use crate::MemoryRequest;
 use crate::translation::Translation;
 use faults::Reason;
 use image::Found8;
-use image::fetch8;
 use image::field;
 use image::in_place;
-use image::table_page;
+use image::page_entry8;
 use registers::Registers;
 use registers::at_or_above_power;
 
@@ -97,7 +96,7 @@ pub(crate) fn page_step(
 {
     let address = request.address;
     let index = (address >> (12 + 9 * below)) % 512;
-    let Found8::Entry(e) = fetch8(table_page(image, table), 8 * index) else {
+    let Found8::Entry(e) = page_entry8(image, table, 8 * index) else {
         return Step::Done(Translation::Fault(Reason::PageEntryAccess, fpd));
     };
     let check = page_check(registers, request.write, fpd, below + 1, e);

@@ -18,8 +18,7 @@ use crate::walk::walk;
 use faults::Reason;
 use image::Entry16;
 use image::Found16;
-use image::fetch16;
-use image::table_page;
+use image::page_entry16;
 use registers::Registers;
 use registers::at_or_above_power;
 
@@ -70,7 +69,7 @@ fn translate_context(
     ensures { λ r. ⌜ translationOf r ≡ run (contextRules registers (request .address) (request .write) (request .source .id) table) (ofImage (now (image .entry))) ⌝ }
 {
     let devfn = request.source.devfn();
-    let Found16::Entry(e) = fetch16(table_page(image, table), 16 * devfn as u64) else {
+    let Found16::Entry(e) = page_entry16(image, table, 16 * devfn as u64) else {
         return Translation::Fault(Reason::ContextAccess, false);
     };
     let check = context_check(registers, e);
@@ -84,7 +83,7 @@ pub(crate) fn translate(image: &[u8], registers: Registers, request: MemoryReque
     ensures { λ r. ⌜ translationOf r ≡ run (rootRules registers (request .address) (request .write) (request .source .id)) (ofImage (now (image .entry))) ⌝ }
 {
     let bus = request.source.bus();
-    let Found16::Entry(e) = fetch16(table_page(image, registers.root_table), 16 * bus as u64) else {
+    let Found16::Entry(e) = page_entry16(image, registers.root_table, 16 * bus as u64) else {
         return Translation::Fault(Reason::RootAccess, false);
     };
     let check = root_check(registers.haw, e);

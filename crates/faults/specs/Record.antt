@@ -6,32 +6,32 @@ use Rattle.image.specs.Bits.{inPlace}
 use Rattle.image.specs.Choice.{if_then_else_}
 
 -- the number lies from low to high, ends included
-abbrev pub within : ℕ → ℕ → ℕ → Bool
+abbrev pub within : (low high n : ℕ) → Bool
 within low high n = leb low n && leb n high
 
 -- FPD silences 02h to 07h, 0Bh, 0Ch (of the context entry) and 22h, 24h, 26h to 28h (of the interrupt entry)
-unfoldable pub silenced : ℕ → Bool
+unfoldable pub silenced : (reason : ℕ) → Bool
 silenced reason =
     within 0x02 0x07 reason || within 0x0B 0x0C reason || eqb reason 0x22 || eqb reason 0x24 || within 0x26 0x28 reason
 
 -- others are always recordable
-abbrev pub recordable : Bool → ℕ → Bool
+abbrev pub recordable : (fpd : Bool) (reason : ℕ) → Bool
 recordable fpd reason = not (fpd && silenced reason)
 
 -- source in 79:64, reason in 103:96, bit 126 set for a read, bit 127 set
-unfoldable pub fromBit64 : ℕ → ℕ → Bool → ℕ
+unfoldable pub fromBit64 : (source reason : ℕ) (read : Bool) → ℕ
 fromBit64 source reason read = source * 2 ^ 64 + reason * 2 ^ 96 + (if read then 2 ^ 126 else 0) + 2 ^ 127
 
 -- address 63:12 in place
-unfoldable pub memoryRecord : ℕ → ℕ → ℕ → Bool → ℕ
+unfoldable pub memoryRecord : (source address reason : ℕ) (read : Bool) → ℕ
 memoryRecord source address reason read = inPlace address 63 12 + fromBit64 source reason read
 
 -- the interrupt index: 65,535 if larger; 0 for 20h and 25h
-unfoldable pub indexField : ℕ → ℕ → ℕ
+unfoldable pub indexField : (reason index : ℕ) → ℕ
 indexField reason index = if eqb reason 0x20 || eqb reason 0x25 then 0 else min index 65535
 
 -- the interrupt index in 63:48
-unfoldable pub interruptRecord : ℕ → ℕ → ℕ → ℕ
+unfoldable pub interruptRecord : (source index reason : ℕ) → ℕ
 interruptRecord source index reason = indexField reason index * 2 ^ 48 + fromBit64 source reason false
 
 pub record FaultAnswer : Type 0 where
@@ -42,7 +42,7 @@ pub record FaultAnswer : Type 0 where
   pub contents : ℕ
 
 -- a memory request that was blocked
-unfoldable pub memoryFault : ℕ → Bool → ℕ → ℕ → Bool → FaultAnswer
+unfoldable pub memoryFault : (reason : ℕ) (fpd : Bool) (source address : ℕ) (write : Bool) → FaultAnswer
 memoryFault reason fpd source address write =
     record {
       reason = reason;
@@ -51,7 +51,7 @@ memoryFault reason fpd source address write =
     }
 
 -- an interrupt that was blocked; its index is a whole number
-unfoldable pub interruptFault : ℕ → Bool → ℕ → ℕ → FaultAnswer
+unfoldable pub interruptFault : (reason : ℕ) (fpd : Bool) (source index : ℕ) → FaultAnswer
 interruptFault reason fpd source index =
     record {
       reason = reason;

@@ -21,6 +21,14 @@ take-min n l = go (decLe n (length l))
     go (no h) =
         take-all (min n (length l)) l (omega arith) ∙ sym (take-all n l (omega arith))
 
+-- a page that begins so far before the end of the image lies whole in it
+pub room : (size table length : ℕ) → size ≤ length → leb table (length - size) ≡ leb (table + size) length
+room size table length h = go (decLe (table + size) length)
+  where
+    go : Dec (table + size ≤ length) → leb table (length - size) ≡ leb (table + size) length
+    go (yes i) = rw (le-leb table (length - size) (omega arith), le-leb (table + size) length i)
+    go (no o) = rw (lt-leb table (length - size) (omega arith), lt-leb (table + size) length (omega arith))
+
 -- as much of a page of any size as the image holds
 pub page : (size : ℕ) (image : List ℕ) (table : ℕ) {from held : ℕ}
     → from ≡ min table (length image) → held ≡ min size (length image - from)

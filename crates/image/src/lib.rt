@@ -3,6 +3,7 @@
 ghost use mathlib.Core.Path.{_≡_};
 ghost use mathlib.Core.List.{_++_};
 ghost use Prim.Native.Nat.{_+_, _≤_, _<_, min};
+ghost use lib.Dec.{leb};
 ghost use lib.ListN.{length, take, drop};
 ghost use Rattle.image.specs.Bits.{bits, inPlace};
 ghost use Rattle.image.specs.Bytes.{bytesOf};
@@ -151,6 +152,44 @@ pub fn fetch64(image: &[u8], at: u64) -> Found64
         w6: word(image, from + 48),
         w7: word(image, from + 56),
     })
+}
+
+// The image holds all of a table's page.
+fn holds_page(image: &[u8], table: u64) -> bool
+    ensures { λ r. ⌜ r ≡ leb (table + 4096) (length (now (image .entry))) ⌝ }
+{
+    if image.len() < 4096 {
+        return false;
+    }
+    table <= (image.len() - 4096) as u64
+}
+
+fn whole_page(image: &[u8], table: u64) -> &[u8]
+    requires { ⌜ table + 4096 ≤ length (now image) ⌝ }
+    ensures { λ r. ⌜ now r ≡ take 4096 (drop table (now (image .entry))) ⌝ }
+{
+    let from = table as usize;
+    &image[from..from + 4096]
+}
+
+// An entry of a table's page, by its offset. Tables usually lie whole in the image, and an offset below 4096 then needs no
+// test of its own.
+pub fn page_entry8(image: &[u8], table: u64, offset: u64) -> Found8
+    ensures { λ r. ⌜ fetched8 r ≡ entry 1 (ofImage (take 4096 (drop table (now (image .entry))))) offset ⌝ }
+{
+    if holds_page(image, table) {
+        return fetch8(whole_page(image, table), offset);
+    }
+    fetch8(table_page(image, table), offset)
+}
+
+pub fn page_entry16(image: &[u8], table: u64, offset: u64) -> Found16
+    ensures { λ r. ⌜ fetched16 r ≡ entry 2 (ofImage (take 4096 (drop table (now (image .entry))))) offset ⌝ }
+{
+    if holds_page(image, table) {
+        return fetch16(whole_page(image, table), offset);
+    }
+    fetch16(table_page(image, table), offset)
 }
 
 // A word into the 8 bytes from an index, lowest byte first.

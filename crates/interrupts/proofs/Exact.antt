@@ -13,7 +13,7 @@ use lib.ListN.{length, getD, set, length-set}
 use lib.Pow.{pow-lt, pow-add, shl-shr}
 use lib.Seq.{getD-set-same, getD-set-other}
 use Rattle.image.specs.Bits.{bits, bit}
-use Rattle.interrupts.specs.Claims.{bitAt, due, sets, outcome, SetsExactly, StaysInside}
+use Rattle.interrupts.specs.Claims.{bitAt, due, sets, outcome, SetsExactly, LeavesAll, StaysInside}
 use Rattle.interrupts.specs.Descriptor.{Notice, silent, notice}
 use Rattle.interrupts.specs.Interrupts.{InterruptOutcome, passed, remapped, posted, blocked, refused}
 use Rattle.interrupts.specs.Post.{withBit, setBit, notified, written}
@@ -162,3 +162,14 @@ set-inside image (refused number) h n e = let z : _≡_ {A = ℕ} 0 1 = cc in ab
 pub stays-inside : StaysInside
 stays-inside registers request image =
     (length-written image (outcome registers request image), set-inside image (outcome registers request image) (within image registers request))
+
+unposted : (o : InterruptOutcome) (image : List ℕ) → ((descriptor vector : ℕ) (m : Notice) → o ≡ posted descriptor vector m → ⊥)
+    → written o image ≡ image
+unposted (posted descriptor vector m) image h = absurd (h descriptor vector m refl)
+unposted passed image h = refl
+unposted (remapped r) image h = refl
+unposted (blocked f) image h = refl
+unposted (refused number) image h = refl
+
+pub leaves-all : LeavesAll
+leaves-all registers request image = unposted (outcome registers request image) image

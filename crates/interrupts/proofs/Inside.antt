@@ -25,12 +25,12 @@ use Rattle.interrupts.specs.Request.{Format, compatibility, remappable, 
 use Rattle.interrupts.specs.Source.{sourceAllowed}
 use Rattle.interrupts.specs.declared.InterruptRequest.{InterruptRequest}
 
-either : {A : Type 0} (P : A → Type 0) (t : Bool) {a b : A} → P a → P b → P (if t then a else b)
+pub either : {A : Type 0} (P : A → Type 0) (t : Bool) {a b : A} → P a → P b → P (if t then a else b)
 either P true x y = x
 either P false x y = y
 
 -- an entry that was fetched lies whole in the image
-whole-entry : (image : List ℕ) (n at : ℕ) {e : ℕ} → entry (suc n) (ofImage image) at ≡ found e → at + 8 * suc n ≤ length image
+pub whole-entry : (image : List ℕ) (n at : ℕ) {e : ℕ} → entry (suc n) (ofImage image) at ≡ found e → at + 8 * suc n ≤ length image
 whole-entry image n at {e} h = go (decLe (at + 8 * suc n) (length image))
   where
     go : Dec (at + 8 * suc n ≤ length image) → at + 8 * suc n ≤ length image
@@ -44,7 +44,7 @@ whole-entry image n at {e} h = go (decLe (at + 8 * suc n) (length image))
 abbrev ByteVector : Check Irte → Type 0
 ByteVector (stop reason) = Unit {0}
 ByteVector (go (remaps r)) = Unit {0}
-ByteVector (go (posts vector descriptor)) = vector < 256
+ByteVector (go (posts descriptor vector)) = vector < 256
 
 byte-vector : (registers : Registers) (source e : ℕ) → ByteVector (irteCheck registers source e)
 unfolding irteCheck
@@ -71,7 +71,7 @@ module _ (image : List ℕ) where
   WithinD (post descriptor vector n) = (descriptor + 64 ≤ length image) × (vector < 256)
 
   descriptor-within : (eime fpd : Bool) (vector at : ℕ) → vector < 256
-      → WithinD (run (descriptorRules eime fpd vector at) (ofImage image))
+      → WithinD (run (descriptorRules eime fpd at vector) (ofImage image))
   unfolding descriptorRules run
   descriptor-within eime fpd vector at h = go (entry 8 (ofImage image) at) refl
     where
@@ -93,7 +93,7 @@ module _ (image : List ℕ) where
           → WithinD (run (onCheck k (λ reason. answer (fault reason (bit e 1))) (onIrte (registers .eime) (bit e 1))) (ofImage image))
       by (stop reason) h = tt
       by (go (remaps r)) h = tt
-      by (go (posts vector descriptor)) h = descriptor-within (registers .eime) (bit e 1) vector descriptor h
+      by (go (posts descriptor vector)) h = descriptor-within (registers .eime) (bit e 1) vector descriptor h
 
   index-within : (registers : Registers) (source index : ℕ) → WithinD (run (indexRules registers source index) (ofImage image))
   unfolding indexRules run

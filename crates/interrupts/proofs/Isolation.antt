@@ -6,7 +6,7 @@ use mathlib.Core.Path.{refl, ap, sym, _∙_}
 use lib.Dec.{leb}
 use Rattle.image.specs.Check.{Check, stop, go, onCheck}
 use Rattle.image.specs.Rules.{answer, Outside}
-use Rattle.image.proofs.Isolated.{isolated}
+use Rattle.image.proofs.Isolated.{isolated as same-answer}
 use Rattle.image.proofs.Trees.{outside-map, outside-if}
 use Rattle.registers.specs.Admission.{Admitted, refusal, pass, take, admission, onAdmission, inInterruptRange}
 use Rattle.registers.specs.declared.Registers.{Registers}
@@ -32,7 +32,7 @@ module _ (source index : ℕ) where
       by : (k : Check Irte) → Outside Access (onCheck k (λ reason. answer (fault reason fpd)) (onIrte (registers .eime) fpd))
       by (stop reason) = tt
       by (go (remaps r)) = tt
-      by (go (posts vector descriptor)) = (inr refl, λ d. tt)
+      by (go (posts descriptor vector)) = (inr refl, λ d. tt)
 
   index-outside : (registers : Registers) → Outside Access (indexRules registers source index)
   unfolding indexRules Outside interruptFault
@@ -59,7 +59,7 @@ access-outside registers request = admitted (admission registers (not (inInterru
     admitted pass = tt
     admitted take = formatted (requestCheck registers (request .address) (request .«data»))
 
-pub isolation : Isolated
-isolation registers request image image′ answered same =
-    let alike = isolated AccessFault (interruptRules registers request) image image′ (access-outside registers request) answered same in
+pub isolated : Isolated
+isolated registers request image image′ answered same =
+    let alike = same-answer AccessFault (interruptRules registers request) image image′ (access-outside registers request) answered same in
     (alike, λ n. sets-exactly registers request image′ n ∙ ap (λ (o : InterruptOutcome). bitAt image′ n || sets o n) (sym alike))

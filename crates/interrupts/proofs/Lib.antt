@@ -5,6 +5,7 @@ pub mod Injective
 pub mod Inside
 pub mod Isolation
 pub mod Named
+pub mod Notices
 pub mod Posts
 pub mod SourceId
 pub mod Stages

@@ -18,7 +18,7 @@ use Rattle.image.proofs.Trees.{run-map, named-map}
 use Rattle.registers.specs.Admission.{Admitted, refusal, pass, take, admission, onAdmission, inInterruptRange}
 use Rattle.registers.specs.declared.Registers.{Registers}
 use Rattle.faults.specs.Record.{interruptFault}
-use Rattle.interrupts.specs.Claims.{wholeIndex, beforeTable, IndexBound, NoWrap, AtMostTen, NoneBeforeTable}
+use Rattle.interrupts.specs.Claims.{wholeIndex, beforeTable, IndexBound, EntryOfIndex, NoWrap, AtMostTen, NoneBeforeTable}
 use Rattle.interrupts.specs.Descriptor.{Notice, reservedDescriptor, descriptorCheck}
 use Rattle.interrupts.specs.Interrupts.{Delivery, fault, remap, post, onIrte, descriptorRules, entryRules, indexRules, InterruptOutcome, passed, refused, blocked, delivered, onFormat, requestRules, interruptRules}
 use Rattle.interrupts.specs.Irte.{Irte, remaps, posts, reservedIrte, irteCheck, faultProcessingDisabled}
@@ -65,7 +65,7 @@ earlyD (post at vector n) = false
 
 module _ (m : Memory) where
   descriptor-words : (eime fpd : Bool) (vector at : ℕ)
-      → Follows (named (descriptorRules eime fpd vector at) m) × (earlyD (run (descriptorRules eime fpd vector at) m) ≡ false)
+      → Follows (named (descriptorRules eime fpd at vector) m) × (earlyD (run (descriptorRules eime fpd at vector) m) ≡ false)
   unfolding descriptorRules run named wordsFrom
   descriptor-words eime fpd vector at = by (entry 8 m at)
     where
@@ -93,7 +93,7 @@ module _ (m : Memory) where
       by : (k : Check Irte) → Late k → Follows (named (rules k) m) × (earlyD (run (rules k) m) ≡ false)
       by (stop reason) h = (nothing, h)
       by (go (remaps r)) h = (nothing, refl)
-      by (go (posts vector d)) h = descriptor-words (registers .eime) fpd vector d
+      by (go (posts d vector)) h = descriptor-words (registers .eime) fpd vector d
 
   index-words : (registers : Registers) (source index : ℕ)
       → Words (registers .«interrupt_table» + 16 * index) (named (indexRules registers source index) m)
@@ -188,10 +188,13 @@ first-word : {from at : ℕ} {l rest : List ℕ} → Words from l → l ≡ at �
 first-word none e = let z : _≡_ {A = ℕ} 0 1 = cc in absurd (omega arith)
 first-word (entry-and f) e = cc
 
+pub entry-of-index : EntryOfIndex
+entry-of-index registers request image at rest = first-word (answered registers request (ofImage image) .0)
+
 pub no-wrap : NoWrap
 no-wrap registers request request′ image image′ at rest rest′ first first′ =
-    let here = first-word (answered registers request (ofImage image) .0) first in
-    let there = first-word (answered registers request′ (ofImage image′) .0) first′ in
+    let here = entry-of-index registers request image at rest first in
+    let there = entry-of-index registers request′ image′ at rest′ first′ in
     omega arith
 
 pub index-bound : IndexBound

@@ -16,12 +16,12 @@ use Rattle.interrupts.specs.Interrupts.{Delivery, fault, post, descripto
 use Rattle.interrupts.proofs.Checks.{stopped, went}
 
 module _ (m : Memory) (eime fpd : Bool) (vector at : ℕ) where
-  pub no-descriptor : entry 8 m at ≡ missing → fault 0x27 fpd ≡ run (descriptorRules eime fpd vector at) m
+  pub no-descriptor : entry 8 m at ≡ missing → fault 0x27 fpd ≡ run (descriptorRules eime fpd at vector) m
   unfolding descriptorRules run
   no-descriptor h = rw h
 
   pub descriptor-checked : {d : ℕ} {k : Check Notice} → entry 8 m at ≡ found d → descriptorCheck eime d ≡ k
-      → onCheck k (λ reason. fault reason fpd) (post at vector) ≡ run (descriptorRules eime fpd vector at) m
+      → onCheck k (λ reason. fault reason fpd) (post at vector) ≡ run (descriptorRules eime fpd at vector) m
   unfolding descriptorRules run
   descriptor-checked h k = rw (h, k)
 

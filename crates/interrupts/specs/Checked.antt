@@ -32,13 +32,14 @@ remappedOf r =
       destination = r .destination;
     }
 
-abbrev pub askedOf : Irte → irte.Irte
-askedOf (Remaps r) = irte.remaps (remappedOf r)
-askedOf (Posts vector descriptor) = irte.posts vector descriptor
+-- the code reads the answer of an entry that remaps only when it gives it: here it is handed in
+abbrev pub askedOf : irte.Remapped → Irte → irte.Irte
+askedOf remapped Remaps = irte.remaps remapped
+askedOf remapped (Posts descriptor vector) = irte.posts descriptor vector
 
-abbrev pub irteChecked : IrteCheck → Check irte.Irte
-irteChecked (Valid i) = go (askedOf i)
-irteChecked Reserved = stop 0x24
+abbrev pub irteChecked : irte.Remapped → IrteCheck → Check irte.Irte
+irteChecked remapped (Valid i) = go (askedOf remapped i)
+irteChecked remapped Reserved = stop 0x24
 
 abbrev pub dueOf : Notice → descriptor.Notice
 dueOf Silent = descriptor.silent

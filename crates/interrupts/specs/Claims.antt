@@ -1,7 +1,7 @@
 -- What holds of every interrupt request, whatever the registers, the request and the image. Each claim is proved under its name
--- in proofs/: Exact, Named, Isolation.
+-- in proofs/: Exact, Notices, Named, Isolation.
 use Prim.Native.Nat.{ℕ, _+_, _*_, _/_, _%_, _≤_, _<_}
-use mathlib.Core.Bool.{Bool, true, false, _&&_, _||_}
+use mathlib.Core.Bool.{Bool, true, false, not, _&&_, _||_}
 use mathlib.Core.List.{List, [], _∷_}
 use mathlib.Core.Logic.{_⊎_}
 use mathlib.Core.Path.{_≡_}
@@ -46,6 +46,18 @@ abbrev pub SetsExactly : Type 0
 SetsExactly = (registers : Registers) (request : InterruptRequest) (image : List ℕ) (n : ℕ) →
     bitAt (written (outcome registers request image) image) n ≡ (bitAt image n || sets (outcome registers request image) n)
 
+-- a post answers a notice exactly where ON and SN were clear, so ON goes from 0 to 1 exactly with a notice; of a run of bytes
+abbrev pub NoticeExactly : Type 0
+NoticeExactly = (registers : Registers) (request : InterruptRequest) (image : List ℕ) → ((n : ℕ) → getD image n 0 < 256) →
+    (descriptor vector : ℕ) (m : Notice) → outcome registers request image ≡ posted descriptor vector m →
+    due m ≡ not (bitAt image (8 * descriptor + 256) || bitAt image (8 * descriptor + 257))
+
+-- a refused, blocked, passed or remapped request leaves every byte
+abbrev pub LeavesAll : Type 0
+LeavesAll = (registers : Registers) (request : InterruptRequest) (image : List ℕ) →
+    ((descriptor vector : ℕ) (m : Notice) → outcome registers request image ≡ posted descriptor vector m → ⊥) →
+    written (outcome registers request image) image ≡ image
+
 -- the image keeps its length, and the bits that a post sets lie in it
 abbrev pub StaysInside : Type 0
 StaysInside = (registers : Registers) (request : InterruptRequest) (image : List ℕ) →
@@ -59,6 +71,11 @@ wholeIndex request =
 
 abbrev pub IndexBound : Type 0
 IndexBound = (request : InterruptRequest) → wholeIndex request ≤ 131070
+
+-- the entry that a request reads is that of its whole index
+abbrev pub EntryOfIndex : Type 0
+EntryOfIndex = (registers : Registers) (request : InterruptRequest) (image : List ℕ) (at : ℕ) (rest : List ℕ) →
+    namedWords registers request image ≡ at ∷ rest → at ≡ registers .«interrupt_table» + 16 * wholeIndex request
 
 -- two requests that read the same entry have the same whole index: no sum wraps onto another's entry
 abbrev pub NoWrap : Type 0
@@ -91,7 +108,8 @@ AccessFault (remapped r) = ⊥
 AccessFault (posted descriptor vector n) = ⊥
 AccessFault (refused number) = ⊥
 
--- the customer's demand 3 for interrupts: over an image alike in the named words the same answer, and so the same bits are set
+-- the customer's demand 3 for interrupts: over an image alike in the named words the same answer, unless it was an access fault,
+-- and so the same bits are set
 abbrev pub Isolated : Type 0
 Isolated = (registers : Registers) (request : InterruptRequest) (image image′ : List ℕ) →
     (AccessFault (outcome registers request image) → ⊥) →

@@ -21,14 +21,14 @@ pub data Delivery : Type 0 where
   remap : Remapped → Delivery
   post : (descriptor vector : ℕ) → Notice → Delivery
 
-unfoldable pub descriptorRules : (eime fpd : Bool) (vector at : ℕ) → Rules Delivery
-descriptorRules eime fpd vector at =
+unfoldable pub descriptorRules : (eime fpd : Bool) (at vector : ℕ) → Rules Delivery
+descriptorRules eime fpd at vector =
     fetch 8 at (fault 0x27 fpd)
     (λ d. answer (onCheck (descriptorCheck eime d) (λ reason. fault reason fpd) (post at vector)))
 
 abbrev pub onIrte : (eime fpd : Bool) → Irte → Rules Delivery
 onIrte eime fpd (remaps r) = answer (remap r)
-onIrte eime fpd (posts vector descriptor) = descriptorRules eime fpd vector descriptor
+onIrte eime fpd (posts descriptor vector) = descriptorRules eime fpd descriptor vector
 
 unfoldable pub entryRules : Registers → (source e : ℕ) → Rules Delivery
 entryRules registers source e =

@@ -25,6 +25,7 @@ reservedInRemapped eime e =
     anySet e 14 12 || anySet e 31 24 || anySet e 127 84 || eqb (bits e 7 5) 3 || eqb (bits e 7 5) 6
     || not eime && (anySet e 39 32 || anySet e 63 48)
 
+-- bit 14 is in no list: it has no effect. Nor are bits 11:8 looked at, in either kind
 abbrev pub reservedInPosted : (haw e : ℕ) → Bool
 reservedInPosted haw e =
     anySet e 7 2 || anySet e 13 12 || anySet e 37 24 || anySet e 95 84 || anySet (descriptorAddress e) 63 haw
@@ -61,11 +62,11 @@ remappedBy eime e =
 -- what an entry asks for: the remapped answer, or a post of a vector to the descriptor at an address
 pub data Irte : Type 0 where
   remaps : Remapped → Irte
-  posts : (vector descriptor : ℕ) → Irte
+  posts : (descriptor vector : ℕ) → Irte
 
 abbrev pub irteOf : (eime : Bool) (e : ℕ) → Irte
 irteOf eime e =
-    if bit e 15 then posts (bits e 23 16) (descriptorAddress e) else remaps (remappedBy eime e)
+    if bit e 15 then posts (descriptorAddress e) (bits e 23 16) else remaps (remappedBy eime e)
 
 -- present, reserved, source: the first that fails stops it
 unfoldable pub irteCheck : Registers → (source e : ℕ) → Check Irte

@@ -9,11 +9,12 @@ use faults::Reason;
 use faults::interrupt_fault;
 use registers::SourceId;
 
-// A vector posted to the descriptor at an address, and whether a notice is due.
+// Whether a notice is due, and the vector posted to the descriptor at an address. The order of the fields keeps each of them in a
+// word of its own when the answer is moved.
 pub struct Posted {
-    pub descriptor: u64,
-    pub vector: u8,
     pub notice: Notice,
+    pub vector: u8,
+    pub descriptor: u64,
 }
 
 // What the table makes of a request. A fault has FPD as it was read by then.

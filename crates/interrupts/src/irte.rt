@@ -1,4 +1,5 @@
 // The interrupt remapping table entry: a remapped one, or with bit 15 a posted one.
+ghost use mathlib.Core.Bool.{Bool};
 ghost use mathlib.Core.Path.{_≡_};
 ghost use Prim.Native.Nat.{_^_, _<_};
 ghost use Rattle.image.specs.Check.{stop, go};
@@ -22,11 +23,11 @@ pub struct Remapped {
     pub destination: u32,
 }
 
-// What an entry asks for.
+// What an entry asks for. What a remapped one carries is read when it is needed.
 pub enum Irte {
-    Remaps(Remapped),
+    Remaps,
     // A post of the vector to the descriptor at the address.
-    Posts { vector: u8, descriptor: u64 },
+    Posts { descriptor: u64, vector: u8 },
 }
 
 pub enum IrteCheck {
@@ -88,7 +89,7 @@ fn destination(eime: bool, e: Entry16) -> u32
     irte_bits(e, 47, 40) as u32
 }
 
-fn remapped_by(eime: bool, e: Entry16) -> Remapped
+pub(crate) fn remapped_by(eime: bool, e: Entry16) -> Remapped
     ensures { λ r. ⌜ remappedOf r ≡ remappedBy eime (number16 e) ⌝ }
 {
     let delivery = irte_bits(e, 7, 5) as u8;
@@ -103,23 +104,23 @@ fn remapped_by(eime: bool, e: Entry16) -> Remapped
     }
 }
 
-fn irte_of(eime: bool, e: Entry16) -> Irte
-    ensures { λ r. ⌜ askedOf r ≡ irteOf eime (number16 e) ⌝ }
+fn irte_of(e: Entry16) -> Irte
+    ensures { λ r. ⌜ ((eime : Bool) → askedOf (remappedBy eime (number16 e)) r ≡ irteOf eime (number16 e)) ⌝ }
 {
     if irte_bit(e, 15) {
         let vector = irte_bits(e, 23, 16) as u8;
         let descriptor = descriptor_address(e);
-        return Irte::Posts { vector, descriptor };
+        return Irte::Posts { descriptor, vector };
     }
-    Irte::Remaps(remapped_by(eime, e))
+    Irte::Remaps
 }
 
 // The reserved bits alone: presence is looked at before them, and the source after.
 pub(crate) fn irte_check(registers: Registers, e: Entry16) -> IrteCheck
-    ensures { λ r. ⌜ irteChecked r ≡ (if reservedIrte registers (number16 e) then stop 0x24 else go (irteOf (registers .eime) (number16 e))) ⌝ }
+    ensures { λ r. ⌜ irteChecked (remappedBy (registers .eime) (number16 e)) r ≡ (if reservedIrte registers (number16 e) then stop 0x24 else go (irteOf (registers .eime) (number16 e))) ⌝ }
 {
     if reserved_irte(registers, e) {
         return IrteCheck::Reserved;
     }
-    IrteCheck::Valid(irte_of(registers.eime, e))
+    IrteCheck::Valid(irte_of(e))
 }

@@ -14,6 +14,7 @@ use crate::fields::irte_bit;
 use crate::irte::Irte;
 use crate::irte::IrteCheck;
 use crate::irte::irte_check;
+use crate::irte::remapped_by;
 use crate::source::source_allowed;
 use faults::Reason;
 use image::Entry16;
@@ -25,8 +26,8 @@ use registers::Registers;
 use registers::SourceId;
 use registers::at_or_above_power;
 
-fn follow_descriptor(image: &[u8], eime: bool, fpd: bool, vector: u8, at: u64) -> Delivery
-    ensures { λ r. ⌜ deliveryOf r ≡ run (descriptorRules eime fpd vector at) (ofImage (now (image .entry))) ⌝ }
+fn follow_descriptor(image: &[u8], eime: bool, fpd: bool, at: u64, vector: u8) -> Delivery
+    ensures { λ r. ⌜ deliveryOf r ≡ run (descriptorRules eime fpd at vector) (ofImage (now (image .entry))) ⌝ }
 {
     let Found64::Entry(d) = fetch64(image, at) else {
         return Delivery::Fault(Reason::DescriptorAccess, fpd);
@@ -56,9 +57,9 @@ fn follow_entry(image: &[u8], registers: Registers, source: SourceId, e: Entry16
         return Delivery::Fault(Reason::SourceRejected, fpd);
     }
     match irte {
-        Irte::Remaps(remapped) => Delivery::Remap(remapped),
-        Irte::Posts { vector, descriptor } => {
-            follow_descriptor(image, registers.eime, fpd, vector, descriptor)
+        Irte::Remaps => Delivery::Remap(remapped_by(registers.eime, e)),
+        Irte::Posts { descriptor, vector } => {
+            follow_descriptor(image, registers.eime, fpd, descriptor, vector)
         }
     }
 }

@@ -97,7 +97,7 @@ after page table p t = inr (omega (arith, low, high))
         (λ r. ⊎-elim (λ e. omega arith) (λ r. absurd (List·Memᴰ·not-nil r)) (List·Memᴰ·cases-cons r))
         (List·Memᴰ·cases-cons t)
 
-apart : (write : Bool) → Apart benchRegisters (memoryRequest 0x0310 0x40201ABC write) bench
+apart : (write : Bool) → Apart benchRegisters (memoryRequest 0x0310 0x40201ABC write) (memoryRequest 0x0310 0x40201ABC write) bench
 apart write page table p t = after page table (rw (walked-by write) at p) (rw (tables-of write) at t)
 
 leaf : (write : Bool) → List·Memᴰ 0x5008 (walkedOver benchRegisters (memoryRequest 0x0310 0x40201ABC write) bench)
@@ -107,7 +107,7 @@ leaf write = rw (walked-by write) (List·Memᴰ·tail (List·Memᴰ·tail (List�
 more-rights : answerOver benchRegisters reads (set bench 0x5008 3) ≡ granted 0x12345ABC
 unfolding bench layout bytesOf bits
 more-rights =
-    isolation .rights-on benchRegisters reads bench (set bench 0x5008 3) (apart false)
+    isolation .rights-on benchRegisters reads reads bench (set bench 0x5008 3) (apart false)
     (switch-one (λ before after. before ≤ after) _ bench 0x5008 3 (leaf false) (lit< tt) (λ x. omega arith) refl (lit≤ tt) (lit≤ tt))
     0x12345ABC read-answer
 
@@ -115,7 +115,7 @@ more-rights =
 less-rights : (host : ℕ) → answerOver benchRegisters writes (set bench 0x5008 0) ≡ granted host → ⊥
 unfolding bench layout bytesOf bits
 less-rights =
-    isolation .rights-off benchRegisters writes bench (set bench 0x5008 0) (apart true)
+    isolation .rights-off benchRegisters writes writes bench (set bench 0x5008 0) (apart true)
     (switch-one (λ before after. after ≤ before) _ bench 0x5008 0 (leaf true) (lit< tt) (λ x. omega arith) refl (lit≤ tt) (lit≤ tt))
     write-answer
 

@@ -29,16 +29,13 @@ cast-index c = search needs
 shr-index : tie.Need-shr-index
 shr-index c = search needs
 
-table-page-requires : tie.Need-table-page-requires
-table-page-requires c κs = search needs
-
-mul-fetch8 : tie.Need-mul-fetch8
-mul-fetch8 c =
-    let a = c .before .before .args in
+mul-page-entry8 : tie.Need-mul-page-entry8
+mul-page-entry8 c =
+    let a = c .before .args in
     omega (arith, index-of (a .request .address) (a .below), index-lt (a .request .address) (a .below))
 
-fetch8-requires : tie.Need-fetch8-requires
-fetch8-requires c κs = search needs
+page-entry8-requires : tie.Need-page-entry8-requires
+page-entry8-requires c κs = search needs
 
 enum-known-e : tie.Need-enum-known-e
 enum-known-e c = search needs
@@ -46,16 +43,16 @@ enum-known-e c = search needs
 enum-told : tie.Need-enum-told
 enum-told c = search needs
 
-place : (c : tie.After-fetch8)
-    → fetched8 (c .fetch8 .result)
-    ≡ entry 1 (ofImage (c .before .before .before .args .image .now)) (placeIn (c .before .before .before .args .request .address) (c .before .before .before .args .table) (c .before .before .before .args .below))
+place : (c : tie.After-page-entry8)
+    → fetched8 (c .page-entry8 .result)
+    ≡ entry 1 (ofImage (c .before .before .args .image .now)) (placeIn (c .before .before .args .request .address) (c .before .before .args .table) (c .before .before .args .below))
 place c =
-    let a = c .before .before .before .args in
-    placed (a .image .now) (a .request .address) (a .table) (a .below) (index-of (a .request .address) (a .below)) (c .before .table-page .ensures) (c .fetch8 .ensures)
+    let a = c .before .before .args in
+    placed (a .image .now) (a .request .address) (a .table) (a .below) (index-of (a .request .address) (a .below)) (c .page-entry8 .ensures)
 
 returns : tie.Need-returns
 returns c =
-    let a = c .before .before .before .before .before .args in
+    let a = c .before .before .before .before .args in
     unfetched (a .registers) (a .request .address) (a .request .write) (a .fpd) (a .image .now) (a .below) (a .table) (sym (ap fetched8 (c .enum-told .given .1)) ∙ place (c .before .before))
 
 add-page-check : tie.Need-add-page-check
@@ -72,23 +69,23 @@ enum-told-2 c = search needs
 
 found-at : (c : tie.After-known-told)
     → found (c .before .e .given .0 .0)
-    ≡ entry 1 (ofImage (c .before .before .before .before .before .before .args .image .now)) (placeIn (c .before .before .before .before .before .before .args .request .address) (c .before .before .before .before .before .before .args .table) (c .before .before .before .before .before .before .args .below))
+    ≡ entry 1 (ofImage (c .before .before .before .before .before .args .image .now)) (placeIn (c .before .before .before .before .before .args .request .address) (c .before .before .before .before .before .args .table) (c .before .before .before .before .before .args .below))
 found-at c = sym (ap fetched8 (c .before .e .given .1)) ∙ place (c .before .before .before)
 
 told : (c : tie.After-page-check)
     → translationOf (c .page-check .result)
-    ≡ checked (c .before .before .before .before .before .before .before .args .fpd)
-    (pageCheck (c .before .before .before .before .before .before .before .args .registers) (c .before .before .before .before .before .before .before .args .request .write) (suc (c .before .before .before .before .before .before .before .args .below)) (c .before .before .e .given .0 .0))
-told c = rw (← add-one (c .before .before .before .before .before .before .before .args .below)) (c .page-check .ensures)
+    ≡ checked (c .before .before .before .before .before .before .args .fpd)
+    (pageCheck (c .before .before .before .before .before .before .args .registers) (c .before .before .before .before .before .before .args .request .write) (suc (c .before .before .before .before .before .before .args .below)) (c .before .before .e .given .0 .0))
+told c = rw (← add-one (c .before .before .before .before .before .before .args .below)) (c .page-check .ensures)
 
 went : (c : tie.After-check)
-    → pageCheck (c .before .before .before .before .before .before .before .before .before .args .registers) (c .before .before .before .before .before .before .before .before .before .args .request .write) (suc (c .before .before .before .before .before .before .before .before .before .args .below)) (c .before .before .before .before .e .given .0 .0)
+    → pageCheck (c .before .before .before .before .before .before .before .before .args .registers) (c .before .before .before .before .before .before .before .before .args .request .write) (suc (c .before .before .before .before .before .before .before .before .args .below)) (c .before .before .before .before .e .given .0 .0)
     ≡ go (c .check .given .0 .0)
-went c = gone (c .before .before .before .before .before .before .before .before .before .args .fpd) _ (sym (ap translationOf (c .check .given .1)) ∙ told (c .before .before))
+went c = gone (c .before .before .before .before .before .before .before .before .args .fpd) _ (sym (ap translationOf (c .check .given .1)) ∙ told (c .before .before))
 
 returns-2 : tie.Need-returns-2
 returns-2 c =
-    let a = c .before .before .before .before .before .before .before .before .before .args in
+    let a = c .before .before .before .before .before .before .before .before .args in
     stopped (a .registers) (a .request .address) (a .request .write) (a .fpd) (a .image .now) (a .below) (a .table) (found-at (c .before .before .before)) (told (c .before .before)) (ap translationOf (c .enum-told2 .given .1))
 
 add-large-page : tie.Need-add-large-page
@@ -106,20 +103,20 @@ add-field c = search needs
 field-requires : tie.Need-field-requires
 field-requires c κs = search needs
 
-add-t24 : tie.Need-add-t24
-add-t24 c =
-    let a = c .before .before .before .before .before .before .before .before .before .before .before .before .before .args in
+add-t23 : tie.Need-add-t23
+add-t23 c =
+    let a = c .before .before .before .before .before .before .before .before .before .before .before .before .args in
     omega (arith, page-frame-lt (a .registers) (a .request .write) (suc (a .below)) _ _ (went (c .before .before .before .before)), c .field .ensures, host-lt (a .request .address) (a .below) (omega arith))
 
 returns-3 : tie.Need-returns-3
 returns-3 c =
-    let a = c .before .before .before .before .before .before .before .before .before .before .before .before .before .args in
+    let a = c .before .before .before .before .before .before .before .before .before .before .before .before .args in
     let large = sym (c .before .before .large-page .ensures) ∙ c .before .if1 .taken in
     rw (c .field .ensures, offset (a .below)) (at-leaf (a .registers) (a .request .address) (a .request .write) (a .fpd) (a .image .now) (a .below) (a .table) (found-at (c .before .before .before .before .before .before .before)) (went (c .before .before .before .before)) (rw (add-one (a .below)) at large))
 
 returns-4 : tie.Need-returns-4
 returns-4 c =
-    let a = c .before .before .before .before .before .before .before .before .before .before .before .before .args in
+    let a = c .before .before .before .before .before .before .before .before .before .before .before .args in
     let small = sym (c .before .large-page .ensures) ∙ c .if1 .left in
     at-table (a .registers) (a .request .address) (a .request .write) (a .fpd) (a .image .now) (a .below) (a .table) (found-at (c .before .before .before .before .before .before)) (went (c .before .before .before)) (rw (add-one (a .below)) at small)
 
@@ -131,9 +128,8 @@ page-step-spec =
     add-index
     cast-index
     shr-index
-    table-page-requires
-    mul-fetch8
-    fetch8-requires
+    mul-page-entry8
+    page-entry8-requires
     enum-known-e
     enum-told
     returns
@@ -147,6 +143,6 @@ page-step-spec =
     mul-field
     add-field
     field-requires
-    add-t24
+    add-t23
     returns-3
     returns-4)

@@ -18,17 +18,14 @@ use Rattle.dma.proofs.translation.translate.Tie as tie
 bus-requires : tie.Need-bus-requires
 bus-requires c κs = search needs
 
-table-page-requires : tie.Need-table-page-requires
-table-page-requires c κs = search needs
+cast-page-entry16 : tie.Need-cast-page-entry16
+cast-page-entry16 c = search needs
 
-cast-fetch16 : tie.Need-cast-fetch16
-cast-fetch16 c = search needs
+mul-page-entry16 : tie.Need-mul-page-entry16
+mul-page-entry16 c = search needs
 
-mul-fetch16 : tie.Need-mul-fetch16
-mul-fetch16 c = search needs
-
-fetch16-requires : tie.Need-fetch16-requires
-fetch16-requires c κs = search needs
+page-entry16-requires : tie.Need-page-entry16-requires
+page-entry16-requires c κs = search needs
 
 enum-known-e : tie.Need-enum-known-e
 enum-known-e c = search needs
@@ -36,18 +33,18 @@ enum-known-e c = search needs
 enum-told : tie.Need-enum-told
 enum-told c = search needs
 
-place : (c : tie.After-fetch16)
-    → fetched16 (c .fetch16 .result)
-    ≡ entry 2 (ofImage (c .before .before .before .before .args .image .now)) (c .before .before .before .before .args .registers .«root_table» + 16 * busOf (c .before .before .before .before .args .request .source .id))
+place : (c : tie.After-page-entry16)
+    → fetched16 (c .page-entry16 .result)
+    ≡ entry 2 (ofImage (c .before .before .before .args .image .now)) (c .before .before .before .args .registers .«root_table» + 16 * busOf (c .before .before .before .args .request .source .id))
 place c =
-    let a = c .before .before .before .before .args in
-    rw (← c .before .before .bus .ensures)
-    (placed (a .image .now) (a .registers .«root_table») (omega arith) (c .before .table-page .ensures) (c .fetch16 .ensures))
+    let a = c .before .before .before .args in
+    rw (← c .before .bus .ensures)
+    (placed (a .image .now) (a .registers .«root_table») (omega arith) (c .page-entry16 .ensures))
 
 returns : tie.Need-returns
 unfolding rootRules
 returns c =
-    let a = c .before .before .before .before .before .before .args in
+    let a = c .before .before .before .before .before .args in
     unfetched (ofImage (a .image .now)) (a .registers .«root_table» + 16 * busOf (a .request .source .id)) (fault 0x08 false) (λ (e : ℕ). false) (rootCheck (a .registers .haw)) (λ e. contextRules (a .registers) (a .request .address) (a .request .write) (a .request .source .id)) (sym (ap fetched16 (c .enum-told .given .1)) ∙ place (c .before .before))
 
 root-check-requires : tie.Need-root-check-requires
@@ -61,17 +58,17 @@ enum-told-2 c = search needs
 
 found-at : (c : tie.After-known-told)
     → found (number16 (c .before .e .given .0 .0))
-    ≡ entry 2 (ofImage (c .before .before .before .before .before .before .before .args .image .now)) (c .before .before .before .before .before .before .before .args .registers .«root_table» + 16 * busOf (c .before .before .before .before .before .before .before .args .request .source .id))
+    ≡ entry 2 (ofImage (c .before .before .before .before .before .before .args .image .now)) (c .before .before .before .before .before .before .args .registers .«root_table» + 16 * busOf (c .before .before .before .before .before .before .args .request .source .id))
 found-at c = sym (ap fetched16 (c .before .e .given .1)) ∙ place (c .before .before .before)
 
 went : (c : tie.After-check)
-    → rootCheck (c .before .before .before .before .before .before .before .before .before .before .args .registers .haw) (number16 (c .before .before .before .before .e .given .0 .0)) ≡ go (c .check .given .0 .0)
+    → rootCheck (c .before .before .before .before .before .before .before .before .before .args .registers .haw) (number16 (c .before .before .before .before .e .given .0 .0)) ≡ go (c .check .given .0 .0)
 went c = gone false _ (sym (ap translationOf (c .check .given .1)) ∙ c .before .before .root-check .ensures)
 
 returns-2 : tie.Need-returns-2
 unfolding rootRules
 returns-2 c =
-    let a = c .before .before .before .before .before .before .before .before .before .before .args in
+    let a = c .before .before .before .before .before .before .before .before .before .args in
     stopped (ofImage (a .image .now)) (a .registers .«root_table» + 16 * busOf (a .request .source .id)) (fault 0x08 false) (λ (e : ℕ). false) (rootCheck (a .registers .haw)) (λ e. contextRules (a .registers) (a .request .address) (a .request .write) (a .request .source .id)) (found-at (c .before .before .before)) (c .before .before .root-check .ensures) (ap translationOf (c .enum-told2 .given .1))
 
 translate-context-requires : tie.Need-translate-context-requires
@@ -80,7 +77,7 @@ translate-context-requires c κs = search needs
 returns-3 : tie.Need-returns-3
 unfolding rootRules
 returns-3 c =
-    let a = c .before .before .before .before .before .before .before .before .before .before .before .before .args in
+    let a = c .before .before .before .before .before .before .before .before .before .before .before .args in
     c .translate-context .ensures ∙ passed (ofImage (a .image .now)) (a .registers .«root_table» + 16 * busOf (a .request .source .id)) (fault 0x08 false) (λ (e : ℕ). false) (rootCheck (a .registers .haw)) (λ e. contextRules (a .registers) (a .request .address) (a .request .write) (a .request .source .id)) (found-at (c .before .before .before .before .before)) (went (c .before .before))
 
 pub translate-spec : {M : Type 1} → statement M
@@ -88,10 +85,9 @@ translate-spec =
     tie.close
     (tie.spec
     bus-requires
-    table-page-requires
-    cast-fetch16
-    mul-fetch16
-    fetch16-requires
+    cast-page-entry16
+    mul-page-entry16
+    page-entry16-requires
     enum-known-e
     enum-told
     returns

@@ -19,13 +19,10 @@ descriptor-address-requires : tie.Need-descriptor-address-requires
 descriptor-address-requires c κs = search needs
 
 returns : tie.Need-returns
-returns c = rw (← c .before .before .before .irte-bit .ensures, c .before .before .if1 .taken) (cc)
-
-remapped-by-requires : tie.Need-remapped-by-requires
-remapped-by-requires c κs = search needs
+returns c eime = rw (← c .before .before .before .irte-bit .ensures, c .before .before .if1 .taken) (cc)
 
 returns-2 : tie.Need-returns-2
-returns-2 c = rw (← c .before .before .irte-bit .ensures, c .before .if1 .left) (cc)
+returns-2 c eime = rw (← c .before .irte-bit .ensures, c .if1 .left)
 
 pub irte-of-spec : {M : Type 1} → statement M
 irte-of-spec =
@@ -36,5 +33,4 @@ irte-of-spec =
     cast-vector
     descriptor-address-requires
     returns
-    remapped-by-requires
     returns-2)

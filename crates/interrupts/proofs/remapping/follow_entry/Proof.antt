@@ -1,11 +1,13 @@
 -- Each answer by what the tests and the check tell.
 use mathlib.Core.Bool.{not, false}
-use mathlib.Core.Path.{_≡_, refl, ap, sym, _∙_}
+use mathlib.Core.Path.{_≡_, ap, sym, _∙_}
 use borrow.Author.Needs.{needs}
 use Rattle.image.specs.Rules.{run}
 use Rattle.image.specs.Memory.{ofImage}
 use Rattle.image.specs.Bits.{bit}
 use Rattle.image.specs.Entries.{number16}
+use Rattle.interrupts.specs.Irte.{remappedBy}
+use Rattle.interrupts.specs.Interrupts.{remap}
 use Rattle.interrupts.specs.Checked.{askedOf, irteChecked}
 use Rattle.interrupts.proofs.Stages.{absent, reserved, rejected, accepted}
 use Rattle.interrupts.proofs.remapping.follow_entry.Statement.{statement}
@@ -42,7 +44,7 @@ returns-2 c =
     let b = k .before .before .before in
     let a = b .before .before .args in
     reserved (ofImage (a .image .now)) (a .registers) (a .source .id) (number16 (a .e)) (b .irte-bit .ensures) (present (k .before))
-    (k .irte-check .ensures) (ap irteChecked (c .enum-told .given .1))
+    (k .irte-check .ensures) (ap (irteChecked (remappedBy (a .registers .eime) (number16 (a .e)))) (c .enum-told .given .1))
 
 source-allowed-requires : tie.Need-source-allowed-requires
 source-allowed-requires c κs = search needs
@@ -54,14 +56,17 @@ returns-3 c =
     let b = k .before .before .before in
     let a = b .before .before .args in
     rejected (ofImage (a .image .now)) (a .registers) (a .source .id) (number16 (a .e)) (b .irte-bit .ensures) (present (k .before))
-    (k .irte-check .ensures) (ap irteChecked (v .irte .given .1))
+    (k .irte-check .ensures) (ap (irteChecked (remappedBy (a .registers .eime) (number16 (a .e)))) (v .irte .given .1))
     (ap not (sym (c .before .source-allowed .ensures)) ∙ c .if2 .taken)
+
+enum-told-2 : tie.Need-enum-told-2
+enum-told-2 c = search needs
+
+remapped-by-requires : tie.Need-remapped-by-requires
+remapped-by-requires c κs = search needs
 
 enum-known-irte-2 : tie.Need-enum-known-irte-2
 enum-known-irte-2 c = search needs
-
-enum-known-irte-3 : tie.Need-enum-known-irte-3
-enum-known-irte-3 c = search needs
 
 follow-descriptor-requires : tie.Need-follow-descriptor-requires
 follow-descriptor-requires c κs = search needs
@@ -75,9 +80,9 @@ returns-4 c =
     let b = k .before .before .before in
     let a = b .before .before .args in
     accepted (ofImage (a .image .now)) (a .registers) (a .source .id) (number16 (a .e)) (b .irte-bit .ensures) (present (k .before))
-    (k .irte-check .ensures) (ap irteChecked (v .irte .given .1))
+    (k .irte-check .ensures) (ap (irteChecked (remappedBy (a .registers .eime) (number16 (a .e)))) (v .irte .given .1))
     (ap not (sym (s .before .source-allowed .ensures)) ∙ s .if2 .left)
-    (ap askedOf (c .before .irte2 .given .1)) refl
+    (ap (askedOf (remappedBy (a .registers .eime) (number16 (a .e)))) (c .before .enum-told2 .given .1)) (ap remap (c .remapped-by .ensures))
 
 returns-5 : tie.Need-returns-5
 returns-5 c =
@@ -87,9 +92,9 @@ returns-5 c =
     let b = k .before .before .before in
     let a = b .before .before .args in
     accepted (ofImage (a .image .now)) (a .registers) (a .source .id) (number16 (a .e)) (b .irte-bit .ensures) (present (k .before))
-    (k .irte-check .ensures) (ap irteChecked (v .irte .given .1))
+    (k .irte-check .ensures) (ap (irteChecked (remappedBy (a .registers .eime) (number16 (a .e)))) (v .irte .given .1))
     (ap not (sym (s .before .source-allowed .ensures)) ∙ s .if2 .left)
-    (ap askedOf (c .before .before .irte3 .given .1)) (c .follow-descriptor .ensures)
+    (ap (askedOf (remappedBy (a .registers .eime) (number16 (a .e)))) (c .before .before .irte2 .given .1)) (c .follow-descriptor .ensures)
 
 pub follow-entry-spec : {M : Type 1} → statement M
 follow-entry-spec =
@@ -104,8 +109,9 @@ follow-entry-spec =
     returns-2
     source-allowed-requires
     returns-3
+    enum-told-2
+    remapped-by-requires
     enum-known-irte-2
-    enum-known-irte-3
     follow-descriptor-requires
     returns-4
     returns-5)

@@ -1,9 +1,9 @@
 -- `Registers::bad` is the paper's list: each item by its callee, and the items joined from the left as from the right.
 use mathlib.Core.Bool.{Bool, true, false, not}
-use mathlib.Core.Path.{_≡_, refl}
+use mathlib.Core.Path.{_≡_, refl, sym, _∙_}
 use borrow.Author.Needs.{needs}
 use Rattle.image.specs.Choice.{_or_}
-use Rattle.registers.specs.Registers.{badRegisters}
+use Rattle.registers.specs.Registers.{outside, badRegisters}
 use Rattle.registers.proofs.Registers.bad.Statement.{statement}
 use Rattle.registers.proofs.Registers.bad.Tie as tie
 
@@ -11,12 +11,20 @@ or-assoc : (a b c : Bool) → ((a or b) or c) ≡ (a or b or c)
 or-assoc true b c = refl
 or-assoc false b c = refl
 
-joined : {a a′ b b′ d d′ e e′ f f′ : Bool} (x y z : Bool) → a ≡ a′ → b ≡ b′ → d ≡ d′ → e ≡ e′ → f ≡ f′
-    → (((((a or b) or not ((x or y) or z)) or d) or e) or f) ≡ (a′ or b′ or not (x or y or z) or d′ or e′ or f′)
+-- where the first item doesn't hold
+joined : {a b b′ d d′ e e′ f f′ : Bool} (x y z : Bool) → a ≡ false → b ≡ b′ → d ≡ d′ → e ≡ e′ → f ≡ f′
+    → ((((b or not ((x or y) or z)) or d) or e) or f) ≡ (a or b′ or not (x or y or z) or d′ or e′ or f′)
 joined x y z p q s t u = simp (or-assoc, p, q, s, t, u)
 
 out-of-range-requires : tie.Need-out-of-range-requires
 out-of-range-requires c κs = search needs
+
+returns : tie.Need-returns
+unfolding badRegisters
+returns c =
+    let r = c .before .before .args .self in
+    let found : outside (r .haw) 36 52 ≡ true = sym (c .before .out-of-range .ensures) ∙ c .if1 .taken in
+    rw found
 
 out-of-range-requires-2 : tie.Need-out-of-range-requires-2
 out-of-range-requires-2 c κs = search needs
@@ -30,13 +38,14 @@ bad-table-requires-2 c κs = search needs
 out-of-range-requires-3 : tie.Need-out-of-range-requires-3
 out-of-range-requires-3 c κs = search needs
 
-returns : tie.Need-returns
+returns-2 : tie.Need-returns-2
 unfolding badRegisters
-returns c =
+returns-2 c =
     let widths = c .before .before .before .before .before in
-    let r = widths .before .before .args .self in
+    let first = widths .before .before in
+    let r = first .before .args .self in
     joined (r .levels3) (r .levels4) (r .levels5)
-    (widths .before .out-of-range .ensures)
+    (sym (first .out-of-range .ensures) ∙ widths .before .if1 .left)
     (widths .out-of-range2 .ensures)
     (c .before .before .bad-table .ensures)
     (c .before .bad-table2 .ensures)
@@ -47,8 +56,9 @@ bad-spec =
     tie.close
     (tie.spec
     out-of-range-requires
+    returns
     out-of-range-requires-2
     bad-table-requires
     bad-table-requires-2
     out-of-range-requires-3
-    returns)
+    returns-2)

@@ -1,0 +1,26 @@
+use Prim.Native.Nat.{_+_}
+use mathlib.Core.Path.{sym}
+use native.Mathlib.Omega.{arith}
+use borrow.Author.Tests.{lt-leb}
+use lib.ListN.{length}
+use Rattle.image.proofs.Pages.{room}
+use borrow.Author.Needs.{needs}
+use Rattle.image.proofs.holds_page.Statement.{statement}
+use Rattle.image.proofs.holds_page.Tie as tie
+use Rattle.image.proofs.holds_page.Reads as reads
+use Rattle.image.proofs.holds_page.Lts as lts
+
+-- src/lib.rt:162:9
+returns : tie.Need-returns
+returns c = let a = c .before .args in sym (lt-leb (a .table + 4096) (length (a .image .now)) (omega arith))
+
+-- src/lib.rt:164:15
+sub-result : tie.Need-sub-result
+sub-result c = search needs
+
+-- src/lib.rt:158:1
+returns-2 : tie.Need-returns-2
+returns-2 c = let a = c .before .args in room 4096 (a .table) (length (a .image .now)) (omega arith)
+
+pub holds-page-spec : {M : Type 1} → statement M
+holds-page-spec = tie.close (tie.spec returns sub-result returns-2)
