@@ -1,4 +1,4 @@
--- Document 01, "Context entry": context table + 16 × (device and function), 16 bytes.
+-- Document 01, "Context entry": context table + 16 × (device and function), 16 bytes. The domain, 87:72, changes no answer.
 use Prim.Native.Nat.{ℕ, _+_}
 use mathlib.Core.Bool.{Bool, false, not}
 use lib.Dec.{eqb}
@@ -45,7 +45,3 @@ contextCheck registers e =
 -- FPD, bit 1: read even when bit 0 is clear
 abbrev pub faultProcessingDisabled : ℕ → Bool
 faultProcessingDisabled e = bit e 1
-
--- Domain, 87:72: no answer depends on it
-abbrev pub domainOf : ℕ → ℕ
-domainOf e = bits e 87 72

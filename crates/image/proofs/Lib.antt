@@ -2,6 +2,7 @@ pub mod Bytes
 pub mod Fields
 pub mod Isolated
 pub mod Local
+pub mod Longer
 pub mod OneByte
 pub mod Pages
 pub mod Same

@@ -2,6 +2,7 @@
 use Prim.Native.Nat.{ℕ, zero, suc, _+_, _*_, _≤_, _<_}
 use mathlib.Core.Path.{_≡_, refl, ap, sym, _∙_}
 use mathlib.Core.List.{List, [], _∷_}
+use native.Mathlib.Decide.{decLe}
 use native.Mathlib.Omega.{arith}
 use native.Mathlib.Nat.{mul-zero, add-zero, add-assoc}
 use native.Mathlib.Numerals.{add-one}
@@ -87,3 +88,14 @@ spell-one w = simp (mul-zero, add-zero)
 pub word-inside : (image : List ℕ) (at : ℕ) → at + 8 ≤ length image → entry 1 (ofImage image) at ≡ found (wordAt image at)
 unfolding wordsIn
 word-inside image at h = inside image 1 at (omega arith) ∙ ap found (spell-one (wordAt image at))
+
+-- an entry that was fetched lies whole in the image
+pub whole-entry : (image : List ℕ) (n at : ℕ) {e : ℕ} → entry (suc n) (ofImage image) at ≡ found e → at + 8 * suc n ≤ length image
+whole-entry image n at {e} h = go (decLe (at + 8 * suc n) (length image))
+  where
+    go : Dec (at + 8 * suc n ≤ length image) → at + 8 * suc n ≤ length image
+    go (yes i) = i
+    go (no o) =
+        let lacks = outside image n at (omega arith) in
+        let z : _≡_ {A = ℕ} 0 1 = cc in
+        absurd (omega arith)

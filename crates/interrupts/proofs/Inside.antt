@@ -3,7 +3,6 @@ use Prim.Native.Nat.{ℕ, suc, _+_, _*_, _^_, _≤_, _<_}
 use mathlib.Core.Bool.{Bool, true, false, not}
 use mathlib.Core.List.{List}
 use mathlib.Core.Path.{_≡_, refl}
-use native.Mathlib.Decide.{decLe}
 use native.Mathlib.Omega.{arith}
 use lib.Dec.{leb}
 use lib.ListN.{length}
@@ -14,7 +13,7 @@ use Rattle.image.specs.Memory.{Fetched, missing, found, onFetch, entry, ofImage
 use Rattle.image.specs.Rules.{answer, run}
 use Rattle.image.proofs.Fields.{fits}
 use Rattle.image.proofs.Trees.{run-map}
-use Rattle.image.proofs.Words.{outside}
+use Rattle.image.proofs.Words.{whole-entry}
 use Rattle.registers.specs.Admission.{Admitted, refusal, pass, take, admission, onAdmission, inInterruptRange}
 use Rattle.registers.specs.declared.Registers.{Registers}
 use Rattle.faults.specs.Record.{interruptFault}
@@ -28,17 +27,6 @@ use Rattle.interrupts.specs.declared.InterruptRequest.{InterruptRequest}
 pub either : {A : Type 0} (P : A → Type 0) (t : Bool) {a b : A} → P a → P b → P (if t then a else b)
 either P true x y = x
 either P false x y = y
-
--- an entry that was fetched lies whole in the image
-pub whole-entry : (image : List ℕ) (n at : ℕ) {e : ℕ} → entry (suc n) (ofImage image) at ≡ found e → at + 8 * suc n ≤ length image
-whole-entry image n at {e} h = go (decLe (at + 8 * suc n) (length image))
-  where
-    go : Dec (at + 8 * suc n ≤ length image) → at + 8 * suc n ≤ length image
-    go (yes i) = i
-    go (no o) =
-        let lacks = outside image n at (omega arith) in
-        let z : _≡_ {A = ℕ} 0 1 = cc in
-        absurd (omega arith)
 
 -- what a check lets through has a vector of 8 bits
 abbrev ByteVector : Check Irte → Type 0

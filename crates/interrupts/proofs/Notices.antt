@@ -16,7 +16,7 @@ use Rattle.image.specs.Rules.{answer, run}
 use Rattle.image.proofs.Bytes.{bytes-below}
 use Rattle.image.proofs.Fields.{in-digit}
 use Rattle.image.proofs.Trees.{run-map}
-use Rattle.image.proofs.Words.{wordsIn, spelled, inside}
+use Rattle.image.proofs.Words.{wordsIn, spelled, inside, whole-entry}
 use Rattle.registers.specs.Admission.{Admitted, refusal, pass, take, admission, onAdmission, inInterruptRange}
 use Rattle.registers.specs.declared.Registers.{Registers}
 use Rattle.faults.specs.Record.{interruptFault}
@@ -26,7 +26,7 @@ use Rattle.interrupts.specs.Interrupts.{Delivery, fault, remap, post, de
 use Rattle.interrupts.specs.Irte.{Irte, remaps, posts, irteCheck}
 use Rattle.interrupts.specs.Request.{Format, compatibility, remappable, requestCheck}
 use Rattle.interrupts.specs.declared.InterruptRequest.{InterruptRequest}
-use Rattle.interrupts.proofs.Inside.{either, whole-entry}
+use Rattle.interrupts.proofs.Inside.{either}
 use Rattle.interrupts.proofs.Words.{fifth}
 
 due-of : (eime : Bool) (d : ℕ) → due (noticeOf eime d) ≡ not (bit d 256 || bit d 257)

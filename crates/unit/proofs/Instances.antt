@@ -7,7 +7,7 @@ use mathlib.Core.Logic.{_⊎_, inl, inr, ⊎-elim}
 use native.Mathlib.Omega.{arith}
 use native.Mathlib.Decide.{ℕ-discrete}
 use lib.Dec.{lit<, lit≤}
-use lib.ListN.{length, getD, set, take, length-set}
+use lib.ListN.{length, getD, set, take, drop, length-set, take-append-drop}
 use lib.Seq.{getD-set-same, getD-set-other}
 use Rattle.image.specs.Alike.{SameWord, SameWords}
 use Rattle.image.specs.Bits.{bits}
@@ -23,11 +23,13 @@ use Rattle.dma.specs.Isolation.{answerOver, walkedOver, Disjoint, Apart, Switch
 use Rattle.dma.specs.Page.{pageReserved, pageCheck}
 use Rattle.dma.specs.Requests.{MemoryOutcome, granted, blocked, memoryRules, walked, tableEntries}
 use Rattle.dma.specs.Root.{rootReserved, rootCheck}
+use Rattle.image.proofs.Longer.{longer}
 use Rattle.dma.specs.Translation.{widthRules, contextRules, rootRules}
 use Rattle.dma.specs.Walk.{walkRules}
 use Rattle.dma.specs.declared.MemoryRequest.{MemoryRequest}
 use Rattle.interrupts.specs.Claims.{outcome, namedWords, AccessFault}
-use Rattle.interrupts.specs.Interrupts.{entryRules, indexRules, requestRules, interruptRules}
+use Rattle.interrupts.specs.Descriptor.{notice, descriptorCheck}
+use Rattle.interrupts.specs.Interrupts.{posted, descriptorRules, entryRules, indexRules, requestRules, interruptRules}
 use Rattle.interrupts.specs.Irte.{reservedIrte, irteCheck}
 use Rattle.interrupts.specs.Request.{requestCheck}
 use Rattle.interrupts.specs.Source.{sourceAllowed}
@@ -164,3 +166,18 @@ no-access fault = fault
 same-interrupt : outcome benchRegisters rings bench ≡ outcome benchRegisters rings (take 0x6030 bench)
 same-interrupt =
     isolation .interrupts benchRegisters rings bench (take 0x6030 bench) no-access interrupt-alike .0
+
+-- case 12's post, its notice among the answer's parts: the image that ends behind its descriptor, then all of it
+abbrev posts : InterruptRequest
+posts = interruptRequest 0x0310 0xFEE00090 0
+
+post-answer : outcome benchRegisters posts (take 0x6440 bench) ≡ posted 0x6400 0x31 (notice 0xF2 7)
+unfolding bench layout bytesOf littleEndian bits wordAt ofImage entry run mapRules admission badRegisters descriptorRules entryRules indexRules requestRules interruptRules reservedIrte irteCheck requestCheck sourceAllowed descriptorCheck
+post-answer = refl
+
+same-post : outcome benchRegisters posts bench ≡ posted 0x6400 0x31 (notice 0xF2 7)
+same-post =
+    sym
+    (isolation .interrupts benchRegisters posts (take 0x6440 bench) bench (λ fault. rw post-answer at fault)
+    (rw (take-append-drop 0x6440 bench) at (longer (take 0x6440 bench) (drop 0x6440 bench) (interruptRules benchRegisters posts))) .0)
+    ∙ post-answer

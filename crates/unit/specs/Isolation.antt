@@ -1,7 +1,13 @@
 -- The customer's demand 3, whole: more memory or more rights never takes back a grant. Each statement speaks of whole requests, from
 -- registers to answer, for any registers, any image and any request, over the definition of named words that the answers come from.
 -- The proof of all of it is `isolation` in proofs/Demand3.antt.
-use Rattle.dma.specs.Isolation.{Locality, RightsOn, RightsOff}
+use Prim.Native.Nat.{ℕ}
+use mathlib.Core.List.{List, _++_}
+use mathlib.Core.Path.{_≡_}
+use Rattle.registers.specs.declared.Registers.{Registers}
+use Rattle.dma.specs.Isolation.{answerOver, Locality, RightsOn, RightsOff}
+use Rattle.dma.specs.Requests.{granted}
+use Rattle.dma.specs.declared.MemoryRequest.{MemoryRequest}
 use Rattle.interrupts.specs.Claims.{Isolated}
 
 pub record Isolation : Type 0 where
@@ -13,3 +19,10 @@ pub record Isolation : Type 0 where
   pub rights-on : RightsOn
   -- whichever have either or both switched off, a request that was blocked or refused isn't granted
   pub rights-off : RightsOff
+
+-- so more memory never takes back a grant, whatever the bytes behind the image are
+abbrev pub MoreMemory : Type 0
+MoreMemory =
+    (registers : Registers) (request : MemoryRequest) (image more : List ℕ) (address : ℕ)
+    → answerOver registers request image ≡ granted address
+    → answerOver registers request (image ++ more) ≡ granted address
