@@ -3,7 +3,7 @@ use Prim.Native.Nat.{ℕ, zero, suc, _+_, _*_, _/_, _%_, _≤_, _<_}
 use mathlib.Core.Bool.{Bool, true, false}
 use mathlib.Core.Path.{_≡_, refl, ap, sym, _∙_}
 use mathlib.Core.List.{List, [], _∷_, _++_, List·Memᴰ, List·Memᴰ·head, List·Memᴰ·tail}
-use mathlib.Core.Logic.{_⊎_, ⊎-elim}
+use mathlib.Core.Logic.{_⊎_, inl, inr, ⊎-elim}
 use native.Mathlib.Omega.{arith}
 use native.Mathlib.Decide.{decLe}
 use lib.ListN.{length, getD}
@@ -28,6 +28,16 @@ use Rattle.dma.proofs.Admissions.{refuses, passes, takes}
 use Rattle.dma.proofs.Aligned.{aligned-walked}
 use Rattle.dma.proofs.Raised.{Raised, RaisedFetch}
 use Rattle.dma.proofs.Tables.{rootPlace, contextPlace, SameTables, kept-root}
+
+-- the claims' premise is no stronger than the demand's words: two entries that share no byte are disjoint
+pub unshared : (page table : ℕ) → ((n : ℕ) → page ≤ n → n < page + 8 → table ≤ n → n < table + 16 → ⊥) → Disjoint page table
+unshared page table none = go (decLe (page + 8) table) (decLe (table + 16) page) (decLe page table)
+  where
+    go : Dec (page + 8 ≤ table) → Dec (table + 16 ≤ page) → Dec (page ≤ table) → Disjoint page table
+    go (yes before) above first = inl before
+    go (no touches) (yes after) first = inr after
+    go (no touches) (no overlaps) (yes first) = absurd (none table first (omega arith) (omega arith) (omega arith))
+    go (no touches) (no overlaps) (no later) = absurd (none page (omega arith) (omega arith) (omega arith) (omega arith))
 
 -- switching the low byte of a word switches the word
 quarter : (b rest : ℕ) → (b + 256 * rest) / 4 ≡ b / 4 + 64 * rest
