@@ -7,7 +7,7 @@ use borrow.Author.Tests.{le-leb, lt-leb}
 use lib.Dec.{leb}
 use Rattle.image.specs.Bytes.{littleEndian}
 use Rattle.image.specs.Choice.{if_then_else_}
-use Rattle.image.specs.Memory.{missing, found, wordAt, ofImage, entry}
+use Rattle.image.specs.Memory.{Fetched, missing, found, wordAt, ofImage, entry}
 use native.Mathlib.Omega.{arith}
 use native.Mathlib.Decide.{decLe}
 use lib.ListN.{length, take, drop, length-take, length-drop, drop-of-length-le}
@@ -74,3 +74,7 @@ unfolding entry
 in-page size image table zero offset h = refl
 in-page size image table (suc n) offset h =
     rw (within-page size image table offset (omega arith), add-assoc table offset 8, in-page size image table n (offset + 8) (omega arith))
+
+-- what a fetch says of a page that was handed on, it says of the page's promise
+pub handed : (n offset : ℕ) {f : Fetched} {page part : List ℕ} → f ≡ entry n (ofImage page) offset → page ≡ part → f ≡ entry n (ofImage part) offset
+handed n offset {f} {page} {part} said same = said ∙ ap (λ (l : List ℕ). entry n (ofImage l) offset) same

@@ -12,7 +12,6 @@ use Rattle.image.proofs.field.Tie as tie
 use Rattle.image.proofs.field.Reads as reads
 use Rattle.image.proofs.field.Lts as lts
 
--- src/lib.rt:48:9
 returns : tie.Need-returns
 returns c =
     let a = c .before .args in
@@ -21,40 +20,32 @@ returns c =
     (λ w. upside-down (a .word) (omega (arith, ltb-true)))
     (c .if1 .came))
 
--- src/lib.rt:50:19
 shr-shifted : tie.Need-shr-shifted
 shr-shifted c = search needs
 
--- src/lib.rt:52:9
 returns-2 : tie.Need-returns-2
 returns-2 c =
     let a = c .before .before .before .args in
     sym
     (to-top (a .word) 64 (a .high) (a .low) (c .before .before .before .fits .word .fits) (omega arith) (omega arith))
 
--- src/lib.rt:54:25
 sub-result : tie.Need-sub-result
 sub-result c = search needs
 
--- src/lib.rt:54:25
 add-result : tie.Need-add-result
 add-result c = search needs
 
--- src/lib.rt:54:25
 cast-result : tie.Need-cast-result
 cast-result c = search needs
 
--- src/lib.rt:54:16
 shl-result : tie.Need-shl-result
 shl-result c = search needs
 
--- src/lib.rt:54:5
 rem-result : tie.Need-rem-result
 rem-result c =
     let a = c .before .before .before .args in
     rw (shifted-one (a .high - a .low + 1) (omega arith)) (pow-pos (a .high - a .low + 1))
 
--- src/lib.rt:44:1
 returns-3 : tie.Need-returns-3
 unfolding bits
 returns-3 c =

@@ -1,3 +1,4 @@
+-- A page that begins 4096 bytes before the end of the image or sooner lies whole in it.
 use Prim.Native.Nat.{_+_}
 use mathlib.Core.Path.{sym}
 use native.Mathlib.Omega.{arith}
@@ -7,18 +8,13 @@ use Rattle.image.proofs.Pages.{room}
 use borrow.Author.Needs.{needs}
 use Rattle.image.proofs.holds_page.Statement.{statement}
 use Rattle.image.proofs.holds_page.Tie as tie
-use Rattle.image.proofs.holds_page.Reads as reads
-use Rattle.image.proofs.holds_page.Lts as lts
 
--- src/lib.rt:162:9
 returns : tie.Need-returns
 returns c = let a = c .before .args in sym (lt-leb (a .table + 4096) (length (a .image .now)) (omega arith))
 
--- src/lib.rt:164:15
 sub-result : tie.Need-sub-result
 sub-result c = search needs
 
--- src/lib.rt:158:1
 returns-2 : tie.Need-returns-2
 returns-2 c = let a = c .before .args in room 4096 (a .table) (length (a .image .now)) (omega arith)
 
