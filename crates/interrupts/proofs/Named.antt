@@ -172,6 +172,14 @@ module _ (registers : Registers) (request : InterruptRequest) (m : Memory) where
 pub none-before-table : NoneBeforeTable
 none-before-table registers request image = answered registers request (ofImage image) .1
 
+pub none-refused : (registers : Registers) (request : InterruptRequest) (image : List ℕ) (number : ℕ)
+    → run (interruptRules registers request) (ofImage image) ≡ refused number → named (interruptRules registers request) (ofImage image) ≡ []
+none-refused registers request image number e = none-before-table registers request image (rw e)
+
+pub none-passed : (registers : Registers) (request : InterruptRequest) (image : List ℕ)
+    → run (interruptRules registers request) (ofImage image) ≡ passed → named (interruptRules registers request) (ofImage image) ≡ []
+none-passed registers request image e = none-before-table registers request image (rw e)
+
 follows-eight : {l : List ℕ} → Follows l → length l ≤ 8
 unfolding wordsFrom
 follows-eight nothing = omega arith
