@@ -8,7 +8,7 @@ use lib.ListN.{length}
 use Rattle.image.specs.Alike.{SameWord, SameWords}
 use Rattle.image.specs.Bytes.{littleEndian}
 use Rattle.image.specs.Memory.{found, wordAt, ofImage}
-use Rattle.image.specs.Rules.{Rules, run, named, Outside, Alike}
+use Rattle.image.specs.Rules.{Rules, run, named, Outside, SameIn}
 use Rattle.image.proofs.Local.{local}
 use Rattle.image.proofs.Trees.{met}
 
@@ -17,8 +17,8 @@ unfolding ofImage wordAt
 same-word {image} {image′} at h =
     rw (le-leb _ (length image) (h .whole), le-leb _ (length image′) (h .whole′), h .bytes)
 
-pub alike : (image image′ words : List ℕ) → SameWords image image′ words → Alike words (ofImage image) (ofImage image′)
-unfolding SameWords Alike
+pub alike : (image image′ words : List ℕ) → SameWords image image′ words → SameIn words (ofImage image) (ofImage image′)
+unfolding SameWords SameIn
 alike image image′ [] h = tt
 alike image image′ (at ∷ rest) h = (same-word at (h .0), alike image image′ rest (h .1))
 

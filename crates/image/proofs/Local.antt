@@ -3,34 +3,34 @@ use Prim.Native.Nat.{ℕ, zero, suc, _+_, _*_}
 use mathlib.Core.Path.{_≡_, refl, ap, sym, _∙_, subst}
 use mathlib.Core.List.{List, [], _∷_, _++_}
 use Rattle.image.specs.Memory.{Memory, Fetched, missing, found, entry, onFetch}
-use Rattle.image.specs.Rules.{Rules, answer, fetch, run, named, Complete, wordsFrom, Alike}
+use Rattle.image.specs.Rules.{Rules, answer, fetch, run, named, Complete, wordsFrom, SameIn}
 
-alike-left : (xs ys : List ℕ) (m m′ : Memory) → Alike (xs ++ ys) m m′ → Alike xs m m′
-unfolding Alike
+alike-left : (xs ys : List ℕ) (m m′ : Memory) → SameIn (xs ++ ys) m m′ → SameIn xs m m′
+unfolding SameIn
 alike-left [] ys m m′ h = tt
 alike-left (a ∷ xs) ys m m′ h = (h .0, alike-left xs ys m m′ (h .1))
 
-alike-right : (xs ys : List ℕ) (m m′ : Memory) → Alike (xs ++ ys) m m′ → Alike ys m m′
-unfolding Alike
+alike-right : (xs ys : List ℕ) (m m′ : Memory) → SameIn (xs ++ ys) m m′ → SameIn ys m m′
+unfolding SameIn
 alike-right [] ys m m′ h = h
 alike-right (a ∷ xs) ys m m′ h = alike-right xs ys m m′ (h .1)
 
 -- an entry of any width is settled by its words
-pub entry-alike : (n at : ℕ) (m m′ : Memory) → Alike (wordsFrom n at) m m′ → entry n m at ≡ entry n m′ at
-unfolding Alike wordsFrom entry
+pub entry-alike : (n at : ℕ) (m m′ : Memory) → SameIn (wordsFrom n at) m m′ → entry n m at ≡ entry n m′ at
+unfolding SameIn wordsFrom entry
 entry-alike zero at m m′ h = refl
 entry-alike (suc n) at m m′ h = rw (h .0, entry-alike n (at + 8) m m′ (h .1))
 
 module _ {A : Type 0} where
-  pub local : (q : Rules A) (m m′ : Memory) → Complete q m → Alike (named q m) m m′ → run q m ≡ run q m′
+  pub local : (q : Rules A) (m m′ : Memory) → Complete q m → SameIn (named q m) m m′ → run q m ≡ run q m′
   unfolding run named Complete
   local (answer a) m m′ c h = refl
   local (fetch words at outside next) m m′ c h = go (entry words m at) refl c h (λ x. local (next x) m m′)
     where
       go : (f : Fetched) → entry words m at ≡ f
           → onFetch f ⊥ (λ e. Complete (next e) m)
-          → Alike (onFetch f [] (λ e. wordsFrom words at ++ named (next e) m)) m m′
-          → ((x : ℕ) → Complete (next x) m → Alike (named (next x) m) m m′ → run (next x) m ≡ run (next x) m′)
+          → SameIn (onFetch f [] (λ e. wordsFrom words at ++ named (next e) m)) m m′
+          → ((x : ℕ) → Complete (next x) m → SameIn (named (next x) m) m m′ → run (next x) m ≡ run (next x) m′)
           → onFetch f outside (λ e. run (next e) m) ≡ run (fetch words at outside next) m′
       go missing e c h ih = absurd c
       go (found x) e c h ih =

@@ -53,6 +53,6 @@ mapRules f (answer a) = answer (f a)
 mapRules f (fetch words at outside next) = fetch words at (f outside) (λ e. mapRules f (next e))
 
 -- two memories have the same in each of these words; one that neither has counts as the same, but a named word is always there
-unfoldable pub Alike : List ℕ → Memory → Memory → Type 0
-Alike [] m m′ = Unit {0}
-Alike (a ∷ rest) m m′ = (m a ≡ m′ a) × Alike rest m m′
+unfoldable pub SameIn : List ℕ → Memory → Memory → Type 0
+SameIn [] m m′ = Unit {0}
+SameIn (a ∷ rest) m m′ = (m a ≡ m′ a) × SameIn rest m m′

@@ -76,7 +76,7 @@ pub data Ask : Type 0 where
 -- what becomes of it: a memory request's outcome, or an interrupt's with the image at exit
 pub data Result : Type 0 where
   memory : MemoryOutcome → Result
-  delivered : interrupts.InterruptOutcome → List ℕ → Result
+  interrupted : interrupts.InterruptOutcome → List ℕ → Result
 
 abbrev pub memoryRequest : (source address : ℕ) (writes : Bool) → MemoryRequest
 memoryRequest source address writes = record { source = record { id = source }; address = address; write = writes }
@@ -85,8 +85,8 @@ abbrev pub interruptRequest : (source address message : ℕ) → InterruptReques
 interruptRequest source address message =
     record { source = record { id = source }; address = address; «data» = message }
 
-abbrev pub deliveredBy : interrupts.InterruptOutcome → (image : List ℕ) → Result
-deliveredBy outcome image = delivered outcome (written outcome image)
+abbrev pub interruptedBy : interrupts.InterruptOutcome → (image : List ℕ) → Result
+interruptedBy outcome image = interrupted outcome (written outcome image)
 
 -- the rules' answer under the bench registers
 unfoldable pub resultOf : (source : ℕ) → Ask → (image : List ℕ) → Result
@@ -95,7 +95,7 @@ resultOf source (read address) image =
 resultOf source (write address) image =
     memory (run (memoryRules benchRegisters (memoryRequest source address true)) (ofImage image))
 resultOf source (interrupt address message) image =
-    deliveredBy (run (interrupts.interruptRules benchRegisters (interruptRequest source address message)) (ofImage image)) image
+    interruptedBy (run (interrupts.interruptRules benchRegisters (interruptRequest source address message)) (ofImage image)) image
 
 -- a recordable fault by its reason and its record's two words
 abbrev pub faulted : (reason low high : ℕ) → FaultAnswer
@@ -105,12 +105,12 @@ faulted reason low high = record { reason = reason; recordable = true; contents 
 pub data Answer : Type 0 where
   host : ℕ → Answer
   fault : (reason low high : ℕ) → Answer
-  delivery : interrupts.InterruptOutcome → List (ℕ × ℕ) → Answer
+  becomes : interrupts.InterruptOutcome → List (ℕ × ℕ) → Answer
 
 abbrev pub expected : Answer → (image : List ℕ) → Result
 expected (host address) image = memory (granted address)
 expected (fault reason low high) image = memory (blocked (faulted reason low high))
-expected (delivery outcome bytes) image = delivered outcome (changed bytes image)
+expected (becomes outcome bytes) image = interrupted outcome (changed bytes image)
 
 pub record Row : Type 0 where
   pub image : List ℕ
@@ -159,15 +159,15 @@ rows image =
     ∷ row image 0x0410 (read 0x40201ABC) (fault 0x01 0x40201000 0xC000000100000410)
     ∷ row image 0x0311 (read 0x40201ABC) (fault 0x02 0x40201000 0xC000000200000311)
     -- 10
-    ∷ row image 0x0310 (interrupt 0xFEE00050 0) (delivery (delivers 0x41 7) [])
-    ∷ row image 0x0311 (interrupt 0xFEE00050 0) (delivery (interrupts.blocked (faulted 0x26 0x0002000000000000 0x8000002600000311)) [])
+    ∷ row image 0x0310 (interrupt 0xFEE00050 0) (becomes (delivers 0x41 7) [])
+    ∷ row image 0x0311 (interrupt 0xFEE00050 0) (becomes (interrupts.blocked (faulted 0x26 0x0002000000000000 0x8000002600000311)) [])
     -- 11: index 65,538
-    ∷ row image 0x0310 (interrupt 0xFEEFFFFC 3) (delivery (interrupts.blocked (faulted 0x21 0xFFFF000000000000 0x8000002100000310)) [])
+    ∷ row image 0x0310 (interrupt 0xFEEFFFFC 3) (becomes (interrupts.blocked (faulted 0x21 0xFFFF000000000000 0x8000002100000310)) [])
     -- 12, then again over what it left
     ∷ row image 0x0310 (interrupt 0xFEE00090 0)
-    (delivery (interrupts.posted 0x6400 0x31 (notice 0xF2 7)) ((0x6406, 2) ∷ (0x6420, 1) ∷ []))
+    (becomes (interrupts.posted 0x6400 0x31 (notice 0xF2 7)) ((0x6406, 2) ∷ (0x6420, 1) ∷ []))
     ∷ row (changed ((0x6406, 2) ∷ (0x6420, 1) ∷ []) image) 0x0310 (interrupt 0xFEE00090 0)
-    (delivery (interrupts.posted 0x6400 0x31 silent) [])
+    (becomes (interrupts.posted 0x6400 0x31 silent) [])
     ∷ []
 
 -- what the rules answer to each row, and what each row says
