@@ -88,7 +88,7 @@ uint32_t galitzaf_interrupt_request(const uint8_t *registers, size_t registers_l
                                     uint8_t *answer, size_t answer_len);
 
 /* Records the fault of a request's answer. A malformed answer is told first, then a malformed recorder,
- * then refusal 3, then that the answer holds no fault. */
+ * then refusal 3, then that the answer holds no fault. A byte 2 other than 1 counts as not recordable. */
 uint32_t galitzaf_record(const uint8_t *answer, size_t answer_len,
                          uint8_t *records, size_t records_len,
                          uint8_t *recorder, size_t recorder_len);

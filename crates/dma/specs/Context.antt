@@ -1,4 +1,5 @@
--- Document 01, "Context entry": context table + 16 × (device and function), 16 bytes. The domain, 87:72, changes no answer.
+-- Document 01, "Context entry": context table + 16 × (device and function), 16 bytes. The domain, 87:72, changes no answer,
+-- and 70:67 are not looked at.
 use Prim.Native.Nat.{ℕ, _+_}
 use mathlib.Core.Bool.{Bool, false, not}
 use lib.Dec.{eqb}

@@ -30,6 +30,7 @@ fn large_page(level: u32, e: u64) -> bool
     (1 < level) & (field(e, 7, 7) == 1)
 }
 
+// Bits 51:HAW; bit 7 where the level has no large pages; and of a large page 20:12 or 29:12.
 fn page_reserved(registers: Registers, level: u32, e: u64) -> bool
     ensures { λ r. ⌜ r ≡ pageReserved registers level e ⌝ }
 {
@@ -43,6 +44,7 @@ fn page_reserved(registers: Registers, level: u32, e: u64) -> bool
     if level == 3 {
         return beyond | (!registers.pages_1g | (field(e, 29, 12) != 0));
     }
+    // Bit 7 at levels 4 and 5.
     true
 }
 

@@ -13,6 +13,7 @@ use image::Entry16;
 use image::field;
 use registers::at_or_above_power;
 
+// Bits 11:1, 127:64 and 63:HAW.
 fn root_reserved(haw: u8, e: Entry16) -> bool
     ensures { λ r. ⌜ r ≡ rootReserved haw (number16 e) ⌝ }
 {

@@ -164,6 +164,7 @@ fn holds_page(image: &[u8], table: u64) -> bool
     table <= (image.len() - 4096) as u64
 }
 
+// A page that lies whole in the image: 4096 bytes, a length that the compiler knows.
 fn whole_page(image: &[u8], table: u64) -> &[u8]
     requires { ⌜ table + 4096 ≤ length (now image) ⌝ }
     ensures { λ r. ⌜ now r ≡ take 4096 (drop table (now (image .entry))) ⌝ }
@@ -172,8 +173,8 @@ fn whole_page(image: &[u8], table: u64) -> &[u8]
     &image[from..from + 4096]
 }
 
-// An entry of a table's page, by its offset. Tables usually lie whole in the image, and an offset below 4096 then needs no
-// test of its own.
+// An entry of a table's page, by its offset. Tables usually lie whole in the image, and an offset that is known to leave room
+// for the entry in 4096 bytes then needs no test of its own.
 pub fn page_entry8(image: &[u8], table: u64, offset: u64) -> Found8
     ensures { λ r. ⌜ fetched8 r ≡ entry 1 (ofImage (take 4096 (drop table (now (image .entry))))) offset ⌝ }
 {

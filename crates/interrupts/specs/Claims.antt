@@ -46,7 +46,8 @@ abbrev pub SetsExactly : Type 0
 SetsExactly = (registers : Registers) (request : InterruptRequest) (image : List ℕ) (n : ℕ) →
     bitAt (written (outcome registers request image) image) n ≡ (bitAt image n || sets (outcome registers request image) n)
 
--- a post answers a notice exactly where ON and SN were clear, so ON goes from 0 to 1 exactly with a notice; of a run of bytes
+-- a post answers a notice exactly where ON and SN were clear, so with SetsExactly ON goes from 0 to 1 exactly with a notice; the
+-- premise says that the image is made of bytes
 abbrev pub NoticeExactly : Type 0
 NoticeExactly = (registers : Registers) (request : InterruptRequest) (image : List ℕ) → ((n : ℕ) → getD image n 0 < 256) →
     (descriptor vector : ℕ) (m : Notice) → outcome registers request image ≡ posted descriptor vector m →
@@ -83,6 +84,7 @@ NoWrap = (registers : Registers) (request request′ : InterruptRequest) (image 
     namedWords registers request image ≡ at ∷ rest → namedWords registers request′ image′ ≡ at ∷ rest′ →
     wholeIndex request ≡ wholeIndex request′
 
+-- the entry's two words and the descriptor's eight
 abbrev pub AtMostTen : Type 0
 AtMostTen = (registers : Registers) (request : InterruptRequest) (image : List ℕ) →
     length (namedWords registers request image) ≤ 10

@@ -25,7 +25,7 @@ reservedInRemapped eime e =
     anySet e 14 12 || anySet e 31 24 || anySet e 127 84 || eqb (bits e 7 5) 3 || eqb (bits e 7 5) 6
     || not eime && (anySet e 39 32 || anySet e 63 48)
 
--- bit 14 is in no list: it has no effect. Nor are bits 11:8 looked at, in either kind
+-- bit 14 is reserved in a remapped entry alone: in a posted one it has no effect. Bits 11:8 are not looked at in either kind
 abbrev pub reservedInPosted : (haw e : ℕ) → Bool
 reservedInPosted haw e =
     anySet e 7 2 || anySet e 13 12 || anySet e 37 24 || anySet e 95 84 || anySet (descriptorAddress e) 63 haw

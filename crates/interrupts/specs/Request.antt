@@ -16,8 +16,8 @@ pub data Format : Type 0 where
   -- a whole number up to 131,070
   remappable : (index : ℕ) → Format
 
--- bit 4 tells the formats apart: the old one is 25h with EIME or without CFIS. Bit 3 is SHV: without it data is ignored, with it a
--- bit of data 31:16 is 20h
+-- bit 4 tells the formats apart: the old one is 25h with EIME or without CFIS. Bit 3 is SHV: without it data is ignored, with it any
+-- bit set in data 31:16 is 20h
 unfoldable pub requestCheck : Registers → (address message : ℕ) → Check Format
 requestCheck registers address message =
     if not (bit address 4) then

@@ -9,8 +9,8 @@ use faults::Reason;
 use faults::interrupt_fault;
 use registers::SourceId;
 
-// Whether a notice is due, and the vector posted to the descriptor at an address. The order of the fields keeps each of them in a
-// word of its own when the answer is moved.
+// Whether a notice is due, and the vector posted to the descriptor at an address. In this order no word
+// that is moved with the answer holds parts of two fields.
 pub struct Posted {
     pub notice: Notice,
     pub vector: u8,

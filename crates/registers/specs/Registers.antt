@@ -9,7 +9,7 @@ use Rattle.registers.specs.declared.Registers.{Registers}
 abbrev pub outside : ℕ → ℕ → ℕ → Bool
 outside x low high = ltb x low or ltb high x
 
--- not a multiple of 4096 below 2^HAW, a whole number: HAW may be any u8 here
+-- not a multiple of 4096 below 2^HAW. The power has no bound: HAW may be any u8 here
 abbrev pub badTable : ℕ → ℕ → Bool
 badTable haw at = not (eqb (at % 4096) 0) or leb (2 ^ haw) at
 

@@ -13,11 +13,12 @@ use Rattle.interrupts.specs.Claims.{Isolated}
 pub record Isolation : Type 0 where
   -- a memory request that doesn't end in 07h, 08h or 09h gets the same answer over a second image alike in its named words
   pub memory : Locality
-  -- so does an interrupt that doesn't end in 23h or 27h, record bytes and notice among its parts; and the same bits are written
+  -- so does an interrupt that doesn't end in 23h or 27h, record bytes and notice among its parts; and the same bits are set
   pub interrupts : Isolated
-  -- whichever walked page entries have read, write or both switched on, a granted request stays granted, with the same host address
+  -- whichever of the page entries that any memory request walked have read, write or both switched on, a granted request stays
+  -- granted, with the same host address; where none of them shares a byte with its root or context entry
   pub rights-on : RightsOn
-  -- whichever have either or both switched off, a request that was blocked or refused isn't granted
+  -- whichever of them have either or both switched off, with the same proviso, a request that was blocked or refused isn't granted
   pub rights-off : RightsOff
 
 -- so more memory never takes back a grant, whatever the bytes behind the image are
