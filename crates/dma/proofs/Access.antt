@@ -12,25 +12,24 @@ use Rattle.registers.specs.declared.Registers.{Registers}
 use Rattle.faults.specs.Record.{FaultAnswer, memoryFault}
 use Rattle.dma.specs.Context.{contextCheck, levelsOf, faultProcessingDisabled}
 use Rattle.dma.specs.Isolation.{accessFault, answerOver, Locality}
-use Rattle.dma.specs.Page.{hostAddress}
 use Rattle.dma.specs.Requests.{MemoryOutcome, granted, blocked, refused, outcome, memoryRules}
 use Rattle.dma.specs.Root.{rootCheck}
-use Rattle.dma.specs.Translation.{Translation, reached, fault, pageRules, pageStep, widthRules, contextRules, rootRules}
-use Rattle.dma.specs.Walk.{Step, done, down, onStep, walkRules}
+use Rattle.dma.specs.Translation.{Translation, fault, pageRules, pageStep, widthRules, contextRules, rootRules}
+use Rattle.dma.specs.Walk.{Step, done, down, onStep, placeIn, walkRules}
 use Rattle.dma.specs.declared.MemoryRequest.{MemoryRequest}
 use Rattle.dma.proofs.Cases.{check-cases, width-cases}
 
 -- a walk over any format of its entries
-module _ {A : Type 0} (Kind : A → Type 0) (address : ℕ) (none : A) (step : (level e : ℕ) → Step A) (arrived : ℕ → A) (h : Kind none) where
-  pub outside-walk : (level table : ℕ) → Outside Kind (walkRules address none step arrived level table)
+module _ {S A : Type 0} (Kind : A → Type 0) (address : ℕ) (none : A) (step : (level place : ℕ) → S → (e : ℕ) → Step S A) (h : Kind none) where
+  pub outside-walk : (level table : ℕ) (s : S) → Outside Kind (walkRules address none step level table s)
   unfolding walkRules Outside
-  outside-walk zero table = tt
-  outside-walk (suc n) table = (h, λ e. on (step (suc n) e) (outside-walk n))
+  outside-walk zero table s = tt
+  outside-walk (suc n) table s = (h, λ e. on (step (suc n) (placeIn address table n) s e) (outside-walk n))
     where
-      on : (s : Step A) → ((next : ℕ) → Outside Kind (walkRules address none step arrived n next))
-          → Outside Kind (onStep s answer (walkRules address none step arrived n))
+      on : (x : Step S A) → ((next : ℕ) (t : S) → Outside Kind (walkRules address none step n next t))
+          → Outside Kind (onStep x answer (walkRules address none step n))
       on (done a) ih = tt
-      on (down next) ih = ih next
+      on (down next t) ih = ih next t
 
 module _ (registers : Registers) (request : MemoryRequest) where
   abbrev Access : Translation → Type 0
@@ -39,10 +38,9 @@ module _ (registers : Registers) (request : MemoryRequest) where
   outside-width : (e table : ℕ) → Outside Access (widthRules registers (request .address) (request .write) e table)
   unfolding Outside memoryFault
   outside-width e table =
-      width-cases (Outside Access) registers (request .address) (request .write) e table (λ t. tt)
+      width-cases (Outside Access) registers (request .address) (request .write) e table (λ t _. tt)
       (outside-walk Access (request .address) (fault 0x07 (faultProcessingDisabled e))
-      (pageStep registers (request .address) (request .write) (faultProcessingDisabled e))
-      (λ frame. reached (hostAddress 1 frame (request .address))) refl (levelsOf e) table)
+      (pageStep registers (request .address) (request .write) (faultProcessingDisabled e)) refl (levelsOf e) table tt)
 
   outside-context : (table : ℕ) → Outside Access (contextRules registers (request .address) (request .write) (request .source .id) table)
   unfolding contextRules Outside memoryFault
@@ -50,7 +48,7 @@ module _ (registers : Registers) (request : MemoryRequest) where
     refl,
     λ e.
         check-cases (Outside Access) (contextCheck registers e) (λ reason. fault reason (faultProcessingDisabled e))
-        (widthRules registers (request .address) (request .write) e) (λ t. tt) (λ a _. outside-width e a),
+        (widthRules registers (request .address) (request .write) e) (λ reason. tt) (λ a _. outside-width e a),
   )
 
   outside-root : Outside Access (rootRules registers (request .address) (request .write) (request .source .id))
@@ -59,7 +57,7 @@ module _ (registers : Registers) (request : MemoryRequest) where
     refl,
     λ e.
         check-cases (Outside Access) (rootCheck (registers .haw) e) (λ reason. fault reason false)
-        (contextRules registers (request .address) (request .write) (request .source .id)) (λ t. tt) (λ a _. outside-context a),
+        (contextRules registers (request .address) (request .write) (request .source .id)) (λ reason. tt) (λ a _. outside-context a),
   )
 
   pub outside-memory : Outside (λ o. accessFault o ≡ true) (memoryRules registers request)

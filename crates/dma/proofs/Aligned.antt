@@ -14,10 +14,10 @@ use Rattle.image.proofs.Trees.{entries-map}
 use Rattle.registers.specs.Admission.{Admitted, refusal, pass, take, admission, onAdmission, inInterruptRange}
 use Rattle.registers.specs.declared.Registers.{Registers}
 use Rattle.dma.specs.Context.{contextReserved, contextInvalid, contextCheck, levelsOf, faultProcessingDisabled}
-use Rattle.dma.specs.Page.{pageCheck, hostAddress}
+use Rattle.dma.specs.Page.{pageCheck}
 use Rattle.dma.specs.Requests.{MemoryOutcome, granted, refused, outcome, memoryRules, walked}
 use Rattle.dma.specs.Root.{rootCheck}
-use Rattle.dma.specs.Translation.{Translation, reached, fault, pageRules, pageStep, widthRules, contextRules, rootRules}
+use Rattle.dma.specs.Translation.{Translation, fault, pageRules, pageStep, widthRules, contextRules, rootRules}
 use Rattle.dma.specs.Walk.{Step, done, down, onStep, placeIn, walkRules}
 use Rattle.dma.specs.declared.MemoryRequest.{MemoryRequest}
 use Rattle.dma.proofs.Cases.{check-cases, width-cases}
@@ -51,30 +51,34 @@ module _ {A : Type 0} (place : ℕ) (none : A) (next : ℕ → Rules A) (rest : 
       go (found e) is = rest e m a is
 
 -- a walk over any format whose steps lead to multiples of 8
-module _ {A : Type 0} (address : ℕ) (none : A) (step : (level e : ℕ) → Step A) (arrived : ℕ → A)
-    (steps : (level e next : ℕ) → down next ≡ step level e → next % 8 ≡ 0) where
-  aligned-walk : (level table : ℕ) → table % 8 ≡ 0 → Aligned (walkRules address none step arrived level table)
+module _ {S A : Type 0} (address : ℕ) (none : A) (step : (level place : ℕ) → S → (e : ℕ) → Step S A)
+    (steps : (level place : ℕ) (s : S) (e next : ℕ) (t : S) → down next t ≡ step level place s e → next % 8 ≡ 0) where
+  aligned-walk : (level table : ℕ) (s : S) → table % 8 ≡ 0 → Aligned (walkRules address none step level table s)
   unfolding walkRules
-  aligned-walk zero table h = aligned-answer (arrived table)
-  aligned-walk (suc n) table h =
-      aligned-word (placeIn address table n) none (λ e. onStep (step (suc n) e) answer (walkRules address none step arrived n))
-      (λ e. on (step (suc n) e) refl (aligned-walk n)) (omega arith)
+  aligned-walk zero table s h = aligned-answer none
+  aligned-walk (suc n) table s h =
+      aligned-word (placeIn address table n) none
+      (λ e. onStep (step (suc n) (placeIn address table n) s e) answer (walkRules address none step n))
+      (λ e. on (step (suc n) (placeIn address table n) s e) refl (aligned-walk n)) (omega arith)
     where
-      on : {e : ℕ} (s : Step A) → s ≡ step (suc n) e
-          → ((next : ℕ) → next % 8 ≡ 0 → Aligned (walkRules address none step arrived n next))
-          → Aligned (onStep s answer (walkRules address none step arrived n))
+      on : {e : ℕ} (x : Step S A) → x ≡ step (suc n) (placeIn address table n) s e
+          → ((next : ℕ) (t : S) → next % 8 ≡ 0 → Aligned (walkRules address none step n next t))
+          → Aligned (onStep x answer (walkRules address none step n))
       on (done a) told ih = aligned-answer a
-      on {e} (down next) told ih = ih next (steps (suc n) e next told)
+      on {e} (down next t) told ih = ih next t (steps (suc n) (placeIn address table n) s e next t told)
+
+-- a page entry leads to a multiple of 8
+pub leads-aligned : (registers : Registers) (address : ℕ) (write fpd : Bool) (level place : ℕ) (s : Unit {0}) (e next : ℕ) (t : Unit {0})
+    → down next t ≡ pageStep registers address write fpd level place s e → next % 8 ≡ 0
+leads-aligned registers address write fpd level place s e next t told =
+    rw (page-frame registers write level e next (leads registers address write fpd level place e told .0)) (omega arith)
 
 module _ (registers : Registers) (request : MemoryRequest) where
   aligned-pages : (fpd : Bool) (level table : ℕ) → table % 8 ≡ 0
       → Aligned (pageRules registers (request .address) (request .write) fpd level table)
-  aligned-pages fpd =
+  aligned-pages fpd level table =
       aligned-walk (request .address) (fault 0x07 fpd) (pageStep registers (request .address) (request .write) fpd)
-      (λ frame. reached (hostAddress 1 frame (request .address)))
-      (λ level e next told.
-      rw (page-frame registers (request .write) level e next (leads registers (request .address) (request .write) fpd level e told))
-      (omega arith))
+      (leads-aligned registers (request .address) (request .write) fpd) level table tt
 
   aligned-context : (table : ℕ) → Aligned (contextRules registers (request .address) (request .write) (request .source .id) table)
   unfolding contextRules
@@ -82,9 +86,9 @@ module _ (registers : Registers) (request : MemoryRequest) where
       aligned-pair _ _ _
       (λ e.
       check-cases Aligned (contextCheck registers e) (λ reason. fault reason (faultProcessingDisabled e))
-      (widthRules registers (request .address) (request .write) e) aligned-answer
+      (widthRules registers (request .address) (request .write) e) (λ reason. aligned-answer _)
       (λ top told.
-      width-cases Aligned registers (request .address) (request .write) e top aligned-answer
+      width-cases Aligned registers (request .address) (request .write) e top (λ t _. aligned-answer t)
       (aligned-pages (faultProcessingDisabled e) (levelsOf e) top
       (rw (context-table registers e told) (omega arith)))))
 
@@ -94,7 +98,7 @@ module _ (registers : Registers) (request : MemoryRequest) where
       aligned-pair _ _ _
       (λ e.
       check-cases Aligned (rootCheck (registers .haw) e) (λ reason. fault reason _)
-      (contextRules registers (request .address) (request .write) (request .source .id)) aligned-answer
+      (contextRules registers (request .address) (request .write) (request .source .id)) (λ reason. aligned-answer _)
       (λ table told. aligned-context table))
 
   pub aligned-walked : (m : Memory) (a : ℕ) → List·Memᴰ a (walked registers request m) → a % 8 ≡ 0

@@ -8,7 +8,7 @@ use Rattle.image.specs.Choice.{if_then_else_}
 use Rattle.image.specs.Rules.{Rules, answer}
 use Rattle.registers.specs.declared.Registers.{Registers}
 use Rattle.dma.specs.Context.{levelsOf, translationType, faultProcessingDisabled}
-use Rattle.dma.specs.Translation.{Translation, reached, fault, pageRules, widthRules}
+use Rattle.dma.specs.Translation.{Translation, through, fault, Reachable, pageRules, widthRules}
 
 either : {A : Type 0} (P : Rules A → Type 0) (t : Bool) (a b : Rules A) → P a → P b → P (if t then a else b)
 either P true a b x y = x
@@ -16,13 +16,13 @@ either P false a b x y = y
 
 -- an entry's check stops with an answer, or goes on
 pub check-cases : {A B : Type 0} (P : Rules B → Type 0) (k : Check A) (stopped : ℕ → B) (next : A → Rules B)
-    → ((b : B) → P (answer b)) → ((a : A) → k ≡ go a → P (next a)) → P (onCheck k (λ reason. answer (stopped reason)) next)
-check-cases P (stop reason) stopped next ended gone = ended (stopped reason)
+    → ((reason : ℕ) → P (answer (stopped reason))) → ((a : A) → k ≡ go a → P (next a)) → P (onCheck k (λ reason. answer (stopped reason)) next)
+check-cases P (stop reason) stopped next ended gone = ended reason
 check-cases P (go a) stopped next ended gone = gone a refl
 
 -- the width and pass-through answer, or the walk follows
 pub width-cases : (P : Rules Translation → Type 0) (registers : Registers) (address : ℕ) (write : Bool) (e table : ℕ)
-    → ((t : Translation) → P (answer t))
+    → ((t : Translation) → Reachable t → P (answer t))
     → P (pageRules registers address write (faultProcessingDisabled e) (levelsOf e) table)
     → P (widthRules registers address write e table)
 unfolding widthRules
@@ -30,5 +30,5 @@ width-cases P registers address write e table ended walks =
     let walk = pageRules registers address write (faultProcessingDisabled e) (levelsOf e) table in
     let over = fault 0x04 (faultProcessingDisabled e) in
     either P (leb (2 ^ min (registers .mgaw) (12 + 9 * levelsOf e)) address) (answer over)
-    (if eqb (translationType e) 2 then answer (reached address) else walk) (ended over)
-    (either P (eqb (translationType e) 2) (answer (reached address)) walk (ended (reached address)) walks)
+    (if eqb (translationType e) 2 then answer through else walk) (ended over tt)
+    (either P (eqb (translationType e) 2) (answer through) walk (ended through tt) walks)

@@ -4,6 +4,7 @@ pub mod Admissions
 pub mod Aligned
 pub mod Cases
 pub mod Injective
+pub mod Leaves
 pub mod Nine
 pub mod Raised
 pub mod Reserved

@@ -13,10 +13,9 @@ use Rattle.registers.specs.Admission.{Admitted, refusal, pass, take, admission,
 use Rattle.registers.specs.declared.Registers.{Registers}
 use Rattle.dma.specs.Context.{contextCheck, levelsOf, faultProcessingDisabled}
 use Rattle.dma.specs.Named.{AtMostNine, NoneUntaken}
-use Rattle.dma.specs.Page.{hostAddress}
 use Rattle.dma.specs.Requests.{MemoryOutcome, granted, refused, outcome, memoryRules}
 use Rattle.dma.specs.Root.{rootCheck}
-use Rattle.dma.specs.Translation.{Translation, reached, fault, pageRules, pageStep, widthRules, contextRules, rootRules}
+use Rattle.dma.specs.Translation.{Translation, fault, pageRules, pageStep, widthRules, contextRules, rootRules}
 use Rattle.dma.specs.Walk.{Step, done, down, onStep, placeIn, walkRules}
 use Rattle.dma.specs.declared.MemoryRequest.{MemoryRequest}
 use Rattle.dma.proofs.Cases.{check-cases, width-cases}
@@ -45,19 +44,20 @@ few-fetch words place n none next rest m = go (entry words m place)
     go (found e) =
         rw (length-append (wordsFrom words place) (named (next e) m), length-words words place) (omega (arith, rest e m))
 
-module _ {A : Type 0} (address : ℕ) (none : A) (step : (level e : ℕ) → Step A) (arrived : ℕ → A) where
-  few-walk : (level table : ℕ) → AtMost level (walkRules address none step arrived level table)
+module _ {S A : Type 0} (address : ℕ) (none : A) (step : (level place : ℕ) → S → (e : ℕ) → Step S A) where
+  few-walk : (level table : ℕ) (s : S) → AtMost level (walkRules address none step level table s)
   unfolding walkRules
-  few-walk zero table m = few-answer 0 (arrived table) m
-  few-walk (suc n) table m =
-      let one = few-fetch 1 (placeIn address table n) n none (λ e. onStep (step (suc n) e) answer (walkRules address none step arrived n))
-      (λ e. on (step (suc n) e) (few-walk n)) m in
+  few-walk zero table s m = few-answer 0 none m
+  few-walk (suc n) table s m =
+      let one = few-fetch 1 (placeIn address table n) n none
+      (λ e. onStep (step (suc n) (placeIn address table n) s e) answer (walkRules address none step n))
+      (λ e. on (step (suc n) (placeIn address table n) s e) (few-walk n)) m in
       omega arith
     where
-      on : (s : Step A) → ((next : ℕ) → AtMost n (walkRules address none step arrived n next))
-          → AtMost n (onStep s answer (walkRules address none step arrived n))
+      on : (x : Step S A) → ((next : ℕ) (t : S) → AtMost n (walkRules address none step n next t))
+          → AtMost n (onStep x answer (walkRules address none step n))
       on (done a) ih = few-answer n a
-      on (down next) ih = ih next
+      on (down next t) ih = ih next t
 
 module _ (registers : Registers) (request : MemoryRequest) where
   few-context : (table : ℕ) → AtMost 7 (contextRules registers (request .address) (request .write) (request .source .id) table)
@@ -66,13 +66,12 @@ module _ (registers : Registers) (request : MemoryRequest) where
       few-fetch 2 _ 5 _ _
       (λ e.
       check-cases (λ q. AtMost 5 q) (contextCheck registers e) (λ reason. fault reason (faultProcessingDisabled e))
-      (widthRules registers (request .address) (request .write) e) (few-answer 5)
+      (widthRules registers (request .address) (request .write) e) (λ reason. few-answer 5 _)
       (λ top told.
-      width-cases (λ q. AtMost 5 q) registers (request .address) (request .write) e top (few-answer 5)
+      width-cases (λ q. AtMost 5 q) registers (request .address) (request .write) e top (λ t _. few-answer 5 t)
       (λ m.
       let walk = few-walk (request .address) (fault 0x07 (faultProcessingDisabled e))
-      (pageStep registers (request .address) (request .write) (faultProcessingDisabled e))
-      (λ frame. reached (hostAddress 1 frame (request .address))) (levelsOf e) top m in
+      (pageStep registers (request .address) (request .write) (faultProcessingDisabled e)) (levelsOf e) top tt m in
       omega (arith, three-to-five registers e (valid registers e told .0)))))
 
   few-root : AtMost 9 (rootRules registers (request .address) (request .write) (request .source .id))
@@ -81,7 +80,7 @@ module _ (registers : Registers) (request : MemoryRequest) where
       few-fetch 2 _ 7 _ _
       (λ e.
       check-cases (λ q. AtMost 7 q) (rootCheck (registers .haw) e) (λ reason. fault reason _)
-      (contextRules registers (request .address) (request .write) (request .source .id)) (few-answer 7)
+      (contextRules registers (request .address) (request .write) (request .source .id)) (λ reason. few-answer 7 _)
       (λ table told. few-context table))
 
 pub at-most-nine : AtMostNine

@@ -10,13 +10,13 @@ use Rattle.image.specs.Bits.{bits, bit, anySet, inPlace}
 use Rattle.image.specs.Check.{Check, stop, go, onCheck}
 use Rattle.image.specs.Choice.{if_then_else_}
 use Rattle.image.specs.Memory.{Memory, Fetched, missing, found, entry, onFetch}
-use Rattle.image.specs.Rules.{run}
+use Rattle.image.specs.Rules.{run, answer}
 use Rattle.registers.specs.declared.Registers.{Registers}
-use Rattle.dma.specs.Page.{denied, ownRight, largePage, pageReserved, pageCheck, hostAddress}
-use Rattle.dma.specs.Translation.{Translation, reached, fault, pageStep, pageOver, pageRules}
-use Rattle.dma.specs.Walk.{Step, done, down, onStep, placeIn, stepOver, walkRules}
-use Rattle.dma.proofs.Steps.{past, page-frame, walk-step}
-use Rattle.dma.proofs.Stepped.{arrived}
+use Rattle.dma.specs.Page.{denied, ownRight, leafAt, pageReserved, pageCheck}
+use Rattle.dma.specs.Translation.{Translation, through, leaf, fault, pageStep, pageRules}
+use Rattle.dma.specs.Walk.{Step, done, down, onStep, placeIn, walkRules}
+use Rattle.dma.proofs.Steps.{past, page-frame}
+use Rattle.dma.proofs.Aligned.{leads-aligned}
 
 -- the same entry with rights switched on
 pub record Raised (e e′ : ℕ) : Type 0 where
@@ -46,8 +46,8 @@ module _ (registers : Registers) (haw : 2 ≤ registers .haw) {e e′ : ℕ} (ra
       let same = same-field e e′ (raised .other-bits) in
       rw (same 51 (registers .haw) haw, same 7 7 (omega arith), same 29 12 (omega arith), same 20 12 (omega arith))
 
-  same-large : (level : ℕ) → largePage level e′ ≡ largePage level e
-  same-large level = rw (same-field e e′ (raised .other-bits) 7 7 (omega arith))
+  same-leaf : (level : ℕ) → leafAt level e′ ≡ leafAt level e
+  same-leaf level = rw (same-field e e′ (raised .other-bits) 7 7 (omega arith))
 
   kept-right : (write : Bool) → ownRight write e ≡ true → (ownRight write e′ ≡ true) × (anySet e′ 1 0 ≡ true)
   unfolding bits
@@ -71,53 +71,72 @@ module _ (registers : Registers) (haw : 2 ≤ registers .haw) {e e′ : ℕ} (ra
       rw (kept .1, same-reserved level, h2 .0, kept .0)
       (ap go (ap (λ (n : ℕ). n * 4096) (same-field e e′ (raised .other-bits) 51 12 (omega arith)) ∙ sym (page-frame registers write level e frame h)))
 
-module _ (registers : Registers) (haw : 2 ≤ registers .haw) (address : ℕ) (write fpd : Bool) (m m′ : Memory)
-    (raised : (a : ℕ) → a % 8 ≡ 0 → RaisedFetch (entry 1 m a) (entry 1 m′ a)) where
-  -- what follows a check at level n + 1
-  abbrev after : Memory → (n e : ℕ) → Check ℕ → Translation
-  after m n e k =
-      onStep
-      (onCheck k (λ r. done (fault r fpd))
-      (λ frame. if largePage (suc n) e then done (reached (hostAddress (suc n) frame address)) else down frame))
-      (λ t. t)
-      (λ next. run (pageRules registers address write fpd n next) m)
+-- what a step makes of an entry, it makes of another too: always where it leads on, and where it ends with a good answer
+abbrev pub KeptStep : {S A : Type 0} → (A → Type 0) → Step S A → Step S A → Type 0
+KeptStep Good (done a) y = Good a → y ≡ done a
+KeptStep Good (down next t) y = y ≡ down next t
 
-  pub raised-walk : (level table host : ℕ) → table % 8 ≡ 0
-      → run (pageRules registers address write fpd level table) m ≡ reached host
-      → run (pageRules registers address write fpd level table) m′ ≡ reached host
-  unfolding stepOver
-  raised-walk zero table host h granted = sym (arrived registers address write fpd m′ 0 table refl) ∙ arrived registers address write fpd m 0 table refl ∙ granted
-  raised-walk (suc n) table host h granted =
-      first m′ ∙ go (entry 1 m (placeIn address table n)) (entry 1 m′ (placeIn address table n)) (raised (placeIn address table n) (omega arith))
-      (sym (first m) ∙ granted) (raised-walk n)
+-- a walk over any format whose steps keep what they made of the entries of one memory over those of another
+module _ {S A : Type 0} (address : ℕ) (none : A) (step : (level place : ℕ) → S → (e : ℕ) → Step S A)
+    (steps : (level place : ℕ) (s : S) (e next : ℕ) (t : S) → down next t ≡ step level place s e → next % 8 ≡ 0)
+    (Good : A → Type 0)
+    (kept : (level place : ℕ) (s : S) (e e′ : ℕ) → Raised e e′ → KeptStep Good (step level place s e) (step level place s e′))
+    (m m′ : Memory) (raised : (a : ℕ) → a % 8 ≡ 0 → RaisedFetch (entry 1 m a) (entry 1 m′ a)) where
+  pub kept-walk : (level table : ℕ) (s : S) (a : A) → Good a → table % 8 ≡ 0
+      → run (walkRules address none step level table s) m ≡ a → run (walkRules address none step level table s) m′ ≡ a
+  unfolding run walkRules
+  kept-walk zero table s a good h was = was
+  kept-walk (suc n) table s a good h was =
+      go (entry 1 m (placeIn address table n)) (entry 1 m′ (placeIn address table n)) (raised (placeIn address table n) (omega arith)) was
+      (λ next t. kept-walk n next t a good)
     where
-      first : (m : Memory)
-          → run (pageRules registers address write fpd (suc n) table) m
-          ≡ onStep (pageOver registers address write fpd m n table) (λ t. t) (λ next. run (pageRules registers address write fpd n next) m)
-      first m =
-          walk-step address (fault 0x07 fpd) (pageStep registers address write fpd) (λ frame. reached (hostAddress 1 frame address)) m n table
+      rest : Memory → Step S A → A
+      rest m x = run (onStep x answer (walkRules address none step n)) m
 
-      by-size : (large : Bool) (frame : ℕ) → frame % 8 ≡ 0
-          → ((next x : ℕ) → next % 8 ≡ 0 → run (pageRules registers address write fpd n next) m ≡ reached x → run (pageRules registers address write fpd n next) m′ ≡ reached x)
-          → onStep (if large then done (reached (hostAddress (suc n) frame address)) else down frame) (λ t. t) (λ next. run (pageRules registers address write fpd n next) m) ≡ reached host
-          → onStep (if large then done (reached (hostAddress (suc n) frame address)) else down frame) (λ t. t) (λ next. run (pageRules registers address write fpd n next) m′) ≡ reached host
-      by-size true frame aligned ih granted = granted
-      by-size false frame aligned ih granted = ih frame host aligned granted
-
-      on : (e e′ : ℕ) → Raised e e′ → (k : Check ℕ) → pageCheck registers write (suc n) e ≡ k
-          → ((next x : ℕ) → next % 8 ≡ 0 → run (pageRules registers address write fpd n next) m ≡ reached x → run (pageRules registers address write fpd n next) m′ ≡ reached x)
-          → after m n e k ≡ reached host
-          → after m′ n e′ (pageCheck registers write (suc n) e′) ≡ reached host
-      on e e′ up (stop reason) told ih granted = let z : _≡_ {A = ℕ} 0 1 = cc in absurd (omega arith)
-      on e e′ up (go frame) told ih granted =
-          rw (raised-check registers haw up write (suc n) frame told, same-large registers haw up (suc n))
-          (by-size (largePage (suc n) e) frame (rw (page-frame registers write (suc n) e frame told) (omega arith)) ih granted)
+      on : {e : ℕ} (x y : Step S A) → x ≡ step (suc n) (placeIn address table n) s e → KeptStep Good x y → rest m x ≡ a
+          → ((next : ℕ) (t : S) → next % 8 ≡ 0 → run (walkRules address none step n next t) m ≡ a → run (walkRules address none step n next t) m′ ≡ a)
+          → rest m′ y ≡ a
+      on (done b) y told same was ih = rw (same (rw was good)) was
+      on {e} (down next t) y told same was ih = rw same (ih next t (steps (suc n) (placeIn address table n) s e next t told) was)
 
       go : (f f′ : Fetched) → RaisedFetch f f′
-          → onStep (onFetch f (done (fault 0x07 fpd)) (pageStep registers address write fpd (suc n))) (λ t. t) (λ next. run (pageRules registers address write fpd n next) m) ≡ reached host
-          → ((next x : ℕ) → next % 8 ≡ 0 → run (pageRules registers address write fpd n next) m ≡ reached x → run (pageRules registers address write fpd n next) m′ ≡ reached x)
-          → onStep (onFetch f′ (done (fault 0x07 fpd)) (pageStep registers address write fpd (suc n))) (λ t. t) (λ next. run (pageRules registers address write fpd n next) m′) ≡ reached host
-      go missing missing up granted ih = granted
-      go missing (found e′) up granted ih = absurd up
-      go (found e) missing up granted ih = absurd up
-      go (found e) (found e′) up granted ih = on e e′ up (pageCheck registers write (suc n) e) refl ih granted
+          → onFetch f none (λ e. rest m (step (suc n) (placeIn address table n) s e)) ≡ a
+          → ((next : ℕ) (t : S) → next % 8 ≡ 0 → run (walkRules address none step n next t) m ≡ a → run (walkRules address none step n next t) m′ ≡ a)
+          → onFetch f′ none (λ e. rest m′ (step (suc n) (placeIn address table n) s e)) ≡ a
+      go missing missing up was ih = was
+      go missing (found e′) up was ih = absurd up
+      go (found e) missing up was ih = absurd up
+      go (found e) (found e′) up was ih =
+          on (step (suc n) (placeIn address table n) s e) (step (suc n) (placeIn address table n) s e′) refl
+          (kept (suc n) (placeIn address table n) s e e′ up) was ih
+
+-- the page is reached, or the address passes through
+abbrev pub Reaches : Translation → Type 0
+Reaches through = Unit {0}
+Reaches (leaf frame level) = Unit {0}
+Reaches (fault reason fpd) = ⊥
+
+module _ (registers : Registers) (haw : 2 ≤ registers .haw) (address : ℕ) (write fpd : Bool) where
+  raised-step : (level place : ℕ) (s : Unit {0}) (e e′ : ℕ) → Raised e e′
+      → KeptStep Reaches (pageStep registers address write fpd level place s e) (pageStep registers address write fpd level place s e′)
+  raised-step level place s e e′ up = on (pageCheck registers write level e) refl
+    where
+      by-leaf : (page : Bool) (frame : ℕ)
+          → KeptStep Reaches (if page then done (leaf frame level) else down frame s) (if page then done (leaf frame level) else down frame tt)
+      by-leaf true frame = λ _. refl
+      by-leaf false frame = refl
+
+      on : (k : Check ℕ) → pageCheck registers write level e ≡ k
+          → KeptStep Reaches (onCheck k (λ r. done (fault r fpd)) (λ frame. if leafAt level e then done (leaf frame level) else down frame tt))
+          (pageStep registers address write fpd level place s e′)
+      on (stop reason) told = λ none. absurd none
+      on (go frame) told =
+          rw (raised-check registers haw up write level frame told, same-leaf registers haw up level) (by-leaf (leafAt level e) frame)
+
+  pub raised-walk : (m m′ : Memory) → ((a : ℕ) → a % 8 ≡ 0 → RaisedFetch (entry 1 m a) (entry 1 m′ a))
+      → (level table : ℕ) (t : Translation) → Reaches t → table % 8 ≡ 0
+      → run (pageRules registers address write fpd level table) m ≡ t
+      → run (pageRules registers address write fpd level table) m′ ≡ t
+  raised-walk m m′ raised level table =
+      kept-walk address (fault 0x07 fpd) (pageStep registers address write fpd) (leads-aligned registers address write fpd) Reaches
+      raised-step m m′ raised level table tt

@@ -22,11 +22,11 @@ use Rattle.registers.specs.declared.Registers.{Registers}
 use Rattle.dma.specs.Isolation.{answerOver, walkedOver, Disjoint, Apart, Switched, SwitchedOn, SwitchedOff, RightsOn, RightsOff}
 use Rattle.dma.specs.Requests.{MemoryOutcome, granted, outcome, memoryRules, walked, tableEntries}
 use Rattle.dma.specs.Root.{rootCheck}
-use Rattle.dma.specs.Translation.{Translation, reached, fault, contextRules, rootRules}
+use Rattle.dma.specs.Translation.{Translation, through, leaf, fault, contextRules, rootRules}
 use Rattle.dma.specs.declared.MemoryRequest.{MemoryRequest}
 use Rattle.dma.proofs.Admissions.{refuses, passes, takes}
 use Rattle.dma.proofs.Aligned.{aligned-walked}
-use Rattle.dma.proofs.Raised.{Raised, RaisedFetch}
+use Rattle.dma.proofs.Raised.{Raised, RaisedFetch, Reaches}
 use Rattle.dma.proofs.Tables.{rootPlace, contextPlace, SameTables, kept-root}
 
 -- the claims' premise is no stronger than the demand's words: two entries that share no byte are disjoint
@@ -143,8 +143,9 @@ taken-haw registers wrong on h = omega (arith, good registers (go (badRegisters 
     go true h = let z : _≡_ {A = ℕ} 0 1 = cc in absurd (omega arith)
     go false h = refl
 
-granted-at : (request : MemoryRequest) (t : Translation) {host : ℕ} → outcome request t ≡ granted host → t ≡ reached host
-granted-at request (reached host) h = cc
+granted-at : (request : MemoryRequest) (t : Translation) {host : ℕ} → outcome request t ≡ granted host → Reaches t
+granted-at request through h = tt
+granted-at request (leaf frame level) h = tt
 granted-at request (fault reason fpd) h = let z : _≡_ {A = ℕ} 0 1 = cc in absurd (omega arith)
 
 -- granted over one image, granted over another with the same tables and raised page entries
@@ -162,10 +163,13 @@ carried registers request image image′ same raised host = go (admission regist
     go pass h was =
         sym (passes registers request (ofImage image′) refl h) ∙ passes registers request (ofImage image) refl h ∙ was
     go take h was =
+        let now = run (rootRules registers (request .address) (request .write) (request .source .id)) (ofImage image) in
+        let grants : outcome request now ≡ granted host = takes registers request (ofImage image) refl h ∙ was in
         sym (takes registers request (ofImage image′) refl h)
         ∙ ap (outcome request)
-        (kept-root registers request (taken-haw registers _ (registers .te) h) (ofImage image) (ofImage image′) raised host (same h)
-        (granted-at request _ (takes registers request (ofImage image) refl h ∙ was)))
+        (kept-root registers request (taken-haw registers _ (registers .te) h) (ofImage image) (ofImage image′) raised now
+        (granted-at request now grants) (same h) refl)
+        ∙ grants
 
 pub rights-on : RightsOn
 rights-on registers walker request image image′ apart on =

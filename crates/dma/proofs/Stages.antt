@@ -16,7 +16,7 @@ use Rattle.image.specs.Rules.{Rules, answer, fetch, run}
 use Rattle.image.proofs.Pages.{in-page}
 use Rattle.registers.specs.declared.Registers.{Registers}
 use Rattle.dma.specs.Context.{addressWidth, levelsOf, translationType, widthSupported, contextReserved, contextInvalid, contextCheck}
-use Rattle.dma.specs.Translation.{Translation, reached, fault, checked}
+use Rattle.dma.specs.Translation.{Translation, fault}
 use Rattle.dma.proofs.Steps.{past}
 
 -- an entry taken from its table's page is the one that the rules name
@@ -34,17 +34,13 @@ module _ (m : Memory) (place : ℕ) (none : Translation) (fpd : ℕ → Bool) (c
   unfetched h = rw (← h)
 
   module _ {e : ℕ} (h : found e ≡ entry 2 m place) where
-    pub stopped : {t : Translation} {reason : ℕ} {f : Bool} → t ≡ checked (fpd e) (check e) → t ≡ fault reason f → t ≡ run stage m
+    pub stopped : {reason : ℕ} → stop reason ≡ check e → fault reason (fpd e) ≡ run stage m
     unfolding run
-    stopped {t} {reason} {f} told is = rw (← h) (on (check e) told)
-      where
-        on : (k : Check ℕ) → t ≡ checked (fpd e) k → t ≡ run (onCheck k (λ r. answer (fault r (fpd e))) (next e)) m
-        on (stop r) told = told
-        on (go a) told = let z : _≡_ {A = ℕ} 0 1 = cc in absurd (omega arith)
+    stopped told = rw (← h) (ap (λ (k : Check ℕ). run (onCheck k (λ r. answer (fault r (fpd e))) (next e)) m) told)
 
-    pub passed : {a : ℕ} → check e ≡ go a → run (next e a) m ≡ run stage m
+    pub passed : {a : ℕ} → go a ≡ check e → run (next e a) m ≡ run stage m
     unfolding run
-    passed {a} told = rw (← h) (sym (ap (λ (k : Check ℕ). run (onCheck k (λ r. answer (fault r (fpd e))) (next e)) m) told))
+    passed told = rw (← h) (ap (λ (k : Check ℕ). run (onCheck k (λ r. answer (fault r (fpd e))) (next e)) m) told)
 
 -- a context entry that its check lets pass is past 03h, and leads to the table in its bits 63:12
 pub valid : (registers : Registers) (e : ℕ) {a : ℕ} → contextCheck registers e ≡ go a

@@ -3,7 +3,7 @@ use Prim.Native.Nat.{ℕ, zero, suc, _+_, _*_, _-_, _/_, _%_, _^_, _<_, _≤_}
 use mathlib.Core.Bool.{Bool, true, false, not}
 use mathlib.Core.Path.{_≡_, refl, ap, sym, _∙_, subst}
 use native.Mathlib.Omega.{arith}
-use native.Mathlib.Nat.{lt-of-lt-of-le}
+use native.Mathlib.Nat.{lt-of-lt-of-le, div-one}
 use lib.Pow.{pow-mono}
 use lib.Dec.{lit≤}
 use Rattle.image.specs.Bits.{bits, inPlace, anySet}
@@ -29,36 +29,37 @@ index-of address n =
     let nine : suc (20 + 9 * n) - (12 + 9 * n) ≡ 9 = omega arith in
     rw nine
 
--- what a leaf at level n + 1 adds to its frame
-pub offset : (n : ℕ) → 11 + 9 * n ≡ 11 + 9 * (suc n - 1)
-offset n = omega arith
+-- what a page adds to its frame, by a shift
+pub offset-of : (address level : ℕ) → address % 2 ^ (12 + 9 * (level - 1)) ≡ bits address (11 + 9 * (level - 1)) 0
+unfolding bits
+offset-of address level =
+    let all : suc (11 + 9 * (level - 1)) - 0 ≡ 12 + 9 * (level - 1) = omega arith in
+    simp (div-one, all)
 
-pub host-lt : (address n : ℕ) → n < 5 → bits address (11 + 9 * n) 0 < 2 ^ 48
-host-lt address n h = lt-of-lt-of-le (fits address (11 + 9 * n) 0) (pow-mono {j = 48} (omega arith))
+pub host-lt : (address level : ℕ) → level ≤ 5 → bits address (11 + 9 * (level - 1)) 0 < 2 ^ 48
+host-lt address level h =
+    lt-of-lt-of-le (fits address (11 + 9 * (level - 1)) 0) (pow-mono {j = 48} (omega arith))
 
 -- a walk is its first level, then the walk of what that leads to
-module _ {A : Type 0} (address : ℕ) (none : A) (step : (level e : ℕ) → Step A) (arrived : ℕ → A) (m : Memory) where
-  pub walk-step : (n table : ℕ)
-      → run (walkRules address none step arrived (suc n) table) m
-      ≡ onStep (stepOver address none step m n table) (λ a. a) (λ next. run (walkRules address none step arrived n next) m)
+module _ {S A : Type 0} (address : ℕ) (none : A) (step : (level place : ℕ) → S → (e : ℕ) → Step S A) (m : Memory) where
+  pub walk-step : (n table : ℕ) (s : S)
+      → run (walkRules address none step (suc n) table s) m
+      ≡ onStep (stepOver address none step m n table s) (λ a. a) (λ next t. run (walkRules address none step n next t) m)
   unfolding run walkRules stepOver
-  walk-step n table = go (entry 1 m (placeIn address table n))
+  walk-step n table s = go (entry 1 m (placeIn address table n))
     where
-      on : (s : Step A)
-          → run (onStep s answer (walkRules address none step arrived n)) m
-          ≡ onStep s (λ a. a) (λ next. run (walkRules address none step arrived n next) m)
+      on : (x : Step S A)
+          → run (onStep x answer (walkRules address none step n)) m
+          ≡ onStep x (λ a. a) (λ next t. run (walkRules address none step n next t) m)
       on (done a) = refl
-      on (down next) = refl
+      on (down next t) = refl
 
       go : (f : Fetched)
-          → onFetch f none (λ e. run (onStep (step (suc n) e) answer (walkRules address none step arrived n)) m)
-          ≡ onStep (onFetch f (done none) (step (suc n))) (λ a. a) (λ next. run (walkRules address none step arrived n next) m)
+          → onFetch f none (λ e. run (onStep (step (suc n) (placeIn address table n) s e) answer (walkRules address none step n)) m)
+          ≡ onStep (onFetch f (done none) (step (suc n) (placeIn address table n) s)) (λ a. a)
+          (λ next t. run (walkRules address none step n next t) m)
       go missing = refl
-      go (found e) = on (step (suc n) e)
-
-  pub walk-arrived : (frame : ℕ) → run (walkRules address none step arrived zero frame) m ≡ arrived frame
-  unfolding run walkRules
-  walk-arrived frame = refl
+      go (found e) = on (step (suc n) (placeIn address table n) s e)
 
 -- a check that goes on is past each test that would stop it
 pub past : {A : Type 0} (t : Bool) (reason : ℕ) (rest : Check A) (a : A) → (if t then stop reason else rest) ≡ go a

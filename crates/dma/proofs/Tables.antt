@@ -13,10 +13,10 @@ use Rattle.registers.specs.Source.{busOf, devfnOf}
 use Rattle.registers.specs.declared.Registers.{Registers}
 use Rattle.dma.specs.Context.{contextCheck, levelsOf, translationType, faultProcessingDisabled}
 use Rattle.dma.specs.Root.{rootCheck}
-use Rattle.dma.specs.Translation.{Translation, reached, fault, pageRules, widthRules, contextRules, rootRules}
+use Rattle.dma.specs.Translation.{Translation, fault, pageRules, widthRules, contextRules, rootRules}
 use Rattle.dma.specs.declared.MemoryRequest.{MemoryRequest}
 use Rattle.dma.proofs.Cases.{check-cases, width-cases}
-use Rattle.dma.proofs.Raised.{RaisedFetch, raised-walk}
+use Rattle.dma.proofs.Raised.{RaisedFetch, Reaches, raised-walk}
 use Rattle.dma.proofs.Stages.{context-table}
 
 -- where a request's root entry is, and its context entry in a context table
@@ -33,13 +33,13 @@ pub record SameTables (registers : Registers) (request : MemoryRequest) (m m′ 
       → entry 2 m (contextPlace request table) ≡ entry 2 m′ (contextPlace request table)
 
 module _ (registers : Registers) (request : MemoryRequest) (haw : 2 ≤ registers .haw) (m m′ : Memory)
-    (raised : (a : ℕ) → a % 8 ≡ 0 → RaisedFetch (entry 1 m a) (entry 1 m′ a)) (host : ℕ) where
+    (raised : (a : ℕ) → a % 8 ≡ 0 → RaisedFetch (entry 1 m a) (entry 1 m′ a)) (t : Translation) (good : Reaches t) where
   abbrev Kept : Rules Translation → Type 0
-  Kept q = run q m ≡ reached host → run q m′ ≡ reached host
+  Kept q = run q m ≡ t → run q m′ ≡ t
 
-  answered : (t : Translation) → Kept (answer t)
+  answered : (a : Translation) → Kept (answer a)
   unfolding run
-  answered t granted = granted
+  answered a was = was
 
   kept-context : (table : ℕ) → entry 2 m (contextPlace request table) ≡ entry 2 m′ (contextPlace request table)
       → Kept (contextRules registers (request .address) (request .write) (request .source .id) table)
@@ -53,14 +53,14 @@ module _ (registers : Registers) (request : MemoryRequest) (haw : 2 ≤ register
           (onCheck (contextCheck registers e) (λ reason. answer (fault reason (faultProcessingDisabled e)))
           (widthRules registers (request .address) (request .write) e)) m
 
-      go : (f : Fetched) → onFetch f (fault 0x09 false) (next m) ≡ reached host → onFetch f (fault 0x09 false) (next m′) ≡ reached host
-      go missing = λ granted. granted
+      go : (f : Fetched) → onFetch f (fault 0x09 false) (next m) ≡ t → onFetch f (fault 0x09 false) (next m′) ≡ t
+      go missing = λ was. was
       go (found e) =
           check-cases Kept (contextCheck registers e) (λ reason. fault reason (faultProcessingDisabled e))
-          (widthRules registers (request .address) (request .write) e) answered
+          (widthRules registers (request .address) (request .write) e) (λ reason. answered _)
           (λ top told.
-          width-cases Kept registers (request .address) (request .write) e top answered
-          (raised-walk registers haw (request .address) (request .write) (faultProcessingDisabled e) m m′ raised (levelsOf e) top host
+          width-cases Kept registers (request .address) (request .write) e top (λ a _. answered a)
+          (raised-walk registers haw (request .address) (request .write) (faultProcessingDisabled e) m m′ raised (levelsOf e) top t good
           (rw (context-table registers e told) (omega arith))))
 
   pub kept-root : SameTables registers request m m′
@@ -76,9 +76,9 @@ module _ (registers : Registers) (request : MemoryRequest) (haw : 2 ≤ register
           (contextRules registers (request .address) (request .write) (request .source .id))) m
 
       go : (f : Fetched) → entry 2 m (rootPlace registers request) ≡ f
-          → onFetch f (fault 0x08 false) (next m) ≡ reached host → onFetch f (fault 0x08 false) (next m′) ≡ reached host
-      go missing told = λ granted. granted
+          → onFetch f (fault 0x08 false) (next m) ≡ t → onFetch f (fault 0x08 false) (next m′) ≡ t
+      go missing told = λ was. was
       go (found e) told =
           check-cases Kept (rootCheck (registers .haw) e) (λ reason. fault reason false)
-          (contextRules registers (request .address) (request .write) (request .source .id)) answered
+          (contextRules registers (request .address) (request .write) (request .source .id)) (λ reason. answered _)
           (λ table passed. kept-context table (same .context e table told passed))

@@ -1,7 +1,7 @@
 -- Document 01, "Page entries" and "Grant": an entry of 8 bytes at a level from 5 down to 1.
 use Prim.Native.Nat.{ℕ, _+_, _-_, _*_}
 use mathlib.Core.Bool.{Bool, not, _&&_}
-use lib.Dec.{eqb, leb, ltb}
+use lib.Dec.{eqb, leb}
 use Rattle.image.specs.Bits.{bits, bit, anySet, inPlace}
 use Rattle.image.specs.Choice.{if_then_else_, _or_}
 use Rattle.registers.specs.declared.Registers.{Registers}
@@ -15,9 +15,10 @@ denied write = if write then 0x05 else 0x06
 abbrev pub ownRight : (write : Bool) (e : ℕ) → Bool
 ownRight write e = if write then bit e 1 else bit e 0
 
--- bit 7 at level 1 is not looked at; at levels 4 and 5 it is reserved, so the check has stopped
-abbrev pub largePage : (level e : ℕ) → Bool
-largePage level e = ltb 1 level && bit e 7
+-- an entry that leads to a page and to no table: at level 1, where bit 7 is not looked at, any; above it a large page. At levels 4
+-- and 5 bit 7 is reserved, so the check has stopped
+abbrev pub leafAt : (level e : ℕ) → Bool
+leafAt level e = eqb level 1 or bit e 7
 
 unfoldable pub pageReserved : Registers → (level e : ℕ) → Bool
 pageReserved registers level e =

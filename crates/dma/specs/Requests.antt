@@ -6,7 +6,8 @@ use Rattle.image.specs.Rules.{Rules, mapRules, entriesOf}
 use Rattle.registers.specs.Admission.{admission, onAdmission, inInterruptRange}
 use Rattle.registers.specs.declared.Registers.{Registers}
 use Rattle.faults.specs.Record.{FaultAnswer, memoryFault}
-use Rattle.dma.specs.Translation.{Translation, reached, fault, rootRules}
+use Rattle.dma.specs.Page.{hostAddress}
+use Rattle.dma.specs.Translation.{Translation, through, leaf, fault, rootRules}
 use Rattle.dma.specs.declared.MemoryRequest.{MemoryRequest}
 
 -- document 01's granted, with the host address; blocked, with the fault; refused, by number
@@ -16,7 +17,8 @@ pub data MemoryOutcome : Type 0 where
   refused : ℕ → MemoryOutcome
 
 abbrev pub outcome : MemoryRequest → Translation → MemoryOutcome
-outcome request (reached address) = granted address
+outcome request through = granted (request .address)
+outcome request (leaf frame level) = granted (hostAddress level frame (request .address))
 outcome request (fault reason fpd) =
     blocked (memoryFault reason fpd (request .source .id) (request .address) (request .write))
 

@@ -4,11 +4,10 @@ ghost use Prim.Native.Nat.{_<_};
 ghost use lib.Dec.{eqb};
 ghost use Rattle.image.specs.Entries.{number16};
 ghost use Rattle.dma.specs.Context.{addressWidth, levelsOf, translationType, widthSupported, contextReserved, contextInvalid, contextCheck, faultProcessingDisabled};
-ghost use Rattle.dma.specs.Checked.{translationOf};
-ghost use Rattle.dma.specs.Translation.{checked};
+ghost use Rattle.dma.specs.Checked.{checkOf};
+use crate::entry::Check;
 use crate::entry::present;
 use crate::entry::table_address;
-use crate::translation::Translation;
 use faults::Reason;
 use image::Entry16;
 use image::field;
@@ -84,18 +83,17 @@ pub(crate) fn fault_processing_disabled(e: Entry16) -> bool
 }
 
 // The top page table's address.
-pub(crate) fn context_check(registers: Registers, e: Entry16) -> Translation
-    ensures { λ r. ⌜ translationOf r ≡ checked (faultProcessingDisabled (number16 e)) (contextCheck registers (number16 e)) ⌝ }
+pub(crate) fn context_check(registers: Registers, e: Entry16) -> Check
+    ensures { λ r. ⌜ checkOf r ≡ contextCheck registers (number16 e) ⌝ }
 {
-    let fpd = fault_processing_disabled(e);
     if !present(e) {
-        return Translation::Fault(Reason::ContextNotPresent, fpd);
+        return Check::Stop(Reason::ContextNotPresent);
     }
     if context_reserved(registers.haw, e) {
-        return Translation::Fault(Reason::ContextReserved, fpd);
+        return Check::Stop(Reason::ContextReserved);
     }
     if context_invalid(registers, e) {
-        return Translation::Fault(Reason::ContextInvalid, fpd);
+        return Check::Stop(Reason::ContextInvalid);
     }
-    Translation::Reached(table_address(e))
+    Check::Go(table_address(e))
 }

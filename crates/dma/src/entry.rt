@@ -1,10 +1,19 @@
-// What root and context entries have in common.
+// What entries have in common.
 ghost use mathlib.Core.Path.{_≡_};
 ghost use Rattle.image.specs.Bits.{bit, anySet, inPlace};
 ghost use Rattle.image.specs.Entries.{number16};
+use faults::Reason;
 use image::Entry16;
 use image::field;
 use image::in_place;
+
+// What an entry's check says.
+pub enum Check {
+    // Why the request ends here.
+    Stop(Reason),
+    // The address of the table, or at last the page, that the entry leads to.
+    Go(u64),
+}
 
 pub(crate) fn present(e: Entry16) -> bool
     ensures { λ r. ⌜ r ≡ bit (number16 e) 0 ⌝ }

@@ -4,6 +4,7 @@ ghost use Rattle.image.specs.Memory.{ofImage};
 ghost use Rattle.image.specs.Rules.{run};
 ghost use Rattle.dma.specs.Answers.{outcomeOf};
 ghost use Rattle.dma.specs.Checked.{translationOf};
+ghost use Rattle.dma.specs.Translation.{Reachable};
 ghost use Rattle.dma.specs.Requests.{outcome, memoryRules};
 
 mod context;
@@ -15,6 +16,7 @@ mod walk;
 
 use faults::Fault;
 use faults::memory_fault;
+use page::host_address;
 use registers::Admission;
 use registers::Registers;
 use registers::SourceId;
@@ -38,10 +40,14 @@ pub enum MemoryAnswer {
 }
 
 fn answer(request: MemoryRequest, translated: Translation) -> MemoryAnswer
+    requires { ⌜ Reachable (translationOf translated) ⌝ }
     ensures { λ r. ⌜ outcomeOf r ≡ outcome request (translationOf translated) ⌝ }
 {
     match translated {
-        Translation::Reached(address) => MemoryAnswer::Granted(address),
+        Translation::Through => MemoryAnswer::Granted(request.address),
+        Translation::Leaf(frame, level) => {
+            MemoryAnswer::Granted(host_address(level, frame, request.address))
+        }
         Translation::Fault(reason, fpd) => MemoryAnswer::Blocked(memory_fault(
             reason,
             fpd,

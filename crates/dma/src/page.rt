@@ -2,12 +2,12 @@
 ghost use mathlib.Core.Path.{_≡_};
 ghost use Prim.Native.Nat.{_<_};
 ghost use Rattle.image.specs.Memory.{ofImage};
-ghost use Rattle.dma.specs.Page.{denied, ownRight, largePage, pageReserved, pageCheck};
+ghost use Rattle.dma.specs.Page.{denied, ownRight, leafAt, pageReserved, pageCheck, hostAddress};
 ghost use Rattle.faults.specs.Reason.{numberOf};
-ghost use Rattle.dma.specs.Checked.{translationOf, stepOf};
-ghost use Rattle.dma.specs.Translation.{checked, pageOver};
+ghost use Rattle.dma.specs.Checked.{checkOf, stepOf};
+ghost use Rattle.dma.specs.Translation.{leaf, Reachable, pageOver};
 use crate::MemoryRequest;
-use crate::translation::Translation;
+use crate::entry::Check;
 use faults::Reason;
 use image::Found8;
 use image::field;
@@ -16,18 +16,21 @@ use image::page_entry8;
 use registers::Registers;
 use registers::at_or_above_power;
 
+// What the walk makes of an entry. No two variants hold fields of different sizes in one place.
 pub enum Step {
-    // The walk ends here.
-    Done(Translation),
-    // The next table, or at level 1 the page.
+    // The next table.
     Down(u64),
+    // The frame of a page, and the entry's level.
+    Leaf(u64, u32),
+    // Why the walk ends here, and FPD.
+    Fault(Reason, bool),
 }
 
-// Bit 7 at level 1 is not looked at.
-fn large_page(level: u32, e: u64) -> bool
-    ensures { λ r. ⌜ r ≡ largePage level e ⌝ }
+// A page and no table: bit 7 at level 1 is not looked at.
+fn is_leaf(level: u32, e: u64) -> bool
+    ensures { λ r. ⌜ r ≡ leafAt level e ⌝ }
 {
-    (1 < level) & (field(e, 7, 7) == 1)
+    (level == 1) | (field(e, 7, 7) == 1)
 }
 
 // Bits 51:HAW; bit 7 where the level has no large pages; and of a large page 20:12 or 29:12.
@@ -35,7 +38,7 @@ fn page_reserved(registers: Registers, level: u32, e: u64) -> bool
     ensures { λ r. ⌜ r ≡ pageReserved registers level e ⌝ }
 {
     let beyond = at_or_above_power(field(e, 51, 0), registers.haw as u32);
-    if !large_page(level, e) {
+    if field(e, 7, 7) != 1 {
         return beyond;
     }
     if level == 2 {
@@ -44,8 +47,7 @@ fn page_reserved(registers: Registers, level: u32, e: u64) -> bool
     if level == 3 {
         return beyond | (!registers.pages_1g | (field(e, 29, 12) != 0));
     }
-    // Bit 7 at levels 4 and 5.
-    true
+    beyond | (4 <= level)
 }
 
 // Bit 0 for a read, bit 1 for a write.
@@ -69,19 +71,19 @@ fn denial(write: bool) -> Reason
 }
 
 // The frame, or the next table's address.
-fn page_check(registers: Registers, write: bool, fpd: bool, level: u32, e: u64) -> Translation
-    ensures { λ r. ⌜ translationOf r ≡ checked fpd (pageCheck registers write level e) ⌝ }
+fn page_check(registers: Registers, write: bool, level: u32, e: u64) -> Check
+    ensures { λ r. ⌜ checkOf r ≡ pageCheck registers write level e ⌝ }
 {
     if field(e, 1, 0) == 0 {
-        return Translation::Fault(denial(write), fpd);
+        return Check::Stop(denial(write));
     }
     if page_reserved(registers, level, e) {
-        return Translation::Fault(Reason::PageEntryReserved, fpd);
+        return Check::Stop(Reason::PageEntryReserved);
     }
     if !own_right(write, e) {
-        return Translation::Fault(denial(write), fpd);
+        return Check::Stop(denial(write));
     }
-    Translation::Reached(in_place(e, 51, 12))
+    Check::Go(in_place(e, 51, 12))
 }
 
 // One level of the walk: below is how many levels come after it.
@@ -99,14 +101,24 @@ pub(crate) fn page_step(
     let address = request.address;
     let index = (address >> (12 + 9 * below)) % 512;
     let Found8::Entry(e) = page_entry8(image, table, 8 * index) else {
-        return Step::Done(Translation::Fault(Reason::PageEntryAccess, fpd));
+        return Step::Fault(Reason::PageEntryAccess, fpd);
     };
-    let check = page_check(registers, request.write, fpd, below + 1, e);
-    let Translation::Reached(frame) = check else {
-        return Step::Done(check);
-    };
-    if large_page(below + 1, e) {
-        return Step::Done(Translation::Reached(frame + field(address, 11 + 9 * below, 0)));
+    let level = below + 1;
+    match page_check(registers, request.write, level, e) {
+        Check::Stop(reason) => Step::Fault(reason, fpd),
+        Check::Go(frame) => {
+            if is_leaf(level, e) {
+                return Step::Leaf(frame, level);
+            }
+            Step::Down(frame)
+        }
     }
-    Step::Down(frame)
+}
+
+// The frame plus the address's low 12, 21 or 30 bits.
+pub(crate) fn host_address(level: u32, frame: u64, address: u64) -> u64
+    requires { ⌜ Reachable (leaf frame level) ⌝ }
+    ensures { λ r. ⌜ r ≡ hostAddress level frame address ⌝ }
+{
+    frame + address % (1u64 << (12 + 9 * (level - 1)))
 }

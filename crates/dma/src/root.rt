@@ -1,13 +1,11 @@
 // The root entry: 16 bytes for each bus, in the page of the root table.
-ghost use mathlib.Core.Bool.{false};
 ghost use mathlib.Core.Path.{_≡_};
 ghost use Rattle.image.specs.Entries.{number16};
 ghost use Rattle.dma.specs.Root.{rootReserved, rootCheck};
-ghost use Rattle.dma.specs.Checked.{translationOf};
-ghost use Rattle.dma.specs.Translation.{checked};
+ghost use Rattle.dma.specs.Checked.{checkOf};
+use crate::entry::Check;
 use crate::entry::present;
 use crate::entry::table_address;
-use crate::translation::Translation;
 use faults::Reason;
 use image::Entry16;
 use image::field;
@@ -21,14 +19,14 @@ fn root_reserved(haw: u8, e: Entry16) -> bool
 }
 
 // The context table's address.
-pub(crate) fn root_check(haw: u8, e: Entry16) -> Translation
-    ensures { λ r. ⌜ translationOf r ≡ checked false (rootCheck haw (number16 e)) ⌝ }
+pub(crate) fn root_check(haw: u8, e: Entry16) -> Check
+    ensures { λ r. ⌜ checkOf r ≡ rootCheck haw (number16 e) ⌝ }
 {
     if !present(e) {
-        return Translation::Fault(Reason::RootNotPresent, false);
+        return Check::Stop(Reason::RootNotPresent);
     }
     if root_reserved(haw, e) {
-        return Translation::Fault(Reason::RootReserved, false);
+        return Check::Stop(Reason::RootReserved);
     }
-    Translation::Reached(table_address(e))
+    Check::Go(table_address(e))
 }

@@ -1,4 +1,4 @@
-// From the root entry to a host address or a fault.
+// From the root entry to a page or a fault.
 ghost use mathlib.Core.Bool.{false};
 ghost use mathlib.Core.Path.{_≡_};
 ghost use Prim.Native.Nat.{min};
@@ -13,6 +13,7 @@ use crate::context::context_check;
 use crate::context::fault_processing_disabled;
 use crate::context::levels;
 use crate::context::passes_through;
+use crate::entry::Check;
 use crate::root::root_check;
 use crate::walk::walk;
 use faults::Reason;
@@ -23,8 +24,10 @@ use registers::Registers;
 use registers::at_or_above_power;
 
 pub enum Translation {
-    // The address: the host address or, from an entry's check, the table or frame that it leads to.
-    Reached(u64),
+    // The address itself.
+    Through,
+    // The frame of a page, and the level of its entry.
+    Leaf(u64, u32),
     // Why, and FPD as it was read by then.
     Fault(Reason, bool),
 }
@@ -55,7 +58,7 @@ fn translate_width(
         return Translation::Fault(Reason::AddressOverflow, fpd);
     }
     if passes_through(e) {
-        return Translation::Reached(request.address);
+        return Translation::Through;
     }
     walk(image, registers, request, fpd, depth, table)
 }
@@ -72,11 +75,10 @@ fn translate_context(
     let Found16::Entry(e) = page_entry16(image, table, 16 * devfn as u64) else {
         return Translation::Fault(Reason::ContextAccess, false);
     };
-    let check = context_check(registers, e);
-    let Translation::Reached(top) = check else {
-        return check;
-    };
-    translate_width(image, registers, request, e, top)
+    match context_check(registers, e) {
+        Check::Stop(reason) => Translation::Fault(reason, fault_processing_disabled(e)),
+        Check::Go(top) => translate_width(image, registers, request, e, top),
+    }
 }
 
 pub(crate) fn translate(image: &[u8], registers: Registers, request: MemoryRequest) -> Translation
@@ -86,9 +88,8 @@ pub(crate) fn translate(image: &[u8], registers: Registers, request: MemoryReque
     let Found16::Entry(e) = page_entry16(image, registers.root_table, 16 * bus as u64) else {
         return Translation::Fault(Reason::RootAccess, false);
     };
-    let check = root_check(registers.haw, e);
-    let Translation::Reached(table) = check else {
-        return check;
-    };
-    translate_context(image, registers, request, table)
+    match root_check(registers.haw, e) {
+        Check::Stop(reason) => Translation::Fault(reason, false),
+        Check::Go(table) => translate_context(image, registers, request, table),
+    }
 }

@@ -1,6 +1,6 @@
 // The walk through the page tables, from the top level down.
 ghost use mathlib.Core.Path.{_≡_};
-ghost use Prim.Native.Nat.{_≤_, _<_, _^_};
+ghost use Prim.Native.Nat.{_≤_, _<_};
 ghost use Rattle.image.specs.Memory.{ofImage};
 ghost use Rattle.image.specs.Rules.{run};
 ghost use Rattle.dma.specs.Checked.{translationOf};
@@ -9,7 +9,6 @@ use crate::MemoryRequest;
 use crate::page::Step;
 use crate::page::page_step;
 use crate::translation::Translation;
-use image::field;
 use registers::Registers;
 
 pub(crate) fn walk(
@@ -24,16 +23,16 @@ pub(crate) fn walk(
     ensures { λ r. ⌜ translationOf r ≡ run (pageRules registers (request .address) (request .write) fpd levels table) (ofImage (now (image .entry))) ⌝ }
 {
     let mut level = levels;
-    let mut frame = table;
-    while 0 < level {
-        let step = page_step(image, registers, request, fpd, level - 1, frame);
+    let mut at = table;
+    loop {
+        let step = page_step(image, registers, request, fpd, level - 1, at);
         match step {
-            Step::Done(answer) => return answer,
+            Step::Leaf(frame, of) => return Translation::Leaf(frame, of),
+            Step::Fault(reason, fpd) => return Translation::Fault(reason, fpd),
             Step::Down(next) => {
-                frame = next;
+                at = next;
                 level -= 1;
             }
         }
     }
-    Translation::Reached(frame + field(request.address, 11, 0))
 }

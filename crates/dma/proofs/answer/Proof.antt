@@ -1,12 +1,19 @@
-use mathlib.Core.Path.{_≡_, refl, ap, sym, _∙_}
+use mathlib.Core.Path.{_≡_, refl, ap, sym, _∙_, subst}
 use Rattle.dma.specs.Checked.{translationOf}
-use Rattle.dma.specs.Requests.{blocked, outcome}
+use Rattle.dma.specs.Requests.{granted, blocked, outcome}
+use Rattle.dma.specs.Translation.{Reachable}
 use borrow.Author.Needs.{needs}
 use Rattle.dma.proofs.answer.Statement.{statement}
 use Rattle.dma.proofs.answer.Tie as tie
 
+enum-told : tie.Need-enum-told
+enum-told c = search needs
+
 enum-known-translated : tie.Need-enum-known-translated
 enum-known-translated c = search needs
+
+host-address-requires : tie.Need-host-address-requires
+host-address-requires c κs = subst (λ t. Reachable (translationOf t)) (c .before .translated .given .1) (c .before .before .before .pre)
 
 enum-known-translated-2 : tie.Need-enum-known-translated-2
 enum-known-translated-2 c = search needs
@@ -15,17 +22,23 @@ memory-fault-requires : tie.Need-memory-fault-requires
 memory-fault-requires c κs = search needs
 
 returns : tie.Need-returns
-returns c = sym (ap (λ t. outcome (c .before .before .before .args .request) (translationOf t)) (c .before .translated .given .1))
+returns c = sym (ap (λ t. outcome (c .before .before .args .request) (translationOf t)) (c .enum-told .given .1))
 
 returns-2 : tie.Need-returns-2
-returns-2 c = ap blocked (c .memory-fault .ensures) ∙ sym (ap (λ t. outcome (c .before .before .before .before .args .request) (translationOf t)) (c .before .before .translated2 .given .1))
+returns-2 c = ap granted (c .host-address .ensures) ∙ sym (ap (λ t. outcome (c .before .before .before .before .args .request) (translationOf t)) (c .before .before .translated .given .1))
+
+returns-3 : tie.Need-returns-3
+returns-3 c = ap blocked (c .memory-fault .ensures) ∙ sym (ap (λ t. outcome (c .before .before .before .before .args .request) (translationOf t)) (c .before .before .translated2 .given .1))
 
 pub answer-spec : {M : Type 1} → statement M
 answer-spec =
     tie.close
     (tie.spec
+    enum-told
     enum-known-translated
+    host-address-requires
     enum-known-translated-2
     memory-fault-requires
     returns
-    returns-2)
+    returns-2
+    returns-3)

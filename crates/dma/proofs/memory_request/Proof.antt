@@ -3,6 +3,7 @@ use Rattle.image.specs.Memory.{ofImage}
 use Rattle.registers.specs.Admitted.{admittedOf}
 use Rattle.dma.specs.Requests.{outcome}
 use Rattle.dma.proofs.Admissions.{refuses, passes, takes}
+use Rattle.dma.proofs.Leaves.{reachable}
 use borrow.Author.Needs.{needs}
 use Rattle.dma.proofs.memory_request.Statement.{statement}
 use Rattle.dma.proofs.memory_request.Tie as tie
@@ -26,7 +27,9 @@ translate-requires : tie.Need-translate-requires
 translate-requires c κs = search needs
 
 answer-requires : tie.Need-answer-requires
-answer-requires c κs = search needs
+answer-requires c κs =
+    let a = c .before .before .before .before .before .before .args in
+    rw (c .translate .ensures) (reachable (a .registers) (a .request) (ofImage (a .image .now)))
 
 returns : tie.Need-returns
 returns c =

@@ -7,12 +7,11 @@ use native.Mathlib.Numerals.{add-one}
 use Rattle.image.specs.Entries.{fetched8}
 use Rattle.image.specs.Check.{go}
 use Rattle.image.specs.Memory.{found, ofImage, entry}
-use Rattle.dma.specs.Checked.{translationOf}
+use Rattle.dma.specs.Checked.{checkOf}
 use Rattle.dma.specs.Page.{pageCheck}
-use Rattle.dma.specs.Translation.{checked}
 use Rattle.dma.specs.Walk.{placeIn}
-use Rattle.dma.proofs.Steps.{index-of, index-lt, host-lt, offset, page-frame-lt}
-use Rattle.dma.proofs.Stepped.{placed, gone, unfetched, stopped, at-leaf, at-table}
+use Rattle.dma.proofs.Steps.{index-of, index-lt}
+use Rattle.dma.proofs.Stepped.{placed, unfetched, stopped, at-leaf, at-table}
 use borrow.Author.Needs.{needs}
 use Rattle.dma.proofs.page.page_step.Statement.{statement}
 use Rattle.dma.proofs.page.page_step.Tie as tie
@@ -55,17 +54,20 @@ returns c =
     let a = c .before .before .before .before .args in
     unfetched (a .registers) (a .request .address) (a .request .write) (a .fpd) (a .image .now) (a .below) (a .table) (sym (ap fetched8 (c .enum-told .given .1)) ∙ place (c .before .before))
 
-add-page-check : tie.Need-add-page-check
-add-page-check c = search needs
+add-level : tie.Need-add-level
+add-level c = search needs
 
 page-check-requires : tie.Need-page-check-requires
 page-check-requires c κs = search needs
 
-enum-known-check : tie.Need-enum-known-check
-enum-known-check c = search needs
+enum-known-reason : tie.Need-enum-known-reason
+enum-known-reason c = search needs
 
-enum-told-2 : tie.Need-enum-told-2
-enum-told-2 c = search needs
+enum-known-frame : tie.Need-enum-known-frame
+enum-known-frame c = search needs
+
+is-leaf-requires : tie.Need-is-leaf-requires
+is-leaf-requires c κs = search needs
 
 found-at : (c : tie.After-known-told)
     → found (c .before .e .given .0 .0)
@@ -73,52 +75,31 @@ found-at : (c : tie.After-known-told)
 found-at c = sym (ap fetched8 (c .before .e .given .1)) ∙ place (c .before .before .before)
 
 told : (c : tie.After-page-check)
-    → translationOf (c .page-check .result)
-    ≡ checked (c .before .before .before .before .before .before .args .fpd)
-    (pageCheck (c .before .before .before .before .before .before .args .registers) (c .before .before .before .before .before .before .args .request .write) (suc (c .before .before .before .before .before .before .args .below)) (c .before .before .e .given .0 .0))
+    → checkOf (c .page-check .result)
+    ≡ pageCheck (c .before .before .before .before .before .before .args .registers) (c .before .before .before .before .before .before .args .request .write) (suc (c .before .before .before .before .before .before .args .below)) (c .before .before .e .given .0 .0)
 told c = rw (← add-one (c .before .before .before .before .before .before .args .below)) (c .page-check .ensures)
 
-went : (c : tie.After-check)
-    → pageCheck (c .before .before .before .before .before .before .before .before .args .registers) (c .before .before .before .before .before .before .before .before .args .request .write) (suc (c .before .before .before .before .before .before .before .before .args .below)) (c .before .before .before .before .e .given .0 .0)
-    ≡ go (c .check .given .0 .0)
-went c = gone (c .before .before .before .before .before .before .before .before .args .fpd) _ (sym (ap translationOf (c .check .given .1)) ∙ told (c .before .before))
+went : (c : tie.After-frame)
+    → go (c .frame .given .0 .0)
+    ≡ pageCheck (c .before .before .before .before .before .before .before .before .args .registers) (c .before .before .before .before .before .before .before .before .args .request .write) (suc (c .before .before .before .before .before .before .before .before .args .below)) (c .before .before .before .before .e .given .0 .0)
+went c = sym (ap checkOf (c .frame .given .1)) ∙ told (c .before .before)
 
 returns-2 : tie.Need-returns-2
 returns-2 c =
-    let a = c .before .before .before .before .before .before .before .before .args in
-    stopped (a .registers) (a .request .address) (a .request .write) (a .fpd) (a .image .now) (a .below) (a .table) (found-at (c .before .before .before)) (told (c .before .before)) (ap translationOf (c .enum-told2 .given .1))
-
-add-large-page : tie.Need-add-large-page
-add-large-page c = search needs
-
-large-page-requires : tie.Need-large-page-requires
-large-page-requires c κs = search needs
-
-mul-field : tie.Need-mul-field
-mul-field c = search needs
-
-add-field : tie.Need-add-field
-add-field c = search needs
-
-field-requires : tie.Need-field-requires
-field-requires c κs = search needs
-
-add-t23 : tie.Need-add-t23
-add-t23 c =
-    let a = c .before .before .before .before .before .before .before .before .before .before .before .before .args in
-    omega (arith, page-frame-lt (a .registers) (a .request .write) (suc (a .below)) _ _ (went (c .before .before .before .before)), c .field .ensures, host-lt (a .request .address) (a .below) (omega arith))
+    let a = c .before .before .before .before .before .before .before .before .before .before .before .args in
+    let page = sym (c .before .is-leaf .ensures) ∙ c .if1 .taken in
+    rw (add-one (a .below)) (at-leaf (a .registers) (a .request .address) (a .request .write) (a .fpd) (a .image .now) (a .below) (a .table) (found-at (c .before .before .before .before .before .before)) (went (c .before .before .before)) (rw (add-one (a .below)) at page))
 
 returns-3 : tie.Need-returns-3
 returns-3 c =
-    let a = c .before .before .before .before .before .before .before .before .before .before .before .before .args in
-    let large = sym (c .before .before .large-page .ensures) ∙ c .before .if1 .taken in
-    rw (c .field .ensures, offset (a .below)) (at-leaf (a .registers) (a .request .address) (a .request .write) (a .fpd) (a .image .now) (a .below) (a .table) (found-at (c .before .before .before .before .before .before .before)) (went (c .before .before .before .before)) (rw (add-one (a .below)) at large))
+    let a = c .before .before .before .before .before .before .before .before .before .args in
+    stopped (a .registers) (a .request .address) (a .request .write) (a .fpd) (a .image .now) (a .below) (a .table) (found-at (c .before .before .before .before)) (sym (ap checkOf (c .before .reason .given .1)) ∙ told (c .before .before .before))
 
 returns-4 : tie.Need-returns-4
 returns-4 c =
     let a = c .before .before .before .before .before .before .before .before .before .before .before .args in
-    let small = sym (c .before .large-page .ensures) ∙ c .if1 .left in
-    at-table (a .registers) (a .request .address) (a .request .write) (a .fpd) (a .image .now) (a .below) (a .table) (found-at (c .before .before .before .before .before .before)) (went (c .before .before .before)) (rw (add-one (a .below)) at small)
+    let more = sym (c .before .is-leaf .ensures) ∙ c .if1 .left in
+    at-table (a .registers) (a .request .address) (a .request .write) (a .fpd) (a .image .now) (a .below) (a .table) (found-at (c .before .before .before .before .before .before)) (went (c .before .before .before)) (rw (add-one (a .below)) at more)
 
 pub page-step-spec : {M : Type 1} → statement M
 page-step-spec =
@@ -133,16 +114,11 @@ page-step-spec =
     enum-known-e
     enum-told
     returns
-    add-page-check
+    add-level
     page-check-requires
-    enum-known-check
-    enum-told-2
+    enum-known-reason
+    enum-known-frame
+    is-leaf-requires
     returns-2
-    add-large-page
-    large-page-requires
-    mul-field
-    add-field
-    field-requires
-    add-t23
     returns-3
     returns-4)

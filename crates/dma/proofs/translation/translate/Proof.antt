@@ -6,11 +6,10 @@ use Rattle.image.specs.Check.{go}
 use Rattle.image.specs.Entries.{fetched16, number16}
 use Rattle.image.specs.Memory.{found, ofImage, entry}
 use Rattle.registers.specs.Source.{busOf, devfnOf}
-use Rattle.dma.specs.Checked.{translationOf}
+use Rattle.dma.specs.Checked.{checkOf}
 use Rattle.dma.specs.Translation.{fault, rootRules, contextRules}
 use Rattle.dma.specs.Root.{rootCheck}
 use Rattle.dma.proofs.Stages.{placed, unfetched, stopped, passed}
-use Rattle.dma.proofs.Stepped.{gone}
 use borrow.Author.Needs.{needs}
 use Rattle.dma.proofs.translation.translate.Statement.{statement}
 use Rattle.dma.proofs.translation.translate.Tie as tie
@@ -50,26 +49,26 @@ returns c =
 root-check-requires : tie.Need-root-check-requires
 root-check-requires c κs = search needs
 
-enum-known-check : tie.Need-enum-known-check
-enum-known-check c = search needs
+enum-known-reason : tie.Need-enum-known-reason
+enum-known-reason c = search needs
 
-enum-told-2 : tie.Need-enum-told-2
-enum-told-2 c = search needs
+enum-known-table : tie.Need-enum-known-table
+enum-known-table c = search needs
 
 found-at : (c : tie.After-known-told)
     → found (number16 (c .before .e .given .0 .0))
     ≡ entry 2 (ofImage (c .before .before .before .before .before .before .args .image .now)) (c .before .before .before .before .before .before .args .registers .«root_table» + 16 * busOf (c .before .before .before .before .before .before .args .request .source .id))
 found-at c = sym (ap fetched16 (c .before .e .given .1)) ∙ place (c .before .before .before)
 
-went : (c : tie.After-check)
-    → rootCheck (c .before .before .before .before .before .before .before .before .before .args .registers .haw) (number16 (c .before .before .before .before .e .given .0 .0)) ≡ go (c .check .given .0 .0)
-went c = gone false _ (sym (ap translationOf (c .check .given .1)) ∙ c .before .before .root-check .ensures)
+went : (c : tie.After-table)
+    → go (c .table .given .0 .0) ≡ rootCheck (c .before .before .before .before .before .before .before .before .before .args .registers .haw) (number16 (c .before .before .before .before .e .given .0 .0))
+went c = sym (ap checkOf (c .table .given .1)) ∙ c .before .before .root-check .ensures
 
 returns-2 : tie.Need-returns-2
 unfolding rootRules
 returns-2 c =
-    let a = c .before .before .before .before .before .before .before .before .before .args in
-    stopped (ofImage (a .image .now)) (a .registers .«root_table» + 16 * busOf (a .request .source .id)) (fault 0x08 false) (λ (e : ℕ). false) (rootCheck (a .registers .haw)) (λ e. contextRules (a .registers) (a .request .address) (a .request .write) (a .request .source .id)) (found-at (c .before .before .before)) (c .before .before .root-check .ensures) (ap translationOf (c .enum-told2 .given .1))
+    let a = c .before .before .before .before .before .before .before .before .before .before .args in
+    stopped (ofImage (a .image .now)) (a .registers .«root_table» + 16 * busOf (a .request .source .id)) (fault 0x08 false) (λ (e : ℕ). false) (rootCheck (a .registers .haw)) (λ e. contextRules (a .registers) (a .request .address) (a .request .write) (a .request .source .id)) (found-at (c .before .before .before .before)) (sym (ap checkOf (c .before .reason .given .1)) ∙ c .before .before .before .root-check .ensures)
 
 translate-context-requires : tie.Need-translate-context-requires
 translate-context-requires c κs = search needs
@@ -92,8 +91,8 @@ translate-spec =
     enum-told
     returns
     root-check-requires
-    enum-known-check
-    enum-told-2
-    returns-2
+    enum-known-reason
+    enum-known-table
     translate-context-requires
+    returns-2
     returns-3)

@@ -6,11 +6,10 @@ use Rattle.image.specs.Check.{go}
 use Rattle.image.specs.Entries.{fetched16, number16}
 use Rattle.image.specs.Memory.{found, ofImage, entry}
 use Rattle.registers.specs.Source.{busOf, devfnOf}
-use Rattle.dma.specs.Checked.{translationOf}
+use Rattle.dma.specs.Checked.{checkOf}
 use Rattle.dma.specs.Translation.{fault, contextRules, widthRules}
 use Rattle.dma.specs.Context.{contextCheck, faultProcessingDisabled}
 use Rattle.dma.proofs.Stages.{placed, unfetched, stopped, passed, valid}
-use Rattle.dma.proofs.Stepped.{gone}
 use borrow.Author.Needs.{needs}
 use Rattle.dma.proofs.translation.translate_context.Statement.{statement}
 use Rattle.dma.proofs.translation.translate_context.Tie as tie
@@ -50,29 +49,33 @@ returns c =
 context-check-requires : tie.Need-context-check-requires
 context-check-requires c κs = search needs
 
-enum-known-check : tie.Need-enum-known-check
-enum-known-check c = search needs
+enum-known-reason : tie.Need-enum-known-reason
+enum-known-reason c = search needs
 
-enum-told-2 : tie.Need-enum-told-2
-enum-told-2 c = search needs
+enum-known-top : tie.Need-enum-known-top
+enum-known-top c = search needs
 
 found-at : (c : tie.After-known-told)
     → found (number16 (c .before .e .given .0 .0))
     ≡ entry 2 (ofImage (c .before .before .before .before .before .before .args .image .now)) (c .before .before .before .before .before .before .args .table + 16 * devfnOf (c .before .before .before .before .before .before .args .request .source .id))
 found-at c = sym (ap fetched16 (c .before .e .given .1)) ∙ place (c .before .before .before)
 
-went : (c : tie.After-check)
-    → contextCheck (c .before .before .before .before .before .before .before .before .before .args .registers) (number16 (c .before .before .before .before .e .given .0 .0)) ≡ go (c .check .given .0 .0)
-went c = gone (faultProcessingDisabled (number16 (c .before .before .before .before .e .given .0 .0))) _ (sym (ap translationOf (c .check .given .1)) ∙ c .before .before .context-check .ensures)
+went : (c : tie.After-top)
+    → go (c .top .given .0 .0) ≡ contextCheck (c .before .before .before .before .before .before .before .before .before .args .registers) (number16 (c .before .before .before .before .e .given .0 .0))
+went c = sym (ap checkOf (c .top .given .1)) ∙ c .before .before .context-check .ensures
+
+fault-processing-disabled-requires : tie.Need-fault-processing-disabled-requires
+fault-processing-disabled-requires c κs = search needs
 
 returns-2 : tie.Need-returns-2
 unfolding contextRules
 returns-2 c =
-    let a = c .before .before .before .before .before .before .before .before .before .args in
-    stopped (ofImage (a .image .now)) (a .table + 16 * devfnOf (a .request .source .id)) (fault 0x09 false) faultProcessingDisabled (contextCheck (a .registers)) (λ e. widthRules (a .registers) (a .request .address) (a .request .write) e) (found-at (c .before .before .before)) (c .before .before .context-check .ensures) (ap translationOf (c .enum-told2 .given .1))
+    let a = c .before .before .before .before .before .before .before .before .before .before .before .args in
+    rw (c .fault-processing-disabled .ensures)
+    (stopped (ofImage (a .image .now)) (a .table + 16 * devfnOf (a .request .source .id)) (fault 0x09 false) faultProcessingDisabled (contextCheck (a .registers)) (λ e. widthRules (a .registers) (a .request .address) (a .request .write) e) (found-at (c .before .before .before .before .before)) (sym (ap checkOf (c .before .before .reason .given .1)) ∙ c .before .before .before .before .context-check .ensures))
 
 translate-width-requires : tie.Need-translate-width-requires
-translate-width-requires c κs = valid _ _ (went (c .before)) .0
+translate-width-requires c κs = valid _ _ (sym (went (c .before))) .0
 
 returns-3 : tie.Need-returns-3
 unfolding contextRules
@@ -92,8 +95,9 @@ translate-context-spec =
     enum-told
     returns
     context-check-requires
-    enum-known-check
-    enum-told-2
-    returns-2
+    enum-known-reason
+    fault-processing-disabled-requires
+    enum-known-top
     translate-width-requires
+    returns-2
     returns-3)

@@ -1,27 +1,26 @@
-use Prim.Native.Nat.{ℕ, _-_, _<_, _≤_, _^_}
+use Prim.Native.Nat.{ℕ, _-_, _<_, _≤_}
 use mathlib.Core.Path.{_≡_, refl, ap, sym, _∙_}
 use native.Mathlib.Omega.{arith}
 use borrow.Author.Needs.{needs}
 use Rattle.image.specs.Memory.{ofImage}
 use Rattle.image.specs.Rules.{run}
-use Rattle.image.proofs.Fields.{fits}
 use Rattle.dma.specs.Checked.{stepOf}
 use Rattle.dma.specs.Translation.{pageRules}
-use Rattle.dma.proofs.Stepped.{ended, onward, arrived, down-lt}
+use Rattle.dma.proofs.Stepped.{ended, onward, deeper}
 use Rattle.dma.proofs.walk.walk.Statement.{statement}
 use Rattle.dma.proofs.walk.walk.Tie as tie
 
 abbrev Inv-loop : tie.InvT-loop
-Inv-loop image registers request fpd levels table level₀ frame₀ level frame =
-    (level ≤ 5) × (level ≡ 0 → frame < 2 ^ 52)
-    × (run (pageRules registers (request .address) (request .write) fpd level frame) (ofImage image)
+Inv-loop image registers request fpd levels table level₀ at₀ level at =
+    (level ≤ 5) × (0 < level)
+    × (run (pageRules registers (request .address) (request .write) fpd level at) (ofImage image)
     ≡ run (pageRules registers (request .address) (request .write) fpd levels table) (ofImage image))
 
 abbrev μ-loop : tie.MeasureT-loop
-μ-loop image registers request fpd levels table level₀ frame₀ level frame = level
+μ-loop image registers request fpd levels table level₀ at₀ level at = level
 
 loop-holds : tie.Need-loop-holds Inv-loop μ-loop
-loop-holds c = (search needs, (λ none. absurd (omega arith)), refl)
+loop-holds c = (omega arith, omega arith, refl)
 
 sub-page-step : tie.Need-sub-page-step Inv-loop μ-loop
 sub-page-step c = search needs
@@ -34,12 +33,21 @@ enum-known-step c = search needs
 
 returns : tie.Need-returns Inv-loop μ-loop
 returns c =
-    let a = c .before .before .before .before .before .before .before .args in
-    let l = c .before .before .before .before .before .loop in
-    ended (a .registers) (a .request .address) (a .request .write) (a .fpd) (ofImage (a .image .now)) (l .level) (l .frame) (omega arith) (sym (ap stepOf (c .before .step .given .1)) ∙ c .before .before .before .page-step .ensures) ∙ l .inv .2
+    let a = c .before .before .before .before .before .before .args in
+    let l = c .before .before .before .before .loop in
+    ended (a .registers) (a .request .address) (a .request .write) (a .fpd) (ofImage (a .image .now)) (l .level) (l .at) (l .inv .1) (sym (ap stepOf (c .before .step .given .1)) ∙ c .before .before .before .page-step .ensures) ∙ l .inv .2
 
 enum-known-step-2 : tie.Need-enum-known-step-2 Inv-loop μ-loop
 enum-known-step-2 c = search needs
+
+returns-2 : tie.Need-returns-2 Inv-loop μ-loop
+returns-2 c =
+    let a = c .before .before .before .before .before .before .args in
+    let l = c .before .before .before .before .loop in
+    ended (a .registers) (a .request .address) (a .request .write) (a .fpd) (ofImage (a .image .now)) (l .level) (l .at) (l .inv .1) (sym (ap stepOf (c .before .step2 .given .1)) ∙ c .before .before .before .page-step .ensures) ∙ l .inv .2
+
+enum-known-step-3 : tie.Need-enum-known-step-3 Inv-loop μ-loop
+enum-known-step-3 c = search needs
 
 sub-level : tie.Need-sub-level Inv-loop μ-loop
 sub-level c = search needs
@@ -49,26 +57,10 @@ loop-less c = search needs
 
 loop-again : tie.Need-loop-again Inv-loop μ-loop
 loop-again c =
-    let a = c .before .before .before .before .before .before .before .args in
-    let l = c .before .before .before .before .before .loop in
-    let led = sym (ap stepOf (c .before .step2 .given .1)) ∙ c .before .before .before .page-step .ensures in
-    (omega arith, (λ _. down-lt (a .registers) (a .request .address) (a .request .write) (a .fpd) (ofImage (a .image .now)) (l .level - 1) (l .frame) led), onward (a .registers) (a .request .address) (a .request .write) (a .fpd) (ofImage (a .image .now)) (l .level) (l .frame) (omega arith) led ∙ l .inv .2)
-
-field-requires : tie.Need-field-requires Inv-loop μ-loop
-field-requires c κs = search needs
-
-add-t15 : tie.Need-add-t15 Inv-loop μ-loop
-add-t15 c =
-    let a = c .before .before .before .before .args in
-    let l = c .before .before .loop in
-    let low : l .frame < 2 ^ 52 = l .inv .1 (omega arith) in
-    omega (arith, low, c .field .ensures, fits (a .request .address) 11 0)
-
-returns-2 : tie.Need-returns-2 Inv-loop μ-loop
-returns-2 c =
-    let a = c .before .before .before .before .args in
-    let l = c .before .before .loop in
-    rw (c .field .ensures) (arrived (a .registers) (a .request .address) (a .request .write) (a .fpd) (ofImage (a .image .now)) (l .level) (l .frame) (omega arith) ∙ l .inv .2)
+    let a = c .before .before .before .before .before .before .args in
+    let l = c .before .before .before .before .loop in
+    let led = sym (ap stepOf (c .before .step3 .given .1)) ∙ c .before .before .before .page-step .ensures in
+    (omega arith, deeper (a .registers) (a .request .address) (a .request .write) (a .fpd) (ofImage (a .image .now)) (l .level - 1) (l .at) led, onward (a .registers) (a .request .address) (a .request .write) (a .fpd) (ofImage (a .image .now)) (l .level) (l .at) (l .inv .1) led ∙ l .inv .2)
 
 pub walk-spec : {M : Type 1} → statement M
 walk-spec =
@@ -82,9 +74,8 @@ walk-spec =
     enum-known-step
     returns
     enum-known-step-2
+    returns-2
+    enum-known-step-3
     sub-level
     loop-less
-    loop-again
-    field-requires
-    add-t15
-    returns-2)
+    loop-again)

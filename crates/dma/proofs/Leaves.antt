@@ -1,0 +1,90 @@
+-- What the rules of a memory request answer: a page that they reach has its frame below 2^52, and an entry of level 1 to 5.
+use Prim.Native.Nat.{ℕ, zero, suc, _^_, _<_, _≤_}
+use mathlib.Core.Bool.{Bool, true, false}
+use mathlib.Core.Path.{_≡_, refl, sym, _∙_}
+use native.Mathlib.Omega.{arith}
+use Rattle.image.specs.Check.{Check, stop, go, onCheck}
+use Rattle.image.specs.Choice.{if_then_else_}
+use Rattle.image.specs.Memory.{Memory, Fetched, missing, found, entry, onFetch}
+use Rattle.image.specs.Rules.{Rules, answer, fetch, run}
+use Rattle.registers.specs.declared.Registers.{Registers}
+use Rattle.dma.specs.Context.{contextCheck, levelsOf, faultProcessingDisabled}
+use Rattle.dma.specs.Page.{pageCheck, leafAt}
+use Rattle.dma.specs.Root.{rootCheck}
+use Rattle.dma.specs.Translation.{Translation, leaf, fault, Reachable, pageStep, pageRules, widthRules, contextRules, rootRules}
+use Rattle.dma.specs.Walk.{Step, done, down, onStep, placeIn, walkRules}
+use Rattle.dma.specs.declared.MemoryRequest.{MemoryRequest}
+use Rattle.dma.proofs.Cases.{check-cases, width-cases}
+use Rattle.dma.proofs.Stages.{valid, three-to-five}
+use Rattle.dma.proofs.Steps.{page-frame-lt}
+
+-- the rules answer so, over any memory
+abbrev pub Answers : {A : Type 0} → (A → Type 0) → Rules A → Type 0
+Answers P q = (m : Memory) → P (run q m)
+
+module _ {A : Type 0} (P : A → Type 0) where
+  answers-answer : (a : A) → P a → Answers P (answer a)
+  unfolding run
+  answers-answer a h m = h
+
+  answers-fetch : (words place : ℕ) (none : A) (next : ℕ → Rules A) → P none → ((e : ℕ) → Answers P (next e)) → Answers P (fetch words place none next)
+  unfolding run
+  answers-fetch words place none next h rest m = go (entry words m place)
+    where
+      go : (f : Fetched) → P (onFetch f none (λ e. run (next e) m))
+      go missing = h
+      go (found e) = rest e m
+
+-- a walk over any format, of so many levels
+module _ {S A : Type 0} (P : A → Type 0) (address : ℕ) (none : A) (step : (level place : ℕ) → S → (e : ℕ) → Step S A) (h : P none) (most : ℕ)
+    (steps : (n place : ℕ) (s : S) (e : ℕ) (a : A) → n < most → done a ≡ step (suc n) place s e → P a) where
+  answers-walk : (level table : ℕ) (s : S) → level ≤ most → Answers P (walkRules address none step level table s)
+  unfolding walkRules
+  answers-walk zero table s few = answers-answer P none h
+  answers-walk (suc n) table s few =
+      answers-fetch P 1 (placeIn address table n) none
+      (λ e. onStep (step (suc n) (placeIn address table n) s e) answer (walkRules address none step n)) h
+      (λ e. on e (step (suc n) (placeIn address table n) s e) refl (λ next t. answers-walk n next t (omega arith)))
+    where
+      on : (e : ℕ) (x : Step S A) → x ≡ step (suc n) (placeIn address table n) s e
+          → ((next : ℕ) (t : S) → Answers P (walkRules address none step n next t))
+          → Answers P (onStep x answer (walkRules address none step n))
+      on e (done a) told ih = answers-answer P a (steps n (placeIn address table n) s e a (omega arith) told)
+      on e (down next t) told ih = ih next t
+
+module _ (registers : Registers) (request : MemoryRequest) where
+  reachable-step : (fpd : Bool) (n place : ℕ) (s : Unit {0}) (e : ℕ) (t : Translation) → n < 5
+      → done t ≡ pageStep registers (request .address) (request .write) fpd (suc n) place s e → Reachable t
+  reachable-step fpd n place s e t few = on (pageCheck registers (request .write) (suc n) e) (leafAt (suc n) e) refl
+    where
+      on : (k : Check ℕ) (page : Bool) → pageCheck registers (request .write) (suc n) e ≡ k
+          → _≡_ {A = Step (Unit {0}) Translation} (done t)
+          (onCheck k (λ r. done (fault r fpd)) (λ frame. if page then done (leaf frame (suc n)) else down frame tt))
+          → Reachable t
+      on (stop r) page told h = let is : t ≡ fault r fpd = cc in rw is tt
+      on (go frame) true told h =
+          let is : t ≡ leaf frame (suc n) = cc in
+          rw is (page-frame-lt registers (request .write) (suc n) e frame told, omega arith, omega arith)
+      on (go frame) false told h = let z : _≡_ {A = ℕ} 0 1 = cc in absurd (omega arith)
+
+  reachable-context : (table : ℕ) → Answers Reachable (contextRules registers (request .address) (request .write) (request .source .id) table)
+  unfolding contextRules
+  reachable-context table =
+      answers-fetch Reachable _ _ _ _ tt
+      (λ e.
+      check-cases (Answers Reachable) (contextCheck registers e) (λ reason. fault reason (faultProcessingDisabled e))
+      (widthRules registers (request .address) (request .write) e) (λ reason. answers-answer Reachable _ tt)
+      (λ top told.
+      width-cases (Answers Reachable) registers (request .address) (request .write) e top (answers-answer Reachable)
+      (answers-walk Reachable (request .address) (fault 0x07 (faultProcessingDisabled e))
+      (pageStep registers (request .address) (request .write) (faultProcessingDisabled e)) tt 5
+      (reachable-step (faultProcessingDisabled e)) (levelsOf e) top tt (three-to-five registers e (valid registers e told .0)))))
+
+  pub reachable : Answers Reachable (rootRules registers (request .address) (request .write) (request .source .id))
+  unfolding rootRules
+  reachable =
+      answers-fetch Reachable _ _ _ _ tt
+      (λ e.
+      check-cases (Answers Reachable) (rootCheck (registers .haw) e) (λ reason. fault reason false)
+      (contextRules registers (request .address) (request .write) (request .source .id)) (λ reason. answers-answer Reachable _ tt)
+      (λ table told. reachable-context table))
