@@ -10,14 +10,13 @@ use Rattle.image.proofs.Trees.{outside-map}
 use Rattle.registers.specs.Admission.{Admitted, refusal, pass, take, admission, onAdmission, inInterruptRange}
 use Rattle.registers.specs.declared.Registers.{Registers}
 use Rattle.faults.specs.Record.{FaultAnswer, memoryFault}
-use Rattle.dma.specs.Context.{contextCheck, levelsOf, faultProcessingDisabled}
 use Rattle.dma.specs.Isolation.{accessFault, answerOver, Locality}
 use Rattle.dma.specs.Requests.{MemoryOutcome, granted, blocked, refused, outcome, memoryRules}
-use Rattle.dma.specs.Root.{rootCheck}
-use Rattle.dma.specs.Translation.{Translation, fault, pageRules, pageStep, widthRules, contextRules, rootRules}
+use Rattle.dma.specs.Translation.{Translation, fault, pageStep, widthRules, translationRules}
 use Rattle.dma.specs.Walk.{Step, done, down, onStep, placeIn, walkRules}
 use Rattle.dma.specs.declared.MemoryRequest.{MemoryRequest}
-use Rattle.dma.proofs.Cases.{check-cases, width-cases}
+use Rattle.dma.proofs.Cases.{width-cases}
+use Rattle.dma.proofs.Lookups.{lookup-cases}
 
 -- a walk over any format of its entries
 module _ {S A : Type 0} (Kind : A → Type 0) (address : ℕ) (none : A) (step : (level place : ℕ) → S → (e : ℕ) → Step S A) (h : Kind none) where
@@ -35,39 +34,26 @@ module _ (registers : Registers) (request : MemoryRequest) where
   abbrev Access : Translation → Type 0
   Access t = accessFault (outcome request t) ≡ true
 
-  outside-width : (e table : ℕ) → Outside Access (widthRules registers (request .address) (request .write) e table)
+  outside-translation : Outside Access (translationRules registers (request .address) (request .write) (request .source .id))
   unfolding Outside memoryFault
-  outside-width e table =
-      width-cases (Outside Access) registers (request .address) (request .write) e table (λ t _. tt)
-      (outside-walk Access (request .address) (fault 0x07 (faultProcessingDisabled e))
-      (pageStep registers (request .address) (request .write) (faultProcessingDisabled e)) refl (levelsOf e) table tt)
-
-  outside-context : (table : ℕ) → Outside Access (contextRules registers (request .address) (request .write) (request .source .id) table)
-  unfolding contextRules Outside memoryFault
-  outside-context table = (
-    refl,
-    λ e.
-        check-cases (Outside Access) (contextCheck registers e) (λ reason. fault reason (faultProcessingDisabled e))
-        (widthRules registers (request .address) (request .write) e) (λ reason. tt) (λ a _. outside-width e a),
-  )
-
-  outside-root : Outside Access (rootRules registers (request .address) (request .write) (request .source .id))
-  unfolding rootRules Outside memoryFault
-  outside-root = (
-    refl,
-    λ e.
-        check-cases (Outside Access) (rootCheck (registers .haw) e) (λ reason. fault reason false)
-        (contextRules registers (request .address) (request .write) (request .source .id)) (λ reason. tt) (λ a _. outside-context a),
-  )
+  outside-translation =
+      lookup-cases (Outside Access) (Outside Access) (Outside Access) registers fault
+      (widthRules registers (request .address) (request .write)) (λ place rest h. (refl, h)) (λ reason. tt) (λ place rest h. (refl, h))
+      (λ reason fpd. tt)
+      (λ c _.
+      width-cases (Outside Access) registers (request .address) (request .write) c (λ t _. tt)
+      (outside-walk Access (request .address) (fault 0x07 (c .fpd)) (pageStep registers (request .address) (request .write) (c .fpd)) refl
+      (c .levels) (c .top) tt))
+      (request .source .id)
 
   pub outside-memory : Outside (λ o. accessFault o ≡ true) (memoryRules registers request)
   unfolding memoryRules Outside
   outside-memory = on (admission registers (inInterruptRange (request .address)) (registers .te))
     where
-      on : (a : Admitted) → Outside (λ o. accessFault o ≡ true) (onAdmission a refused (granted (request .address)) (mapRules (outcome request) (rootRules registers (request .address) (request .write) (request .source .id))))
+      on : (a : Admitted) → Outside (λ o. accessFault o ≡ true) (onAdmission a refused (granted (request .address)) (mapRules (outcome request) (translationRules registers (request .address) (request .write) (request .source .id))))
       on (refusal n) = tt
       on pass = tt
-      on take = outside-map (outcome request) (λ o. accessFault o ≡ true) (rootRules registers (request .address) (request .write) (request .source .id)) outside-root
+      on take = outside-map (outcome request) (λ o. accessFault o ≡ true) (translationRules registers (request .address) (request .write) (request .source .id)) outside-translation
 
 pub locality : Locality
 locality registers request image image′ answered same =

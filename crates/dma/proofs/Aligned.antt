@@ -1,6 +1,6 @@
 -- A walked page entry is a word: its address is a multiple of 8.
 use Prim.Native.Nat.{ℕ, zero, suc, _+_, _*_, _%_}
-use mathlib.Core.Bool.{Bool}
+use mathlib.Core.Bool.{Bool, false}
 use mathlib.Core.Path.{_≡_, refl, ap, sym, _∙_}
 use mathlib.Core.List.{List, [], _∷_, _++_, List·Memᴰ, List·Memᴰ·not-nil, List·Memᴰ·cases-cons}
 use mathlib.Core.Logic.{_⊎_, ⊎-elim}
@@ -13,15 +13,13 @@ use Rattle.image.specs.Rules.{Rules, answer, fetch, mapRules, entriesOf}
 use Rattle.image.proofs.Trees.{entries-map}
 use Rattle.registers.specs.Admission.{Admitted, refusal, pass, take, admission, onAdmission, inInterruptRange}
 use Rattle.registers.specs.declared.Registers.{Registers}
-use Rattle.dma.specs.Context.{contextReserved, contextInvalid, contextCheck, levelsOf, faultProcessingDisabled}
 use Rattle.dma.specs.Page.{pageCheck}
 use Rattle.dma.specs.Requests.{MemoryOutcome, granted, refused, outcome, memoryRules, walked}
-use Rattle.dma.specs.Root.{rootCheck}
-use Rattle.dma.specs.Translation.{Translation, fault, pageRules, pageStep, widthRules, contextRules, rootRules}
+use Rattle.dma.specs.Translation.{Translation, fault, pageRules, pageStep, widthRules, translationRules}
 use Rattle.dma.specs.Walk.{Step, done, down, onStep, placeIn, walkRules}
 use Rattle.dma.specs.declared.MemoryRequest.{MemoryRequest}
-use Rattle.dma.proofs.Cases.{check-cases, width-cases}
-use Rattle.dma.proofs.Stages.{context-table}
+use Rattle.dma.proofs.Cases.{width-cases}
+use Rattle.dma.proofs.Lookups.{lookup-cases}
 use Rattle.dma.proofs.Steps.{page-frame}
 use Rattle.dma.proofs.Stepped.{leads}
 
@@ -80,35 +78,24 @@ module _ (registers : Registers) (request : MemoryRequest) where
       aligned-walk (request .address) (fault 0x07 fpd) (pageStep registers (request .address) (request .write) fpd)
       (leads-aligned registers (request .address) (request .write) fpd) level table tt
 
-  aligned-context : (table : ℕ) → Aligned (contextRules registers (request .address) (request .write) (request .source .id) table)
-  unfolding contextRules
-  aligned-context table =
-      aligned-pair _ _ _
-      (λ e.
-      check-cases Aligned (contextCheck registers e) (λ reason. fault reason (faultProcessingDisabled e))
-      (widthRules registers (request .address) (request .write) e) (λ reason. aligned-answer _)
-      (λ top told.
-      width-cases Aligned registers (request .address) (request .write) e top (λ t _. aligned-answer t)
-      (aligned-pages (faultProcessingDisabled e) (levelsOf e) top
-      (rw (context-table registers e told) (omega arith)))))
-
-  aligned-root : Aligned (rootRules registers (request .address) (request .write) (request .source .id))
-  unfolding rootRules
-  aligned-root =
-      aligned-pair _ _ _
-      (λ e.
-      check-cases Aligned (rootCheck (registers .haw) e) (λ reason. fault reason _)
-      (contextRules registers (request .address) (request .write) (request .source .id)) (λ reason. aligned-answer _)
-      (λ table told. aligned-context table))
+  aligned-translation : Aligned (translationRules registers (request .address) (request .write) (request .source .id))
+  aligned-translation =
+      lookup-cases Aligned Aligned Aligned registers fault (widthRules registers (request .address) (request .write))
+      (λ place rest. aligned-pair place (fault 0x08 false) rest) (λ reason. aligned-answer (fault reason false))
+      (λ place rest. aligned-pair place (fault 0x09 false) rest) (λ reason fpd. aligned-answer (fault reason fpd))
+      (λ c good.
+      width-cases Aligned registers (request .address) (request .write) c (λ t _. aligned-answer t)
+      (aligned-pages (c .fpd) (c .levels) (c .top) (omega (arith, good .2))))
+      (request .source .id)
 
   pub aligned-walked : (m : Memory) (a : ℕ) → List·Memᴰ a (walked registers request m) → a % 8 ≡ 0
   unfolding memoryRules
   aligned-walked = on (admission registers (inInterruptRange (request .address)) (registers .te))
     where
       on : (k : Admitted)
-          → Aligned (onAdmission k refused (granted (request .address)) (mapRules (outcome request) (rootRules registers (request .address) (request .write) (request .source .id))))
+          → Aligned (onAdmission k refused (granted (request .address)) (mapRules (outcome request) (translationRules registers (request .address) (request .write) (request .source .id))))
       on (refusal n) = aligned-answer (refused n)
       on pass = aligned-answer (granted (request .address))
       on take = λ m a is.
-          aligned-root m a
-          (rw (entries-map (outcome request) 1 (rootRules registers (request .address) (request .write) (request .source .id)) m) at is)
+          aligned-translation m a
+          (rw (entries-map (outcome request) 1 (translationRules registers (request .address) (request .write) (request .source .id)) m) at is)

@@ -7,8 +7,8 @@ use Rattle.image.specs.Check.{Check, stop, go, onCheck}
 use Rattle.image.specs.Choice.{if_then_else_}
 use Rattle.image.specs.Rules.{Rules, answer}
 use Rattle.registers.specs.declared.Registers.{Registers}
-use Rattle.dma.specs.Context.{levelsOf, translationType, faultProcessingDisabled}
 use Rattle.dma.specs.Translation.{Translation, through, fault, Reachable, pageRules, widthRules}
+use Rattle.dma.specs.declared.context.Context.{Context}
 
 either : {A : Type 0} (P : Rules A → Type 0) (t : Bool) (a b : Rules A) → P a → P b → P (if t then a else b)
 either P true a b x y = x
@@ -21,14 +21,14 @@ check-cases P (stop reason) stopped next ended gone = ended reason
 check-cases P (go a) stopped next ended gone = gone a refl
 
 -- the width and pass-through answer, or the walk follows
-pub width-cases : (P : Rules Translation → Type 0) (registers : Registers) (address : ℕ) (write : Bool) (e table : ℕ)
+pub width-cases : (P : Rules Translation → Type 0) (registers : Registers) (address : ℕ) (write : Bool) (c : Context)
     → ((t : Translation) → Reachable t → P (answer t))
-    → P (pageRules registers address write (faultProcessingDisabled e) (levelsOf e) table)
-    → P (widthRules registers address write e table)
+    → P (pageRules registers address write (c .fpd) (c .levels) (c .top))
+    → P (widthRules registers address write c)
 unfolding widthRules
-width-cases P registers address write e table ended walks =
-    let walk = pageRules registers address write (faultProcessingDisabled e) (levelsOf e) table in
-    let over = fault 0x04 (faultProcessingDisabled e) in
-    either P (leb (2 ^ min (registers .mgaw) (12 + 9 * levelsOf e)) address) (answer over)
-    (if eqb (translationType e) 2 then answer through else walk) (ended over tt)
-    (either P (eqb (translationType e) 2) (answer through) walk (ended through tt) walks)
+width-cases P registers address write c ended walks =
+    let walk = pageRules registers address write (c .fpd) (c .levels) (c .top) in
+    let over = fault 0x04 (c .fpd) in
+    either P (leb (2 ^ min (registers .mgaw) (12 + 9 * c .levels)) address) (answer over)
+    (if eqb (c .«translation_type») 2 then answer through else walk) (ended over tt)
+    (either P (eqb (c .«translation_type») 2) (answer through) walk (ended through tt) walks)

@@ -5,35 +5,15 @@ use mathlib.Core.Path.{_≡_, refl, sym, _∙_}
 use native.Mathlib.Omega.{arith}
 use Rattle.image.specs.Check.{Check, stop, go, onCheck}
 use Rattle.image.specs.Choice.{if_then_else_}
-use Rattle.image.specs.Memory.{Memory, Fetched, missing, found, entry, onFetch}
-use Rattle.image.specs.Rules.{Rules, answer, fetch, run}
+use Rattle.image.specs.Rules.{answer}
 use Rattle.registers.specs.declared.Registers.{Registers}
-use Rattle.dma.specs.Context.{contextCheck, levelsOf, faultProcessingDisabled}
 use Rattle.dma.specs.Page.{pageCheck, leafAt}
-use Rattle.dma.specs.Root.{rootCheck}
-use Rattle.dma.specs.Translation.{Translation, leaf, fault, Reachable, pageStep, pageRules, widthRules, contextRules, rootRules}
+use Rattle.dma.specs.Translation.{Translation, leaf, fault, Reachable, pageStep, widthRules, translationRules}
 use Rattle.dma.specs.Walk.{Step, done, down, onStep, placeIn, walkRules}
 use Rattle.dma.specs.declared.MemoryRequest.{MemoryRequest}
-use Rattle.dma.proofs.Cases.{check-cases, width-cases}
-use Rattle.dma.proofs.Stages.{valid, three-to-five}
+use Rattle.dma.proofs.Cases.{width-cases}
+use Rattle.dma.proofs.Lookups.{Answers, answers-answer, answers-fetch, lookup-cases}
 use Rattle.dma.proofs.Steps.{page-frame-lt}
-
--- the rules answer so, over any memory
-abbrev pub Answers : {A : Type 0} → (A → Type 0) → Rules A → Type 0
-Answers P q = (m : Memory) → P (run q m)
-
-module _ {A : Type 0} (P : A → Type 0) where
-  answers-answer : (a : A) → P a → Answers P (answer a)
-  unfolding run
-  answers-answer a h m = h
-
-  answers-fetch : (words place : ℕ) (none : A) (next : ℕ → Rules A) → P none → ((e : ℕ) → Answers P (next e)) → Answers P (fetch words place none next)
-  unfolding run
-  answers-fetch words place none next h rest m = go (entry words m place)
-    where
-      go : (f : Fetched) → P (onFetch f none (λ e. run (next e) m))
-      go missing = h
-      go (found e) = rest e m
 
 -- a walk over any format, of so many levels
 module _ {S A : Type 0} (P : A → Type 0) (address : ℕ) (none : A) (step : (level place : ℕ) → S → (e : ℕ) → Step S A) (h : P none) (most : ℕ)
@@ -67,24 +47,15 @@ module _ (registers : Registers) (request : MemoryRequest) where
           rw is (page-frame-lt registers (request .write) (suc n) e frame told, omega arith, omega arith)
       on (go frame) false told h = let z : _≡_ {A = ℕ} 0 1 = cc in absurd (omega arith)
 
-  reachable-context : (table : ℕ) → Answers Reachable (contextRules registers (request .address) (request .write) (request .source .id) table)
-  unfolding contextRules
-  reachable-context table =
-      answers-fetch Reachable _ _ _ _ tt
-      (λ e.
-      check-cases (Answers Reachable) (contextCheck registers e) (λ reason. fault reason (faultProcessingDisabled e))
-      (widthRules registers (request .address) (request .write) e) (λ reason. answers-answer Reachable _ tt)
-      (λ top told.
-      width-cases (Answers Reachable) registers (request .address) (request .write) e top (answers-answer Reachable)
-      (answers-walk Reachable (request .address) (fault 0x07 (faultProcessingDisabled e))
-      (pageStep registers (request .address) (request .write) (faultProcessingDisabled e)) tt 5
-      (reachable-step (faultProcessingDisabled e)) (levelsOf e) top tt (three-to-five registers e (valid registers e told .0)))))
-
-  pub reachable : Answers Reachable (rootRules registers (request .address) (request .write) (request .source .id))
-  unfolding rootRules
+  pub reachable : Answers Reachable (translationRules registers (request .address) (request .write) (request .source .id))
   reachable =
-      answers-fetch Reachable _ _ _ _ tt
-      (λ e.
-      check-cases (Answers Reachable) (rootCheck (registers .haw) e) (λ reason. fault reason false)
-      (contextRules registers (request .address) (request .write) (request .source .id)) (λ reason. answers-answer Reachable _ tt)
-      (λ table told. reachable-context table))
+      lookup-cases (Answers Reachable) (Answers Reachable) (Answers Reachable) registers fault
+      (widthRules registers (request .address) (request .write)) (λ place rest. answers-fetch Reachable 2 place (fault 0x08 false) rest tt)
+      (λ reason. answers-answer Reachable (fault reason false) tt)
+      (λ place rest. answers-fetch Reachable 2 place (fault 0x09 false) rest tt)
+      (λ reason fpd. answers-answer Reachable (fault reason fpd) tt)
+      (λ c good.
+      width-cases (Answers Reachable) registers (request .address) (request .write) c (answers-answer Reachable)
+      (answers-walk Reachable (request .address) (fault 0x07 (c .fpd)) (pageStep registers (request .address) (request .write) (c .fpd)) tt 5
+      (reachable-step (c .fpd)) (c .levels) (c .top) tt (good .1)))
+      (request .source .id)

@@ -5,6 +5,7 @@ pub mod Aligned
 pub mod Cases
 pub mod Injective
 pub mod Leaves
+pub mod Lookups
 pub mod Nine
 pub mod Raised
 pub mod Reserved

@@ -11,15 +11,13 @@ use Rattle.image.specs.Rules.{Rules, answer, fetch, mapRules, named, wordsFrom}
 use Rattle.image.proofs.Trees.{named-map}
 use Rattle.registers.specs.Admission.{Admitted, refusal, pass, take, admission, onAdmission, inInterruptRange}
 use Rattle.registers.specs.declared.Registers.{Registers}
-use Rattle.dma.specs.Context.{contextCheck, levelsOf, faultProcessingDisabled}
 use Rattle.dma.specs.Named.{AtMostNine, NoneUntaken}
 use Rattle.dma.specs.Requests.{MemoryOutcome, granted, refused, outcome, memoryRules}
-use Rattle.dma.specs.Root.{rootCheck}
-use Rattle.dma.specs.Translation.{Translation, fault, pageRules, pageStep, widthRules, contextRules, rootRules}
+use Rattle.dma.specs.Translation.{Translation, fault, pageStep, widthRules, translationRules}
 use Rattle.dma.specs.Walk.{Step, done, down, onStep, placeIn, walkRules}
 use Rattle.dma.specs.declared.MemoryRequest.{MemoryRequest}
-use Rattle.dma.proofs.Cases.{check-cases, width-cases}
-use Rattle.dma.proofs.Stages.{valid, three-to-five}
+use Rattle.dma.proofs.Cases.{width-cases}
+use Rattle.dma.proofs.Lookups.{lookup-cases}
 
 -- the rules name at most so many words
 abbrev pub AtMost : ℕ → {A : Type 0} → Rules A → Type 0
@@ -60,40 +58,30 @@ module _ {S A : Type 0} (address : ℕ) (none : A) (step : (level place : ℕ) �
       on (down next t) ih = ih next t
 
 module _ (registers : Registers) (request : MemoryRequest) where
-  few-context : (table : ℕ) → AtMost 7 (contextRules registers (request .address) (request .write) (request .source .id) table)
-  unfolding contextRules
-  few-context table =
-      few-fetch 2 _ 5 _ _
-      (λ e.
-      check-cases (λ q. AtMost 5 q) (contextCheck registers e) (λ reason. fault reason (faultProcessingDisabled e))
-      (widthRules registers (request .address) (request .write) e) (λ reason. few-answer 5 _)
-      (λ top told.
-      width-cases (λ q. AtMost 5 q) registers (request .address) (request .write) e top (λ t _. few-answer 5 t)
+  few-translation : AtMost 9 (translationRules registers (request .address) (request .write) (request .source .id))
+  few-translation =
+      lookup-cases (λ q. AtMost 9 q) (λ q. AtMost 7 q) (λ q. AtMost 5 q) registers fault (widthRules registers (request .address) (request .write))
+      (λ place rest. few-fetch 2 place 7 (fault 0x08 false) rest) (λ reason. few-answer 7 (fault reason false))
+      (λ place rest. few-fetch 2 place 5 (fault 0x09 false) rest) (λ reason fpd. few-answer 5 (fault reason fpd))
+      (λ c good.
+      width-cases (λ q. AtMost 5 q) registers (request .address) (request .write) c (λ t _. few-answer 5 t)
       (λ m.
-      let walk = few-walk (request .address) (fault 0x07 (faultProcessingDisabled e))
-      (pageStep registers (request .address) (request .write) (faultProcessingDisabled e)) (levelsOf e) top tt m in
-      omega (arith, three-to-five registers e (valid registers e told .0)))))
-
-  few-root : AtMost 9 (rootRules registers (request .address) (request .write) (request .source .id))
-  unfolding rootRules
-  few-root =
-      few-fetch 2 _ 7 _ _
-      (λ e.
-      check-cases (λ q. AtMost 7 q) (rootCheck (registers .haw) e) (λ reason. fault reason _)
-      (contextRules registers (request .address) (request .write) (request .source .id)) (λ reason. few-answer 7 _)
-      (λ table told. few-context table))
+      let walk = few-walk (request .address) (fault 0x07 (c .fpd)) (pageStep registers (request .address) (request .write) (c .fpd))
+      (c .levels) (c .top) tt m in
+      omega (arith, good .1)))
+      (request .source .id)
 
 pub at-most-nine : AtMostNine
 unfolding memoryRules
 at-most-nine registers request image = on (admission registers (inInterruptRange (request .address)) (registers .te)) (ofImage image)
   where
     on : (k : Admitted)
-        → AtMost 9 (onAdmission k refused (granted (request .address)) (mapRules (outcome request) (rootRules registers (request .address) (request .write) (request .source .id))))
+        → AtMost 9 (onAdmission k refused (granted (request .address)) (mapRules (outcome request) (translationRules registers (request .address) (request .write) (request .source .id))))
     on (refusal n) = few-answer 9 (refused n)
     on pass = few-answer 9 (granted (request .address))
     on take = λ m.
-        rw (named-map (outcome request) (rootRules registers (request .address) (request .write) (request .source .id)) m)
-        (few-root registers request m)
+        rw (named-map (outcome request) (translationRules registers (request .address) (request .write) (request .source .id)) m)
+        (few-translation registers request m)
 
 pub none-untaken : NoneUntaken
 unfolding memoryRules named
@@ -101,7 +89,7 @@ none-untaken registers request image = on (admission registers (inInterruptRange
   where
     on : (k : Admitted) → k ≡ admission registers (inInterruptRange (request .address)) (registers .te)
         → (take ≡ admission registers (inInterruptRange (request .address)) (registers .te) → ⊥)
-        → named (onAdmission k refused (granted (request .address)) (mapRules (outcome request) (rootRules registers (request .address) (request .write) (request .source .id)))) (ofImage image) ≡ []
+        → named (onAdmission k refused (granted (request .address)) (mapRules (outcome request) (translationRules registers (request .address) (request .write) (request .source .id)))) (ofImage image) ≡ []
     on (refusal n) h not = refl
     on pass h not = refl
     on take h not = absurd (not h)

@@ -20,14 +20,15 @@ use Rattle.registers.specs.Registers.{badRegisters}
 use Rattle.registers.proofs.Good.{good}
 use Rattle.registers.specs.declared.Registers.{Registers}
 use Rattle.dma.specs.Isolation.{answerOver, walkedOver, Disjoint, Apart, Switched, SwitchedOn, SwitchedOff, RightsOn, RightsOff}
+use Rattle.dma.specs.Lookup.{contextRules, rootRules}
 use Rattle.dma.specs.Requests.{MemoryOutcome, granted, outcome, memoryRules, walked, tableEntries}
 use Rattle.dma.specs.Root.{rootCheck}
-use Rattle.dma.specs.Translation.{Translation, through, leaf, fault, contextRules, rootRules}
+use Rattle.dma.specs.Translation.{Translation, through, leaf, fault, translationRules}
 use Rattle.dma.specs.declared.MemoryRequest.{MemoryRequest}
 use Rattle.dma.proofs.Admissions.{refuses, passes, takes}
 use Rattle.dma.proofs.Aligned.{aligned-walked}
 use Rattle.dma.proofs.Raised.{Raised, RaisedFetch, Reaches}
-use Rattle.dma.proofs.Tables.{rootPlace, contextPlace, SameTables, kept-root}
+use Rattle.dma.proofs.Tables.{rootPlace, contextPlace, SameTables, kept-translation}
 
 -- the claims' premise is no stronger than the demand's words: two entries that share no byte are disjoint
 pub unshared : (page table : ℕ) → ((n : ℕ) → page ≤ n → n < page + 8 → table ≤ n → n < table + 16 → ⊥) → Disjoint page table
@@ -91,7 +92,7 @@ flipped off =
 
 module _ (registers : Registers) (request : MemoryRequest) (taken : take ≡ admission registers (inInterruptRange (request .address)) (registers .te)) where
   abbrev rules : Rules Translation
-  rules = rootRules registers (request .address) (request .write) (request .source .id)
+  rules = translationRules registers (request .address) (request .write) (request .source .id)
 
   tables : (m : Memory) → entriesOf 2 rules m ≡ tableEntries registers request m
   unfolding memoryRules
@@ -163,11 +164,11 @@ carried registers request image image′ same raised host = go (admission regist
     go pass h was =
         sym (passes registers request (ofImage image′) refl h) ∙ passes registers request (ofImage image) refl h ∙ was
     go take h was =
-        let now = run (rootRules registers (request .address) (request .write) (request .source .id)) (ofImage image) in
+        let now = run (translationRules registers (request .address) (request .write) (request .source .id)) (ofImage image) in
         let grants : outcome request now ≡ granted host = takes registers request (ofImage image) refl h ∙ was in
         sym (takes registers request (ofImage image′) refl h)
         ∙ ap (outcome request)
-        (kept-root registers request (taken-haw registers _ (registers .te) h) (ofImage image) (ofImage image′) raised now
+        (kept-translation registers request (taken-haw registers _ (registers .te) h) (ofImage image) (ofImage image′) raised now
         (granted-at request now grants) (same h) refl)
         ∙ grants
 

@@ -15,8 +15,8 @@ use Rattle.image.specs.Memory.{Memory, Fetched, missing, found, ofImage, entry}
 use Rattle.image.specs.Rules.{Rules, answer, fetch, run}
 use Rattle.image.proofs.Pages.{in-page}
 use Rattle.registers.specs.declared.Registers.{Registers}
-use Rattle.dma.specs.Context.{addressWidth, levelsOf, translationType, widthSupported, contextReserved, contextInvalid, contextCheck}
-use Rattle.dma.specs.Translation.{Translation, fault}
+use Rattle.dma.specs.Context.{addressWidth, levelsOf, translationType, widthSupported, contextReserved, contextInvalid, contextOf, contextCheck, Usable}
+use Rattle.dma.specs.declared.context.Context.{Context}
 use Rattle.dma.proofs.Steps.{past}
 
 -- an entry taken from its table's page is the one that the rules name
@@ -25,34 +25,34 @@ pub placed : (image : List ℕ) (table : ℕ) {k : ℕ} {f : Fetched} → k < 25
     → f ≡ entry 2 (ofImage image) (table + 16 * k)
 placed image table {k} h fetched = fetched ∙ in-page 4096 image table 2 (16 * k) (omega arith)
 
-module _ (m : Memory) (place : ℕ) (none : Translation) (fpd : ℕ → Bool) (check : ℕ → Check ℕ) (next : ℕ → ℕ → Rules Translation) where
-  abbrev stage : Rules Translation
-  stage = fetch 2 place none (λ e. onCheck (check e) (λ reason. answer (fault reason (fpd e))) (next e))
+module _ {A B : Type 0} (m : Memory) (place : ℕ) (none : A) (faulted : ℕ → Bool → A) (fpd : ℕ → Bool) (check : ℕ → Check B) (next : B → Rules A) where
+  abbrev stage : Rules A
+  stage = fetch 2 place none (λ e. onCheck (check e) (λ reason. answer (faulted reason (fpd e))) next)
 
   pub unfetched : missing ≡ entry 2 m place → none ≡ run stage m
   unfolding run
   unfetched h = rw (← h)
 
   module _ {e : ℕ} (h : found e ≡ entry 2 m place) where
-    pub stopped : {reason : ℕ} → stop reason ≡ check e → fault reason (fpd e) ≡ run stage m
+    pub checked : {k : Check B} → k ≡ check e → run (onCheck k (λ reason. answer (faulted reason (fpd e))) next) m ≡ run stage m
     unfolding run
-    stopped told = rw (← h) (ap (λ (k : Check ℕ). run (onCheck k (λ r. answer (fault r (fpd e))) (next e)) m) told)
+    checked told = rw (← h) (ap (λ (k : Check B). run (onCheck k (λ reason. answer (faulted reason (fpd e))) next) m) told)
 
-    pub passed : {a : ℕ} → go a ≡ check e → run (next e a) m ≡ run stage m
-    unfolding run
-    passed told = rw (← h) (ap (λ (k : Check ℕ). run (onCheck k (λ r. answer (fault r (fpd e))) (next e)) m) told)
+-- rules that only answer
+pub only : {A B : Type 0} (m : Memory) (k : Check B) (stopped : ℕ → A) (gone : B → A)
+    → onCheck k stopped gone ≡ run (onCheck k (λ reason. answer (stopped reason)) (λ b. answer (gone b))) m
+unfolding run
+only m (stop reason) stopped gone = refl
+only m (go b) stopped gone = refl
 
--- a context entry that its check lets pass is past 03h, and leads to the table in its bits 63:12
-pub valid : (registers : Registers) (e : ℕ) {a : ℕ} → contextCheck registers e ≡ go a
-    → (contextInvalid registers e ≡ false) × (go (inPlace e 63 12) ≡ go a)
+-- a context entry that its check lets pass is past 03h, and the context is what it says
+pub valid : (registers : Registers) (e : ℕ) {c : Context} → contextCheck registers e ≡ go c
+    → (contextInvalid registers e ≡ false) × (go (contextOf e) ≡ go c)
 unfolding contextCheck
-valid registers e {a} h =
-    let h1 = past (not (bit e 0)) 0x02 _ a h in
-    let h2 = past (contextReserved (registers .haw) e) 0x0B _ a (h1 .1) in
-    past (contextInvalid registers e) 0x03 _ a (h2 .1)
-
-pub context-table : (registers : Registers) (e : ℕ) {a : ℕ} → contextCheck registers e ≡ go a → a ≡ inPlace e 63 12
-context-table registers e h = let leads = valid registers e h .1 in cc
+valid registers e {c} h =
+    let h1 = past (not (bit e 0)) 0x02 _ c h in
+    let h2 = past (contextReserved (registers .haw) e) 0x0B _ c (h1 .1) in
+    past (contextInvalid registers e) 0x03 _ c (h2 .1)
 
 -- so it has three to five levels
 pub three-to-five : (registers : Registers) (e : ℕ) → contextInvalid registers e ≡ false → levelsOf e ≤ 5
@@ -79,3 +79,10 @@ three-to-five registers e h = one (eqb (addressWidth e) 1) refl h
         → levelsOf e ≤ 5
     one true q h = omega (arith, eqb-true (addressWidth e) 1 q)
     one false q h = two (eqb (addressWidth e) 2) refl h
+
+pub usable : (registers : Registers) (e : ℕ) {c : Context} → contextCheck registers e ≡ go c → Usable c
+usable registers e {c} h =
+    let passed = valid registers e h in
+    let says = passed .1 in
+    let is : c ≡ contextOf e = cc in
+    rw is (omega arith, three-to-five registers e (passed .0), omega arith)

@@ -2,10 +2,13 @@
 use Prim.Native.Nat.{ℕ}
 use Rattle.image.specs.Check.{Check, stop, go}
 use Rattle.faults.specs.Reason.{numberOf}
+use Rattle.dma.specs.Lookup.{Lookup, context, noContext}
 use Rattle.dma.specs.Translation.{Translation, through, leaf, fault}
 use Rattle.dma.specs.Walk.{Step, done, down}
 use Rattle.dma.specs.declared.entry.Check.{Check as CheckCode}
 use Rattle.dma.specs.declared.entry.Check.the-variants as check
+use Rattle.dma.specs.declared.context.Lookup.{Lookup as LookupCode}
+use Rattle.dma.specs.declared.context.Lookup.the-variants as lookup
 use Rattle.dma.specs.declared.translation.Translation.{Translation as TranslationCode}
 use Rattle.dma.specs.declared.translation.Translation.the-variants as translation
 use Rattle.dma.specs.declared.page.Step.{Step as StepCode}
@@ -14,6 +17,10 @@ use Rattle.dma.specs.declared.page.Step.the-variants as step
 abbrev pub checkOf : CheckCode → Check ℕ
 checkOf (check.Stop reason) = stop (numberOf reason)
 checkOf (check.Go address) = go address
+
+abbrev pub lookupOf : LookupCode → Lookup
+lookupOf (lookup.Found c) = context c
+lookupOf (lookup.Fault reason fpd) = noContext (numberOf reason) fpd
 
 abbrev pub translationOf : TranslationCode → Translation
 translationOf translation.Through = through

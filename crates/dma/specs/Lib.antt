@@ -2,6 +2,7 @@ pub mod Answers
 pub mod Checked
 pub mod Context
 pub mod Isolation
+pub mod Lookup
 pub mod Named
 pub mod Page
 pub mod Requests

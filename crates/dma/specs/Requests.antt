@@ -7,7 +7,7 @@ use Rattle.registers.specs.Admission.{admission, onAdmission, inInterruptRange}
 use Rattle.registers.specs.declared.Registers.{Registers}
 use Rattle.faults.specs.Record.{FaultAnswer, memoryFault}
 use Rattle.dma.specs.Page.{hostAddress}
-use Rattle.dma.specs.Translation.{Translation, through, leaf, fault, rootRules}
+use Rattle.dma.specs.Translation.{Translation, through, leaf, fault, translationRules}
 use Rattle.dma.specs.declared.MemoryRequest.{MemoryRequest}
 
 -- document 01's granted, with the host address; blocked, with the fault; refused, by number
@@ -27,7 +27,7 @@ unfoldable pub memoryRules : Registers → MemoryRequest → Rules MemoryOutcome
 memoryRules registers request =
     onAdmission (admission registers (inInterruptRange (request .address)) (registers .te)) refused
     (granted (request .address))
-    (mapRules (outcome request) (rootRules registers (request .address) (request .write) (request .source .id)))
+    (mapRules (outcome request) (translationRules registers (request .address) (request .write) (request .source .id)))
 
 -- document 01's walked entries: the page entries, of one word each, one that faults included; one that couldn't be fetched isn't
 -- among them

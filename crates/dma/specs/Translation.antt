@@ -1,17 +1,16 @@
 -- Document 01, "Memory requests, step by step": from the root entry to a page or a fault, as one rules tree.
 use Prim.Native.Nat.{ℕ, _+_, _*_, _^_, _<_, _≤_, min}
-use mathlib.Core.Bool.{Bool, false}
+use mathlib.Core.Bool.{Bool}
 use lib.Dec.{eqb, leb}
 use Rattle.image.specs.Choice.{if_then_else_}
 use Rattle.image.specs.Memory.{Memory}
-use Rattle.image.specs.Rules.{Rules, answer, fetch}
-use Rattle.registers.specs.Source.{busOf, devfnOf}
+use Rattle.image.specs.Rules.{Rules, answer}
 use Rattle.registers.specs.declared.Registers.{Registers}
-use Rattle.image.specs.Check.{Check, stop, go, onCheck}
-use Rattle.dma.specs.Root.{rootCheck}
-use Rattle.dma.specs.Context.{contextCheck, levelsOf, translationType, faultProcessingDisabled}
+use Rattle.image.specs.Check.{onCheck}
+use Rattle.dma.specs.Lookup.{rootRules}
 use Rattle.dma.specs.Page.{pageCheck, leafAt}
 use Rattle.dma.specs.Walk.{Step, done, down, walkRules, stepOver}
+use Rattle.dma.specs.declared.context.Context.{Context}
 
 -- the address itself, where a context passes through; the frame of a page, with the level of its entry; or a fault with FPD as it
 -- was read by then
@@ -43,21 +42,11 @@ module _ (registers : Registers) (address : ℕ) (write : Bool) where
       walkRules address (fault 0x07 fpd) (pageStep fpd) level table tt
 
   -- X is the smaller of MGAW and AW's 39, 48 or 57 bits. Pass-through then goes no further
-  unfoldable pub widthRules : (e table : ℕ) → Rules Translation
-  widthRules e table =
-      if leb (2 ^ min (registers .mgaw) (12 + 9 * levelsOf e)) address
-      then answer (fault 0x04 (faultProcessingDisabled e))
-      else if eqb (translationType e) 2 then answer through
-      else pageRules (faultProcessingDisabled e) (levelsOf e) table
+  unfoldable pub widthRules : Context → Rules Translation
+  widthRules context =
+      if leb (2 ^ min (registers .mgaw) (12 + 9 * context .levels)) address then answer (fault 0x04 (context .fpd))
+      else if eqb (context .«translation_type») 2 then answer through
+      else pageRules (context .fpd) (context .levels) (context .top)
 
-  unfoldable pub contextRules : (source table : ℕ) → Rules Translation
-  contextRules source table =
-      fetch 2 (table + 16 * devfnOf source) (fault 0x09 false)
-      (λ e.
-      onCheck (contextCheck registers e) (λ reason. answer (fault reason (faultProcessingDisabled e)))
-      (widthRules e))
-
-  unfoldable pub rootRules : (source : ℕ) → Rules Translation
-  rootRules source =
-      fetch 2 (registers .«root_table» + 16 * busOf source) (fault 0x08 false)
-      (λ e. onCheck (rootCheck (registers .haw) e) (λ reason. answer (fault reason false)) (contextRules source))
+  abbrev pub translationRules : (source : ℕ) → Rules Translation
+  translationRules = rootRules registers fault widthRules

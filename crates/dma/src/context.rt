@@ -1,11 +1,11 @@
 // The context entry: 16 bytes for each device and function of a bus.
 ghost use mathlib.Core.Path.{_≡_};
 ghost use Prim.Native.Nat.{_<_};
-ghost use lib.Dec.{eqb};
+ghost use Rattle.image.specs.Bits.{bits};
 ghost use Rattle.image.specs.Entries.{number16};
-ghost use Rattle.dma.specs.Context.{addressWidth, levelsOf, translationType, widthSupported, contextReserved, contextInvalid, contextCheck, faultProcessingDisabled};
-ghost use Rattle.dma.specs.Checked.{checkOf};
-use crate::entry::Check;
+ghost use Rattle.dma.specs.Context.{addressWidth, levelsOf, translationType, widthSupported, contextReserved, contextInvalid, contextOf, faultProcessingDisabled};
+ghost use Rattle.dma.specs.Checked.{lookupOf};
+ghost use Rattle.dma.specs.Lookup.{checkedContext};
 use crate::entry::present;
 use crate::entry::table_address;
 use faults::Reason;
@@ -14,6 +14,26 @@ use image::field;
 use registers::Registers;
 use registers::at_or_above_power;
 
+// What a context entry says.
+pub struct Context {
+    // The top page table's address.
+    pub top: u64,
+    // Of page tables: 3, 4 or 5 where AW is 1, 2 or 3.
+    pub levels: u32,
+    // TT: 0 and 1 translate, 2 passes through.
+    pub translation_type: u8,
+    pub fpd: bool,
+    // No answer depends on it.
+    pub domain: u16,
+}
+
+// What a lookup of a source's context finds.
+pub enum Lookup {
+    Found(Context),
+    // Why there is none, and FPD as it was read by then.
+    Fault(Reason, bool),
+}
+
 // AW, bits 66:64.
 fn address_width(e: Entry16) -> u64
     ensures { λ r. ⌜ (r ≡ addressWidth (number16 e)) × (r < 8) ⌝ }
@@ -21,24 +41,18 @@ fn address_width(e: Entry16) -> u64
     field(e.high, 2, 0)
 }
 
-// Of page tables: 3, 4 or 5 where AW is 1, 2 or 3.
-pub(crate) fn levels(e: Entry16) -> u32
-    ensures { λ r. ⌜ (r ≡ levelsOf (number16 e)) × (r < 10) ⌝ }
-{
-    address_width(e) as u32 + 2
-}
-
 // TT, bits 3:2.
 fn translation_type(e: Entry16) -> u64
-    ensures { λ r. ⌜ r ≡ translationType (number16 e) ⌝ }
+    ensures { λ r. ⌜ (r ≡ translationType (number16 e)) × (r < 4) ⌝ }
 {
     field(e.low, 3, 2)
 }
 
-pub(crate) fn passes_through(e: Entry16) -> bool
-    ensures { λ r. ⌜ r ≡ eqb (translationType (number16 e)) 2 ⌝ }
+// Bits 87:72.
+fn domain(e: Entry16) -> u64
+    ensures { λ r. ⌜ (r ≡ bits (number16 e) 87 72) × (r < 65536) ⌝ }
 {
-    translation_type(e) == 2
+    field(e.high, 23, 8)
 }
 
 fn width_supported(registers: Registers, aw: u64) -> bool
@@ -76,24 +90,36 @@ fn context_invalid(registers: Registers, e: Entry16) -> bool
 }
 
 // FPD, bit 1, read whether the entry is present or not.
-pub(crate) fn fault_processing_disabled(e: Entry16) -> bool
+fn fault_processing_disabled(e: Entry16) -> bool
     ensures { λ r. ⌜ r ≡ faultProcessingDisabled (number16 e) ⌝ }
 {
     field(e.low, 1, 1) == 1
 }
 
-// The top page table's address.
-pub(crate) fn context_check(registers: Registers, e: Entry16) -> Check
-    ensures { λ r. ⌜ checkOf r ≡ contextCheck registers (number16 e) ⌝ }
+fn context_of(e: Entry16) -> Context
+    ensures { λ r. ⌜ r ≡ contextOf (number16 e) ⌝ }
 {
+    Context {
+        top: table_address(e),
+        levels: address_width(e) as u32 + 2,
+        translation_type: translation_type(e) as u8,
+        fpd: fault_processing_disabled(e),
+        domain: domain(e) as u16,
+    }
+}
+
+pub(crate) fn context_check(registers: Registers, e: Entry16) -> Lookup
+    ensures { λ r. ⌜ lookupOf r ≡ checkedContext registers (number16 e) ⌝ }
+{
+    let fpd = fault_processing_disabled(e);
     if !present(e) {
-        return Check::Stop(Reason::ContextNotPresent);
+        return Lookup::Fault(Reason::ContextNotPresent, fpd);
     }
     if context_reserved(registers.haw, e) {
-        return Check::Stop(Reason::ContextReserved);
+        return Lookup::Fault(Reason::ContextReserved, fpd);
     }
     if context_invalid(registers, e) {
-        return Check::Stop(Reason::ContextInvalid);
+        return Lookup::Fault(Reason::ContextInvalid, fpd);
     }
-    Check::Go(table_address(e))
+    Lookup::Found(context_of(e))
 }

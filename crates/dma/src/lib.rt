@@ -9,6 +9,7 @@ ghost use Rattle.dma.specs.Requests.{outcome, memoryRules};
 
 mod context;
 mod entry;
+mod lookup;
 mod page;
 mod root;
 mod translation;

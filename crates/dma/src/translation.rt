@@ -1,25 +1,17 @@
 // From the root entry to a page or a fault.
-ghost use mathlib.Core.Bool.{false};
 ghost use mathlib.Core.Path.{_≡_};
 ghost use Prim.Native.Nat.{min};
-ghost use Rattle.dma.specs.Context.{contextInvalid};
-ghost use Rattle.image.specs.Entries.{number16};
+ghost use Rattle.dma.specs.Context.{Usable};
 ghost use Rattle.image.specs.Memory.{ofImage};
 ghost use Rattle.image.specs.Rules.{run};
 ghost use Rattle.dma.specs.Checked.{translationOf};
-ghost use Rattle.dma.specs.Translation.{widthRules, contextRules, rootRules};
+ghost use Rattle.dma.specs.Translation.{widthRules, translationRules};
 use crate::MemoryRequest;
-use crate::context::context_check;
-use crate::context::fault_processing_disabled;
-use crate::context::levels;
-use crate::context::passes_through;
-use crate::entry::Check;
-use crate::root::root_check;
+use crate::context::Context;
+use crate::context::Lookup;
+use crate::lookup::find_context;
 use crate::walk::walk;
 use faults::Reason;
-use image::Entry16;
-use image::Found16;
-use image::page_entry16;
 use registers::Registers;
 use registers::at_or_above_power;
 
@@ -38,58 +30,34 @@ fn smaller(a: u32, b: u32) -> u32
     if a < b { a } else { b }
 }
 
-// From a context entry that its check let pass: the width, then pass-through or the walk.
-fn translate_width(
+// In a context: the width, then pass-through or the walk.
+fn translate_in(
     image: &[u8],
     registers: Registers,
     request: MemoryRequest,
-    e: Entry16,
-    table: u64,
+    context: Context,
 ) -> Translation
-    requires { ⌜ contextInvalid registers (number16 e) ≡ false ⌝ }
-    ensures { λ r. ⌜ translationOf r ≡ run (widthRules registers (request .address) (request .write) (number16 e) table) (ofImage (now (image .entry))) ⌝ }
+    requires { ⌜ Usable context ⌝ }
+    ensures { λ r. ⌜ translationOf r ≡ run (widthRules registers (request .address) (request .write) context) (ofImage (now (image .entry))) ⌝ }
 {
-    let fpd = fault_processing_disabled(e);
-    let depth = levels(e);
+    let levels = context.levels;
     if at_or_above_power(
         request.address,
-        smaller(registers.mgaw as u32, 12 + 9 * depth),
+        smaller(registers.mgaw as u32, 12 + 9 * levels),
     ) {
-        return Translation::Fault(Reason::AddressOverflow, fpd);
+        return Translation::Fault(Reason::AddressOverflow, context.fpd);
     }
-    if passes_through(e) {
+    if context.translation_type == 2 {
         return Translation::Through;
     }
-    walk(image, registers, request, fpd, depth, table)
-}
-
-fn translate_context(
-    image: &[u8],
-    registers: Registers,
-    request: MemoryRequest,
-    table: u64,
-) -> Translation
-    ensures { λ r. ⌜ translationOf r ≡ run (contextRules registers (request .address) (request .write) (request .source .id) table) (ofImage (now (image .entry))) ⌝ }
-{
-    let devfn = request.source.devfn();
-    let Found16::Entry(e) = page_entry16(image, table, 16 * devfn as u64) else {
-        return Translation::Fault(Reason::ContextAccess, false);
-    };
-    match context_check(registers, e) {
-        Check::Stop(reason) => Translation::Fault(reason, fault_processing_disabled(e)),
-        Check::Go(top) => translate_width(image, registers, request, e, top),
-    }
+    walk(image, registers, request, context.fpd, levels, context.top)
 }
 
 pub(crate) fn translate(image: &[u8], registers: Registers, request: MemoryRequest) -> Translation
-    ensures { λ r. ⌜ translationOf r ≡ run (rootRules registers (request .address) (request .write) (request .source .id)) (ofImage (now (image .entry))) ⌝ }
+    ensures { λ r. ⌜ translationOf r ≡ run (translationRules registers (request .address) (request .write) (request .source .id)) (ofImage (now (image .entry))) ⌝ }
 {
-    let bus = request.source.bus();
-    let Found16::Entry(e) = page_entry16(image, registers.root_table, 16 * bus as u64) else {
-        return Translation::Fault(Reason::RootAccess, false);
-    };
-    match root_check(registers.haw, e) {
-        Check::Stop(reason) => Translation::Fault(reason, false),
-        Check::Go(table) => translate_context(image, registers, request, table),
+    match find_context(image, registers, request.source) {
+        Lookup::Fault(reason, fpd) => Translation::Fault(reason, fpd),
+        Lookup::Found(context) => translate_in(image, registers, request, context),
     }
 }

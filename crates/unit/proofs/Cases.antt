@@ -13,7 +13,8 @@ use Rattle.dma.specs.Context.{contextReserved, contextInvalid, contextCheck}
 use Rattle.dma.specs.Page.{pageReserved, pageCheck}
 use Rattle.dma.specs.Requests.{memoryRules}
 use Rattle.dma.specs.Root.{rootReserved, rootCheck}
-use Rattle.dma.specs.Translation.{widthRules, contextRules, rootRules}
+use Rattle.dma.specs.Lookup.{contextRules, rootRules}
+use Rattle.dma.specs.Translation.{widthRules}
 use Rattle.dma.specs.Walk.{walkRules}
 use Rattle.interrupts.specs.Descriptor.{descriptorCheck}
 use Rattle.interrupts.specs.Interrupts.{descriptorRules, entryRules, indexRules, requestRules, interruptRules}

@@ -24,7 +24,8 @@ use Rattle.dma.specs.Page.{pageReserved, pageCheck}
 use Rattle.dma.specs.Requests.{MemoryOutcome, granted, blocked, memoryRules, walked, tableEntries}
 use Rattle.dma.specs.Root.{rootReserved, rootCheck}
 use Rattle.image.proofs.Longer.{longer}
-use Rattle.dma.specs.Translation.{widthRules, contextRules, rootRules}
+use Rattle.dma.specs.Lookup.{contextRules, rootRules}
+use Rattle.dma.specs.Translation.{widthRules}
 use Rattle.dma.specs.Walk.{walkRules}
 use Rattle.dma.specs.declared.MemoryRequest.{MemoryRequest}
 use Rattle.interrupts.specs.Claims.{outcome, namedWords, AccessFault}

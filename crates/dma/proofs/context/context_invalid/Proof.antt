@@ -15,7 +15,7 @@ translation-type-requires c κs = search needs
 
 returns : tie.Need-returns
 unfolding contextInvalid
-returns c = rw (c .before .width-supported .ensures, c .before .before .address-width .ensures .0, c .translation-type .ensures)
+returns c = rw (c .before .width-supported .ensures, c .before .before .address-width .ensures .0, c .translation-type .ensures .0)
 
 pub context-invalid-spec : {M : Type 1} → statement M
 context-invalid-spec =

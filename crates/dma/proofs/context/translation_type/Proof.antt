@@ -15,7 +15,7 @@ returns c =
     let s = c .before in
     let low : s .args .e .low < 2 ^ 64 = omega arith in
     let high : s .args .e .high < 2 ^ 64 = omega arith in
-    c .field .ensures ∙ sym (low-field low high 3 2 (lit< tt))
+    (c .field .ensures ∙ sym (low-field low high 3 2 (lit< tt)), omega (arith, c .field .ensures, fits (s .args .e .low) 3 2))
 
 pub translation-type-spec : {M : Type 1} → statement M
 translation-type-spec = tie.close (tie.spec field-requires returns)

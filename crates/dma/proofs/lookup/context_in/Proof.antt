@@ -1,0 +1,72 @@
+use Prim.Native.Nat.{ℕ, _+_, _*_}
+use mathlib.Core.Bool.{Bool, false}
+use mathlib.Core.Path.{_≡_, refl, ap, sym, _∙_}
+use native.Mathlib.Omega.{arith}
+use Rattle.image.specs.Entries.{fetched16, number16}
+use Rattle.image.specs.Memory.{found, ofImage, entry}
+use Rattle.image.specs.Rules.{answer}
+use Rattle.registers.specs.Source.{busOf, devfnOf}
+use Rattle.dma.specs.Context.{contextCheck, faultProcessingDisabled}
+use Rattle.dma.specs.Lookup.{context, noContext, contextRules}
+use Rattle.dma.proofs.Stages.{placed, unfetched, checked, only}
+use borrow.Author.Needs.{needs}
+use Rattle.dma.proofs.lookup.context_in.Statement.{statement}
+use Rattle.dma.proofs.lookup.context_in.Tie as tie
+
+devfn-requires : tie.Need-devfn-requires
+devfn-requires c κs = search needs
+
+cast-page-entry16 : tie.Need-cast-page-entry16
+cast-page-entry16 c = search needs
+
+mul-page-entry16 : tie.Need-mul-page-entry16
+mul-page-entry16 c = search needs
+
+page-entry16-requires : tie.Need-page-entry16-requires
+page-entry16-requires c κs = search needs
+
+enum-known-e : tie.Need-enum-known-e
+enum-known-e c = search needs
+
+enum-told : tie.Need-enum-told
+enum-told c = search needs
+
+place : (c : tie.After-page-entry16)
+    → fetched16 (c .page-entry16 .result)
+    ≡ entry 2 (ofImage (c .before .before .before .args .image .now)) (c .before .before .before .args .table + 16 * devfnOf (c .before .before .before .args .source .id))
+place c =
+    let a = c .before .before .before .args in
+    rw (← c .before .devfn .ensures)
+    (placed (a .image .now) (a .table) (omega arith) (c .page-entry16 .ensures))
+
+returns : tie.Need-returns
+unfolding contextRules
+returns c =
+    let a = c .before .before .before .before .before .args in
+    unfetched (ofImage (a .image .now)) (a .table + 16 * devfnOf (a .source .id)) (noContext 0x09 false) noContext faultProcessingDisabled (contextCheck (a .registers)) (λ c. answer (context c)) (sym (ap fetched16 (c .enum-told .given .1)) ∙ place (c .before .before))
+
+context-check-requires : tie.Need-context-check-requires
+context-check-requires c κs = search needs
+
+returns-2 : tie.Need-returns-2
+unfolding contextRules
+returns-2 c =
+    let a = c .before .before .before .before .before .before .before .args in
+    let e = number16 (c .before .before .e .given .0 .0) in
+    c .context-check .ensures
+    ∙ only (ofImage (a .image .now)) (contextCheck (a .registers) e) (λ reason. noContext reason (faultProcessingDisabled e)) context
+    ∙ checked (ofImage (a .image .now)) (a .table + 16 * devfnOf (a .source .id)) (noContext 0x09 false) noContext faultProcessingDisabled (contextCheck (a .registers)) (λ c. answer (context c)) (sym (ap fetched16 (c .before .before .e .given .1)) ∙ place (c .before .before .before .before)) refl
+
+pub context-in-spec : {M : Type 1} → statement M
+context-in-spec =
+    tie.close
+    (tie.spec
+    devfn-requires
+    cast-page-entry16
+    mul-page-entry16
+    page-entry16-requires
+    enum-known-e
+    enum-told
+    returns
+    context-check-requires
+    returns-2)

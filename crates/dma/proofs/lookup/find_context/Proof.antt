@@ -1,0 +1,89 @@
+use Prim.Native.Nat.{ℕ, _+_, _*_}
+use mathlib.Core.Bool.{Bool, false}
+use mathlib.Core.Path.{_≡_, refl, ap, sym, _∙_}
+use native.Mathlib.Omega.{arith}
+use Rattle.image.specs.Entries.{fetched16, number16}
+use Rattle.image.specs.Memory.{found, ofImage, entry}
+use Rattle.image.specs.Rules.{answer, run}
+use Rattle.registers.specs.Source.{busOf, devfnOf}
+use Rattle.dma.specs.Checked.{checkOf}
+use Rattle.dma.specs.Lookup.{context, noContext, contextRules, rootRules}
+use Rattle.dma.specs.Root.{rootCheck}
+use Rattle.dma.proofs.Stages.{placed, unfetched, checked}
+use borrow.Author.Needs.{needs}
+use Rattle.dma.proofs.lookup.find_context.Statement.{statement}
+use Rattle.dma.proofs.lookup.find_context.Tie as tie
+
+bus-requires : tie.Need-bus-requires
+bus-requires c κs = search needs
+
+cast-page-entry16 : tie.Need-cast-page-entry16
+cast-page-entry16 c = search needs
+
+mul-page-entry16 : tie.Need-mul-page-entry16
+mul-page-entry16 c = search needs
+
+page-entry16-requires : tie.Need-page-entry16-requires
+page-entry16-requires c κs = search needs
+
+enum-known-e : tie.Need-enum-known-e
+enum-known-e c = search needs
+
+enum-told : tie.Need-enum-told
+enum-told c = search needs
+
+place : (c : tie.After-page-entry16)
+    → fetched16 (c .page-entry16 .result)
+    ≡ entry 2 (ofImage (c .before .before .before .args .image .now)) (c .before .before .before .args .registers .«root_table» + 16 * busOf (c .before .before .before .args .source .id))
+place c =
+    let a = c .before .before .before .args in
+    rw (← c .before .bus .ensures)
+    (placed (a .image .now) (a .registers .«root_table») (omega arith) (c .page-entry16 .ensures))
+
+returns : tie.Need-returns
+unfolding rootRules
+returns c =
+    let a = c .before .before .before .before .before .args in
+    unfetched (ofImage (a .image .now)) (a .registers .«root_table» + 16 * busOf (a .source .id)) (noContext 0x08 false) noContext (λ (e : ℕ). false) (rootCheck (a .registers .haw)) (contextRules (a .registers) noContext (λ c. answer (context c)) (a .source .id)) (sym (ap fetched16 (c .enum-told .given .1)) ∙ place (c .before .before))
+
+root-check-requires : tie.Need-root-check-requires
+root-check-requires c κs = search needs
+
+enum-known-reason : tie.Need-enum-known-reason
+enum-known-reason c = search needs
+
+enum-known-table : tie.Need-enum-known-table
+enum-known-table c = search needs
+
+context-in-requires : tie.Need-context-in-requires
+context-in-requires c κs = search needs
+
+returns-2 : tie.Need-returns-2
+unfolding rootRules run
+returns-2 c =
+    let a = c .before .before .before .before .before .before .before .before .before .before .args in
+    checked (ofImage (a .image .now)) (a .registers .«root_table» + 16 * busOf (a .source .id)) (noContext 0x08 false) noContext (λ (e : ℕ). false) (rootCheck (a .registers .haw)) (contextRules (a .registers) noContext (λ c. answer (context c)) (a .source .id)) (sym (ap fetched16 (c .before .before .before .before .before .e .given .1)) ∙ place (c .before .before .before .before .before .before .before)) (sym (ap checkOf (c .before .reason .given .1)) ∙ c .before .before .before .root-check .ensures)
+
+returns-3 : tie.Need-returns-3
+unfolding rootRules
+returns-3 c =
+    let a = c .before .before .before .before .before .before .before .before .before .before .before .args in
+    c .context-in .ensures ∙ checked (ofImage (a .image .now)) (a .registers .«root_table» + 16 * busOf (a .source .id)) (noContext 0x08 false) noContext (λ (e : ℕ). false) (rootCheck (a .registers .haw)) (contextRules (a .registers) noContext (λ c. answer (context c)) (a .source .id)) (sym (ap fetched16 (c .before .before .before .before .before .before .e .given .1)) ∙ place (c .before .before .before .before .before .before .before .before)) (sym (ap checkOf (c .before .before .table .given .1)) ∙ c .before .before .before .before .root-check .ensures)
+
+pub find-context-spec : {M : Type 1} → statement M
+find-context-spec =
+    tie.close
+    (tie.spec
+    bus-requires
+    cast-page-entry16
+    mul-page-entry16
+    page-entry16-requires
+    enum-known-e
+    enum-told
+    returns
+    root-check-requires
+    enum-known-reason
+    enum-known-table
+    context-in-requires
+    returns-2
+    returns-3)

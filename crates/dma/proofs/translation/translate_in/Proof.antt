@@ -1,0 +1,51 @@
+use mathlib.Core.Path.{_≡_, refl, ap, sym, _∙_}
+use borrow.Author.Tests.{eq-eqb, ne-eqb}
+use Rattle.image.specs.Rules.{run}
+use Rattle.dma.specs.Translation.{widthRules}
+use borrow.Author.Needs.{needs}
+use Rattle.dma.proofs.translation.translate_in.Statement.{statement}
+use Rattle.dma.proofs.translation.translate_in.Tie as tie
+
+cast-smaller : tie.Need-cast-smaller
+cast-smaller c = search needs
+
+mul-smaller : tie.Need-mul-smaller
+mul-smaller c = search needs
+
+add-smaller : tie.Need-add-smaller
+add-smaller c = search needs
+
+smaller-requires : tie.Need-smaller-requires
+smaller-requires c κs = search needs
+
+at-or-above-power-requires : tie.Need-at-or-above-power-requires
+at-or-above-power-requires c κs = search needs
+
+returns : tie.Need-returns
+unfolding widthRules run
+returns c = rw (← c .before .before .smaller .ensures, ← c .before .at-or-above-power .ensures, c .if1 .taken)
+
+returns-2 : tie.Need-returns-2
+unfolding widthRules run
+returns-2 c = rw (← c .before .before .before .before .smaller .ensures, ← c .before .before .before .at-or-above-power .ensures, c .before .before .if1 .left, eq-eqb _ _ (c .if2 .taken))
+
+walk-requires : tie.Need-walk-requires
+walk-requires c κs = search needs
+
+returns-3 : tie.Need-returns-3
+unfolding widthRules run
+returns-3 c = rw (← c .before .before .before .before .before .smaller .ensures, ← c .before .before .before .before .at-or-above-power .ensures, c .before .before .before .if1 .left, ne-eqb _ _ (c .before .if2 .left)) (c .walk .ensures)
+
+pub translate-in-spec : {M : Type 1} → statement M
+translate-in-spec =
+    tie.close
+    (tie.spec
+    cast-smaller
+    mul-smaller
+    add-smaller
+    smaller-requires
+    at-or-above-power-requires
+    returns
+    returns-2
+    walk-requires
+    returns-3)

@@ -1,0 +1,39 @@
+// From the root entry to a source's context.
+ghost use mathlib.Core.Bool.{false};
+ghost use mathlib.Core.Path.{_≡_};
+ghost use Rattle.image.specs.Memory.{ofImage};
+ghost use Rattle.image.specs.Rules.{run, answer};
+ghost use Rattle.dma.specs.Checked.{lookupOf};
+ghost use Rattle.dma.specs.Lookup.{context, noContext, contextRules, lookupRules};
+use crate::context::Lookup;
+use crate::context::context_check;
+use crate::entry::Check;
+use crate::root::root_check;
+use faults::Reason;
+use image::Found16;
+use image::page_entry16;
+use registers::Registers;
+use registers::SourceId;
+
+fn context_in(image: &[u8], registers: Registers, source: SourceId, table: u64) -> Lookup
+    ensures { λ r. ⌜ lookupOf r ≡ run (contextRules registers noContext (λ c. answer (context c)) (source .id) table) (ofImage (now (image .entry))) ⌝ }
+{
+    let devfn = source.devfn();
+    let Found16::Entry(e) = page_entry16(image, table, 16 * devfn as u64) else {
+        return Lookup::Fault(Reason::ContextAccess, false);
+    };
+    context_check(registers, e)
+}
+
+pub(crate) fn find_context(image: &[u8], registers: Registers, source: SourceId) -> Lookup
+    ensures { λ r. ⌜ lookupOf r ≡ run (lookupRules registers (source .id)) (ofImage (now (image .entry))) ⌝ }
+{
+    let bus = source.bus();
+    let Found16::Entry(e) = page_entry16(image, registers.root_table, 16 * bus as u64) else {
+        return Lookup::Fault(Reason::RootAccess, false);
+    };
+    match root_check(registers.haw, e) {
+        Check::Stop(reason) => Lookup::Fault(reason, false),
+        Check::Go(table) => context_in(image, registers, source, table),
+    }
+}
