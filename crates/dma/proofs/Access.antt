@@ -1,6 +1,6 @@
 -- Demand 3, claim 1, for memory requests: every answer to an entry that can't be fetched is an access fault, so any other
 -- answer is settled by the named words.
-use Prim.Native.Nat.{ℕ, zero, suc}
+use Prim.Native.Nat.{ℕ}
 use mathlib.Core.Bool.{Bool, true, false}
 use mathlib.Core.Path.{_≡_, refl, sym, _∙_}
 use native.Mathlib.Omega.{arith}
@@ -13,22 +13,10 @@ use Rattle.faults.specs.Record.{FaultAnswer, memoryFault}
 use Rattle.dma.specs.Isolation.{accessFault, answerOver, Locality}
 use Rattle.dma.specs.Requests.{MemoryOutcome, granted, blocked, refused, outcome, memoryRules}
 use Rattle.dma.specs.Translation.{Translation, fault, pageStep, widthRules, translationRules}
-use Rattle.dma.specs.Walk.{Step, done, down, onStep, placeIn, walkRules}
 use Rattle.dma.specs.declared.MemoryRequest.{MemoryRequest}
 use Rattle.dma.proofs.Cases.{width-cases}
 use Rattle.dma.proofs.Lookups.{lookup-cases}
-
--- a walk over any format of its entries
-module _ {S A : Type 0} (Kind : A → Type 0) (address : ℕ) (none : A) (step : (level place : ℕ) → S → (e : ℕ) → Step S A) (h : Kind none) where
-  pub outside-walk : (level table : ℕ) (s : S) → Outside Kind (walkRules address none step level table s)
-  unfolding walkRules Outside
-  outside-walk zero table s = tt
-  outside-walk (suc n) table s = (h, λ e. on (step (suc n) (placeIn address table n) s e) (outside-walk n))
-    where
-      on : (x : Step S A) → ((next : ℕ) (t : S) → Outside Kind (walkRules address none step n next t))
-          → Outside Kind (onStep x answer (walkRules address none step n))
-      on (done a) ih = tt
-      on (down next t) ih = ih next t
+use Rattle.dma.proofs.Walks.{outside-walk}
 
 module _ (registers : Registers) (request : MemoryRequest) where
   abbrev Access : Translation → Type 0
@@ -42,7 +30,7 @@ module _ (registers : Registers) (request : MemoryRequest) where
       (λ reason fpd. tt)
       (λ c _.
       width-cases (Outside Access) registers (request .address) (request .write) c (λ t _. tt)
-      (outside-walk Access (request .address) (fault 0x07 (c .fpd)) (pageStep registers (request .address) (request .write) (c .fpd)) refl
+      (outside-walk (request .address) (fault 0x07 (c .fpd)) (pageStep registers (request .address) (request .write) (c .fpd)) Access refl
       (c .levels) (c .top) tt))
       (request .source .id)
 

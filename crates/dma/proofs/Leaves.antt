@@ -5,32 +5,16 @@ use mathlib.Core.Path.{_≡_, refl, sym, _∙_}
 use native.Mathlib.Omega.{arith}
 use Rattle.image.specs.Check.{Check, stop, go, onCheck}
 use Rattle.image.specs.Choice.{if_then_else_}
-use Rattle.image.specs.Rules.{answer}
 use Rattle.registers.specs.declared.Registers.{Registers}
 use Rattle.dma.specs.Page.{pageCheck, leafAt}
 use Rattle.dma.specs.Translation.{Translation, leaf, fault, Reachable, pageStep, widthRules, translationRules}
-use Rattle.dma.specs.Walk.{Step, done, down, onStep, placeIn, walkRules}
+use Rattle.dma.specs.Walk.{Step, done, down}
 use Rattle.dma.specs.declared.MemoryRequest.{MemoryRequest}
 use Rattle.dma.proofs.Cases.{width-cases}
-use Rattle.dma.proofs.Lookups.{Answers, answers-answer, answers-fetch, lookup-cases}
+use Rattle.dma.proofs.Lookups.{lookup-cases}
+use Rattle.dma.proofs.Properties.{Answers, answers-answer, answers-fetch}
+use Rattle.dma.proofs.Walks.{answers-walk}
 use Rattle.dma.proofs.Steps.{page-frame-lt}
-
--- a walk over any format, of so many levels
-module _ {S A : Type 0} (P : A → Type 0) (address : ℕ) (none : A) (step : (level place : ℕ) → S → (e : ℕ) → Step S A) (h : P none) (most : ℕ)
-    (steps : (n place : ℕ) (s : S) (e : ℕ) (a : A) → n < most → done a ≡ step (suc n) place s e → P a) where
-  answers-walk : (level table : ℕ) (s : S) → level ≤ most → Answers P (walkRules address none step level table s)
-  unfolding walkRules
-  answers-walk zero table s few = answers-answer P none h
-  answers-walk (suc n) table s few =
-      answers-fetch P 1 (placeIn address table n) none
-      (λ e. onStep (step (suc n) (placeIn address table n) s e) answer (walkRules address none step n)) h
-      (λ e. on e (step (suc n) (placeIn address table n) s e) refl (λ next t. answers-walk n next t (omega arith)))
-    where
-      on : (e : ℕ) (x : Step S A) → x ≡ step (suc n) (placeIn address table n) s e
-          → ((next : ℕ) (t : S) → Answers P (walkRules address none step n next t))
-          → Answers P (onStep x answer (walkRules address none step n))
-      on e (done a) told ih = answers-answer P a (steps n (placeIn address table n) s e a (omega arith) told)
-      on e (down next t) told ih = ih next t
 
 module _ (registers : Registers) (request : MemoryRequest) where
   reachable-step : (fpd : Bool) (n place : ℕ) (s : Unit {0}) (e : ℕ) (t : Translation) → n < 5
@@ -56,6 +40,6 @@ module _ (registers : Registers) (request : MemoryRequest) where
       (λ reason fpd. answers-answer Reachable (fault reason fpd) tt)
       (λ c good.
       width-cases (Answers Reachable) registers (request .address) (request .write) c (answers-answer Reachable)
-      (answers-walk Reachable (request .address) (fault 0x07 (c .fpd)) (pageStep registers (request .address) (request .write) (c .fpd)) tt 5
+      (answers-walk (request .address) (fault 0x07 (c .fpd)) (pageStep registers (request .address) (request .write) (c .fpd)) Reachable tt 5
       (reachable-step (c .fpd)) (c .levels) (c .top) tt (good .1)))
       (request .source .id)

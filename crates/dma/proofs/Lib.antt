@@ -7,6 +7,7 @@ pub mod Injective
 pub mod Leaves
 pub mod Lookups
 pub mod Nine
+pub mod Properties
 pub mod Raised
 pub mod Reserved
 pub mod Rights
@@ -14,3 +15,4 @@ pub mod Stages
 pub mod Stepped
 pub mod Steps
 pub mod Tables
+pub mod Walks

@@ -12,24 +12,8 @@ use Rattle.dma.specs.Lookup.{Lookup, context, noContext, onLookup, conte
 use Rattle.dma.specs.Root.{rootCheck}
 use Rattle.dma.specs.declared.context.Context.{Context}
 use Rattle.dma.proofs.Cases.{check-cases}
+use Rattle.dma.proofs.Properties.{Answers, answers-answer, answers-fetch}
 use Rattle.dma.proofs.Stages.{usable}
-
--- the rules answer so, over any memory
-abbrev pub Answers : {A : Type 0} → (A → Type 0) → Rules A → Type 0
-Answers P q = (m : Memory) → P (run q m)
-
-module _ {A : Type 0} (P : A → Type 0) where
-  pub answers-answer : (a : A) → P a → Answers P (answer a)
-  unfolding run
-  answers-answer a h m = h
-
-  pub answers-fetch : (words place : ℕ) (none : A) (next : ℕ → Rules A) → P none → ((e : ℕ) → Answers P (next e)) → Answers P (fetch words place none next)
-  unfolding run
-  answers-fetch words place none next h rest m = go (entry words m place)
-    where
-      go : (f : Fetched) → P (onFetch f none (λ e. run (next e) m))
-      go missing = h
-      go (found e) = rest e m
 
 -- what holds of the rules after a context holds of the whole, for any property of rules that a fetch keeps: P of the whole, Q after the
 -- root entry, R after the context entry

@@ -1,61 +1,22 @@
 -- Document 01: never more than nine words for a memory request; and with TE off, or refused, none.
-use Prim.Native.Nat.{ℕ, zero, suc, _+_, _≤_}
+use Prim.Native.Nat.{ℕ}
 use mathlib.Core.Bool.{Bool, true, false}
 use mathlib.Core.Path.{_≡_, refl, ap, sym, _∙_}
 use mathlib.Core.List.{List, [], _∷_, _++_}
 use native.Mathlib.Omega.{arith}
-use lib.Dec.{lit≤}
-use lib.ListN.{length, length-append}
-use Rattle.image.specs.Memory.{Memory, Fetched, missing, found, entry, onFetch, ofImage}
-use Rattle.image.specs.Rules.{Rules, answer, fetch, mapRules, named, wordsFrom}
+use Rattle.image.specs.Memory.{ofImage}
+use Rattle.image.specs.Rules.{mapRules, named}
 use Rattle.image.proofs.Trees.{named-map}
 use Rattle.registers.specs.Admission.{Admitted, refusal, pass, take, admission, onAdmission, inInterruptRange}
 use Rattle.registers.specs.declared.Registers.{Registers}
 use Rattle.dma.specs.Named.{AtMostNine, NoneUntaken}
 use Rattle.dma.specs.Requests.{MemoryOutcome, granted, refused, outcome, memoryRules}
 use Rattle.dma.specs.Translation.{Translation, fault, pageStep, widthRules, translationRules}
-use Rattle.dma.specs.Walk.{Step, done, down, onStep, placeIn, walkRules}
 use Rattle.dma.specs.declared.MemoryRequest.{MemoryRequest}
 use Rattle.dma.proofs.Cases.{width-cases}
 use Rattle.dma.proofs.Lookups.{lookup-cases}
-
--- the rules name at most so many words
-abbrev pub AtMost : ℕ → {A : Type 0} → Rules A → Type 0
-AtMost n q = (m : Memory) → length (named q m) ≤ n
-
-length-words : (n a : ℕ) → length (wordsFrom n a) ≡ n
-unfolding wordsFrom
-length-words zero a = refl
-length-words (suc n) a = ap suc (length-words n (a + 8))
-
-few-answer : (n : ℕ) {A : Type 0} (b : A) → AtMost n (answer b)
-unfolding named
-few-answer n b m = omega arith
-
-few-fetch : (words place n : ℕ) {A : Type 0} (none : A) (next : ℕ → Rules A) → ((e : ℕ) → AtMost n (next e))
-    → AtMost (words + n) (fetch words place none next)
-unfolding named
-few-fetch words place n none next rest m = go (entry words m place)
-  where
-    go : (f : Fetched) → length (onFetch f [] (λ e. wordsFrom words place ++ named (next e) m)) ≤ words + n
-    go missing = omega arith
-    go (found e) =
-        rw (length-append (wordsFrom words place) (named (next e) m), length-words words place) (omega (arith, rest e m))
-
-module _ {S A : Type 0} (address : ℕ) (none : A) (step : (level place : ℕ) → S → (e : ℕ) → Step S A) where
-  few-walk : (level table : ℕ) (s : S) → AtMost level (walkRules address none step level table s)
-  unfolding walkRules
-  few-walk zero table s m = few-answer 0 none m
-  few-walk (suc n) table s m =
-      let one = few-fetch 1 (placeIn address table n) n none
-      (λ e. onStep (step (suc n) (placeIn address table n) s e) answer (walkRules address none step n))
-      (λ e. on (step (suc n) (placeIn address table n) s e) (few-walk n)) m in
-      omega arith
-    where
-      on : (x : Step S A) → ((next : ℕ) (t : S) → AtMost n (walkRules address none step n next t))
-          → AtMost n (onStep x answer (walkRules address none step n))
-      on (done a) ih = few-answer n a
-      on (down next t) ih = ih next t
+use Rattle.dma.proofs.Properties.{AtMost, few-answer, few-fetch}
+use Rattle.dma.proofs.Walks.{few-walk}
 
 module _ (registers : Registers) (request : MemoryRequest) where
   few-translation : AtMost 9 (translationRules registers (request .address) (request .write) (request .source .id))

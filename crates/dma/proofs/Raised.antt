@@ -9,14 +9,15 @@ use lib.Pow.{shr-shr}
 use Rattle.image.specs.Bits.{bits, bit, anySet, inPlace}
 use Rattle.image.specs.Check.{Check, stop, go, onCheck}
 use Rattle.image.specs.Choice.{if_then_else_}
-use Rattle.image.specs.Memory.{Memory, Fetched, missing, found, entry, onFetch}
-use Rattle.image.specs.Rules.{run, answer}
+use Rattle.image.specs.Memory.{Memory, Fetched, entry}
+use Rattle.image.specs.Rules.{run}
 use Rattle.registers.specs.declared.Registers.{Registers}
 use Rattle.dma.specs.Page.{denied, ownRight, leafAt, pageReserved, pageCheck}
 use Rattle.dma.specs.Translation.{Translation, through, leaf, fault, pageStep, pageRules}
-use Rattle.dma.specs.Walk.{Step, done, down, onStep, placeIn, walkRules}
+use Rattle.dma.specs.Walk.{Step, done, down}
 use Rattle.dma.proofs.Steps.{past, page-frame}
 use Rattle.dma.proofs.Aligned.{leads-aligned}
+use Rattle.dma.proofs.Walks.{BothFetched, KeptStep, kept-walk}
 
 -- the same entry with rights switched on
 pub record Raised (e e′ : ℕ) : Type 0 where
@@ -26,10 +27,7 @@ pub record Raised (e e′ : ℕ) : Type 0 where
 
 -- what is fetched with rights switched on: nothing where there was nothing
 abbrev pub RaisedFetch : Fetched → Fetched → Type 0
-RaisedFetch missing missing = Unit {0}
-RaisedFetch missing (found e′) = ⊥
-RaisedFetch (found e) missing = ⊥
-RaisedFetch (found e) (found e′) = Raised e e′
+RaisedFetch = BothFetched Raised
 
 same-field : (e e′ : ℕ) → e′ / 4 ≡ e / 4 → (high low : ℕ) → 2 ≤ low → bits e′ high low ≡ bits e high low
 unfolding bits
@@ -71,45 +69,6 @@ module _ (registers : Registers) (haw : 2 ≤ registers .haw) {e e′ : ℕ} (ra
       rw (kept .1, same-reserved level, h2 .0, kept .0)
       (ap go (ap (λ (n : ℕ). n * 4096) (same-field e e′ (raised .other-bits) 51 12 (omega arith)) ∙ sym (page-frame registers write level e frame h)))
 
--- what a step makes of an entry, it makes of another too: always where it leads on, and where it ends with a good answer
-abbrev pub KeptStep : {S A : Type 0} → (A → Type 0) → Step S A → Step S A → Type 0
-KeptStep Good (done a) y = Good a → y ≡ done a
-KeptStep Good (down next t) y = y ≡ down next t
-
--- a walk over any format whose steps keep what they made of the entries of one memory over those of another
-module _ {S A : Type 0} (address : ℕ) (none : A) (step : (level place : ℕ) → S → (e : ℕ) → Step S A)
-    (steps : (level place : ℕ) (s : S) (e next : ℕ) (t : S) → down next t ≡ step level place s e → next % 8 ≡ 0)
-    (Good : A → Type 0)
-    (kept : (level place : ℕ) (s : S) (e e′ : ℕ) → Raised e e′ → KeptStep Good (step level place s e) (step level place s e′))
-    (m m′ : Memory) (raised : (a : ℕ) → a % 8 ≡ 0 → RaisedFetch (entry 1 m a) (entry 1 m′ a)) where
-  pub kept-walk : (level table : ℕ) (s : S) (a : A) → Good a → table % 8 ≡ 0
-      → run (walkRules address none step level table s) m ≡ a → run (walkRules address none step level table s) m′ ≡ a
-  unfolding run walkRules
-  kept-walk zero table s a good h was = was
-  kept-walk (suc n) table s a good h was =
-      go (entry 1 m (placeIn address table n)) (entry 1 m′ (placeIn address table n)) (raised (placeIn address table n) (omega arith)) was
-      (λ next t. kept-walk n next t a good)
-    where
-      rest : Memory → Step S A → A
-      rest m x = run (onStep x answer (walkRules address none step n)) m
-
-      on : {e : ℕ} (x y : Step S A) → x ≡ step (suc n) (placeIn address table n) s e → KeptStep Good x y → rest m x ≡ a
-          → ((next : ℕ) (t : S) → next % 8 ≡ 0 → run (walkRules address none step n next t) m ≡ a → run (walkRules address none step n next t) m′ ≡ a)
-          → rest m′ y ≡ a
-      on (done b) y told same was ih = rw (same (rw was good)) was
-      on {e} (down next t) y told same was ih = rw same (ih next t (steps (suc n) (placeIn address table n) s e next t told) was)
-
-      go : (f f′ : Fetched) → RaisedFetch f f′
-          → onFetch f none (λ e. rest m (step (suc n) (placeIn address table n) s e)) ≡ a
-          → ((next : ℕ) (t : S) → next % 8 ≡ 0 → run (walkRules address none step n next t) m ≡ a → run (walkRules address none step n next t) m′ ≡ a)
-          → onFetch f′ none (λ e. rest m′ (step (suc n) (placeIn address table n) s e)) ≡ a
-      go missing missing up was ih = was
-      go missing (found e′) up was ih = absurd up
-      go (found e) missing up was ih = absurd up
-      go (found e) (found e′) up was ih =
-          on (step (suc n) (placeIn address table n) s e) (step (suc n) (placeIn address table n) s e′) refl
-          (kept (suc n) (placeIn address table n) s e e′ up) was ih
-
 -- the page is reached, or the address passes through
 abbrev pub Reaches : Translation → Type 0
 Reaches through = Unit {0}
@@ -138,5 +97,5 @@ module _ (registers : Registers) (haw : 2 ≤ registers .haw) (address : ℕ) (w
       → run (pageRules registers address write fpd level table) m ≡ t
       → run (pageRules registers address write fpd level table) m′ ≡ t
   raised-walk m m′ raised level table =
-      kept-walk address (fault 0x07 fpd) (pageStep registers address write fpd) (leads-aligned registers address write fpd) Reaches
+      kept-walk address (fault 0x07 fpd) (pageStep registers address write fpd) (leads-aligned registers address write fpd) Reaches Raised
       raised-step m m′ raised level table tt

@@ -15,7 +15,8 @@ use Rattle.registers.specs.declared.Registers.{Registers}
 use Rattle.dma.specs.Page.{pageCheck, leafAt}
 use Rattle.dma.specs.Translation.{Translation, leaf, fault, pageStep, pageOver, pageRules}
 use Rattle.dma.specs.Walk.{Step, done, down, onStep, placeIn, walkRules, stepOver}
-use Rattle.dma.proofs.Steps.{index-lt, walk-step}
+use Rattle.dma.proofs.Steps.{index-lt}
+use Rattle.dma.proofs.Walks.{walk-step}
 
 -- an entry taken from its table's page is the one that the rules name
 pub placed : (image : List ℕ) (address table n : ℕ) {index : ℕ} {f : Fetched}

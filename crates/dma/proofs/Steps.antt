@@ -1,4 +1,4 @@
--- Laws of the walk, level by level.
+-- Laws of page entries.
 use Prim.Native.Nat.{ℕ, zero, suc, _+_, _*_, _-_, _/_, _%_, _^_, _<_, _≤_}
 use mathlib.Core.Bool.{Bool, true, false, not}
 use mathlib.Core.Path.{_≡_, refl, ap, sym, _∙_, subst}
@@ -9,12 +9,9 @@ use lib.Dec.{lit≤}
 use Rattle.image.specs.Bits.{bits, inPlace, anySet}
 use Rattle.image.specs.Check.{Check, stop, go}
 use Rattle.image.specs.Choice.{if_then_else_}
-use Rattle.image.specs.Memory.{Memory, Fetched, missing, found, entry, onFetch}
-use Rattle.image.specs.Rules.{run, answer}
 use Rattle.image.proofs.Fields.{fits, in-place-lt}
 use Rattle.registers.specs.declared.Registers.{Registers}
 use Rattle.dma.specs.Page.{pageCheck, pageReserved, denied, ownRight}
-use Rattle.dma.specs.Walk.{Step, done, down, onStep, walkRules, stepOver, placeIn}
 
 -- an index of 9 bits
 pub index-lt : (address n : ℕ) → bits address (20 + 9 * n) (12 + 9 * n) < 512
@@ -39,27 +36,6 @@ offset-of address level =
 pub host-lt : (address level : ℕ) → level ≤ 5 → bits address (11 + 9 * (level - 1)) 0 < 2 ^ 48
 host-lt address level h =
     lt-of-lt-of-le (fits address (11 + 9 * (level - 1)) 0) (pow-mono {j = 48} (omega arith))
-
--- a walk is its first level, then the walk of what that leads to
-module _ {S A : Type 0} (address : ℕ) (none : A) (step : (level place : ℕ) → S → (e : ℕ) → Step S A) (m : Memory) where
-  pub walk-step : (n table : ℕ) (s : S)
-      → run (walkRules address none step (suc n) table s) m
-      ≡ onStep (stepOver address none step m n table s) (λ a. a) (λ next t. run (walkRules address none step n next t) m)
-  unfolding run walkRules stepOver
-  walk-step n table s = go (entry 1 m (placeIn address table n))
-    where
-      on : (x : Step S A)
-          → run (onStep x answer (walkRules address none step n)) m
-          ≡ onStep x (λ a. a) (λ next t. run (walkRules address none step n next t) m)
-      on (done a) = refl
-      on (down next t) = refl
-
-      go : (f : Fetched)
-          → onFetch f none (λ e. run (onStep (step (suc n) (placeIn address table n) s e) answer (walkRules address none step n)) m)
-          ≡ onStep (onFetch f (done none) (step (suc n) (placeIn address table n) s)) (λ a. a)
-          (λ next t. run (walkRules address none step n next t) m)
-      go missing = refl
-      go (found e) = on (step (suc n) (placeIn address table n) s e)
 
 -- a check that goes on is past each test that would stop it
 pub past : {A : Type 0} (t : Bool) (reason : ℕ) (rest : Check A) (a : A) → (if t then stop reason else rest) ≡ go a
