@@ -4,6 +4,7 @@ use mathlib.Core.Bool.{Bool, true, false}
 use mathlib.Core.Path.{_≡_, refl, ap, sym, _∙_}
 use mathlib.Core.List.{List}
 use native.Mathlib.Omega.{arith}
+use mathlib.Core.Logic.{_⊎_, ⊎-elim}
 use lib.ListN.{take, drop}
 use Rattle.image.specs.Bits.{bits}
 use Rattle.image.specs.Check.{Check, stop, go, onCheck}
@@ -13,8 +14,13 @@ use Rattle.image.specs.Rules.{run}
 use Rattle.image.proofs.Pages.{in-page}
 use Rattle.registers.specs.declared.Registers.{Registers}
 use Rattle.dma.specs.Page.{pageCheck, leafAt}
-use Rattle.dma.specs.Translation.{Translation, leaf, fault, pageStep, pageOver, pageRules}
+use Rattle.dma.specs.Translation.{Translation, leaf, fault, checked, pageStep, pageOver, pageRules}
 use Rattle.dma.specs.Walk.{Step, done, down, onStep, placeIn, walkRules, stepOver}
+use Rattle.dma.specs.Checked.{stepOf}
+use denote.Enum.Declared.{tagOf}
+use Rattle.dma.proofs.page.Step.{the-type}
+use Rattle.dma.specs.declared.page.Step.{Step as StepCode}
+use Rattle.dma.specs.declared.page.Step.the-variants as step
 use Rattle.dma.proofs.Steps.{index-lt}
 use Rattle.dma.proofs.Walks.{walk-step}
 
@@ -28,6 +34,11 @@ placed image address table n {index} {f} indexed fetched =
     rw indexed at fetched
     ∙ in-page 4096 image table 1 (8 * here) (omega (arith, index-lt address n))
 
+-- a check that goes on
+pub gone : (fpd : Bool) (k : Check ℕ) {frame : ℕ} → down frame tt ≡ checked fpd k → go frame ≡ k
+gone fpd (stop reason) h = let z : _≡_ {A = ℕ} 0 1 = cc in absurd (omega arith)
+gone fpd (go a) h = cc
+
 module _ (registers : Registers) (address : ℕ) (write fpd : Bool) (image : List ℕ) (n table : ℕ) where
   pub unfetched : missing ≡ entry 1 (ofImage image) (placeIn address table n)
       → done (fault 0x07 fpd) ≡ pageOver registers address write fpd (ofImage image) n table
@@ -35,10 +46,19 @@ module _ (registers : Registers) (address : ℕ) (write fpd : Bool) (image : Lis
   unfetched h = rw (← h)
 
   module _ {e : ℕ} (h : found e ≡ entry 1 (ofImage image) (placeIn address table n)) where
-    pub stopped : {reason : ℕ} → stop reason ≡ pageCheck registers write (suc n) e
-        → done (fault reason fpd) ≡ pageOver registers address write fpd (ofImage image) n table
+    -- a check that is no go-ahead: Down is variant 0
+    pub stopped : (r : StepCode) → (tagOf the-type r ≡ 1) ⊎ (tagOf the-type r ≡ 2) → stepOf r ≡ checked fpd (pageCheck registers write (suc n) e)
+        → stepOf r ≡ pageOver registers address write fpd (ofImage image) n table
     unfolding stepOver
-    stopped told = rw (← h, ← told)
+    stopped r other told = rw (← h) (on r (pageCheck registers write (suc n) e) other told)
+      where
+        on : (r : StepCode) (k : Check ℕ) → (tagOf the-type r ≡ 1) ⊎ (tagOf the-type r ≡ 2) → stepOf r ≡ checked fpd k
+            → stepOf r ≡ onCheck k (λ reason. done (fault reason fpd)) (λ frame. if leafAt (suc n) e then done (leaf frame (suc n)) else down frame tt)
+        on (step.Down table) k other told = absurd (⊎-elim (λ x. omega arith) (λ x. omega arith) other)
+        on (step.Leaf frame level) (stop reason) other told = told
+        on (step.Leaf frame level) (go a) other told = let z : _≡_ {A = ℕ} 0 1 = cc in absurd (omega arith)
+        on (step.Fault reason f) (stop r) other told = told
+        on (step.Fault reason f) (go a) other told = let z : _≡_ {A = ℕ} 0 1 = cc in absurd (omega arith)
 
     module _ {frame : ℕ} (told : go frame ≡ pageCheck registers write (suc n) e) where
       pub at-leaf : leafAt (suc n) e ≡ true

@@ -6,7 +6,7 @@ use Rattle.image.specs.Choice.{if_then_else_}
 use Rattle.image.specs.Memory.{Memory}
 use Rattle.image.specs.Rules.{Rules, answer}
 use Rattle.registers.specs.declared.Registers.{Registers}
-use Rattle.image.specs.Check.{onCheck}
+use Rattle.image.specs.Check.{Check, stop, go, onCheck}
 use Rattle.dma.specs.Lookup.{rootRules}
 use Rattle.dma.specs.Page.{pageCheck, leafAt}
 use Rattle.dma.specs.Walk.{Step, done, down, walkRules, stepOver}
@@ -24,6 +24,11 @@ abbrev pub Reachable : Translation → Type 0
 Reachable through = Unit {0}
 Reachable (leaf frame level) = (frame < 2 ^ 52) × (0 < level) × (level ≤ 5)
 Reachable (fault reason fpd) = Unit {0}
+
+-- what a page entry's check says, told as a step: for the code's contracts
+abbrev pub checked : (fpd : Bool) → Check ℕ → Step (Unit {0}) Translation
+checked fpd (stop reason) = done (fault reason fpd)
+checked fpd (go frame) = down frame tt
 
 module _ (registers : Registers) (address : ℕ) (write : Bool) where
   -- a page ends the walk, any other entry leads one level down. Nothing is handed down

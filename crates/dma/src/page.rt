@@ -4,10 +4,9 @@ ghost use Prim.Native.Nat.{_<_};
 ghost use Rattle.image.specs.Memory.{ofImage};
 ghost use Rattle.dma.specs.Page.{denied, ownRight, leafAt, pageReserved, pageCheck, hostAddress};
 ghost use Rattle.faults.specs.Reason.{numberOf};
-ghost use Rattle.dma.specs.Checked.{checkOf, stepOf};
-ghost use Rattle.dma.specs.Translation.{leaf, Reachable, pageOver};
+ghost use Rattle.dma.specs.Checked.{stepOf};
+ghost use Rattle.dma.specs.Translation.{leaf, Reachable, checked, pageOver};
 use crate::MemoryRequest;
-use crate::entry::Check;
 use faults::Reason;
 use image::Found8;
 use image::field;
@@ -71,19 +70,19 @@ fn denial(write: bool) -> Reason
 }
 
 // The frame, or the next table's address.
-fn page_check(registers: Registers, write: bool, level: u32, e: u64) -> Check
-    ensures { λ r. ⌜ checkOf r ≡ pageCheck registers write level e ⌝ }
+fn page_check(registers: Registers, write: bool, fpd: bool, level: u32, e: u64) -> Step
+    ensures { λ r. ⌜ stepOf r ≡ checked fpd (pageCheck registers write level e) ⌝ }
 {
     if field(e, 1, 0) == 0 {
-        return Check::Stop(denial(write));
+        return Step::Fault(denial(write), fpd);
     }
     if page_reserved(registers, level, e) {
-        return Check::Stop(Reason::PageEntryReserved);
+        return Step::Fault(Reason::PageEntryReserved, fpd);
     }
     if !own_right(write, e) {
-        return Check::Stop(denial(write));
+        return Step::Fault(denial(write), fpd);
     }
-    Check::Go(in_place(e, 51, 12))
+    Step::Down(in_place(e, 51, 12))
 }
 
 // One level of the walk: below is how many levels come after it.
@@ -104,15 +103,14 @@ pub(crate) fn page_step(
         return Step::Fault(Reason::PageEntryAccess, fpd);
     };
     let level = below + 1;
-    match page_check(registers, request.write, level, e) {
-        Check::Stop(reason) => Step::Fault(reason, fpd),
-        Check::Go(frame) => {
-            if is_leaf(level, e) {
-                return Step::Leaf(frame, level);
-            }
-            Step::Down(frame)
-        }
+    let check = page_check(registers, request.write, fpd, level, e);
+    let Step::Down(frame) = check else {
+        return check;
+    };
+    if is_leaf(level, e) {
+        return Step::Leaf(frame, level);
     }
+    Step::Down(frame)
 }
 
 // The frame plus the address's low 12, 21 or 30 bits.

@@ -7,11 +7,12 @@ use native.Mathlib.Numerals.{add-one}
 use Rattle.image.specs.Entries.{fetched8}
 use Rattle.image.specs.Check.{go}
 use Rattle.image.specs.Memory.{found, ofImage, entry}
-use Rattle.dma.specs.Checked.{checkOf}
+use Rattle.dma.specs.Checked.{stepOf}
 use Rattle.dma.specs.Page.{pageCheck}
+use Rattle.dma.specs.Translation.{checked}
 use Rattle.dma.specs.Walk.{placeIn}
 use Rattle.dma.proofs.Steps.{index-of, index-lt}
-use Rattle.dma.proofs.Stepped.{placed, unfetched, stopped, at-leaf, at-table}
+use Rattle.dma.proofs.Stepped.{placed, gone, unfetched, stopped, at-leaf, at-table}
 use borrow.Author.Needs.{needs}
 use Rattle.dma.proofs.page.page_step.Statement.{statement}
 use Rattle.dma.proofs.page.page_step.Tie as tie
@@ -60,11 +61,8 @@ add-level c = search needs
 page-check-requires : tie.Need-page-check-requires
 page-check-requires c κs = search needs
 
-enum-known-reason : tie.Need-enum-known-reason
-enum-known-reason c = search needs
-
-enum-known-frame : tie.Need-enum-known-frame
-enum-known-frame c = search needs
+enum-known-check : tie.Need-enum-known-check
+enum-known-check c = search needs
 
 is-leaf-requires : tie.Need-is-leaf-requires
 is-leaf-requires c κs = search needs
@@ -75,25 +73,25 @@ found-at : (c : tie.After-known-told)
 found-at c = sym (ap fetched8 (c .before .e .given .1)) ∙ place (c .before .before .before)
 
 told : (c : tie.After-page-check)
-    → checkOf (c .page-check .result)
-    ≡ pageCheck (c .before .before .before .before .before .before .args .registers) (c .before .before .before .before .before .before .args .request .write) (suc (c .before .before .before .before .before .before .args .below)) (c .before .before .e .given .0 .0)
+    → stepOf (c .page-check .result)
+    ≡ checked (c .before .before .before .before .before .before .args .fpd) (pageCheck (c .before .before .before .before .before .before .args .registers) (c .before .before .before .before .before .before .args .request .write) (suc (c .before .before .before .before .before .before .args .below)) (c .before .before .e .given .0 .0))
 told c = rw (← add-one (c .before .before .before .before .before .before .args .below)) (c .page-check .ensures)
 
-went : (c : tie.After-frame)
-    → go (c .frame .given .0 .0)
+went : (c : tie.After-check)
+    → go (c .check .given .0 .0)
     ≡ pageCheck (c .before .before .before .before .before .before .before .before .args .registers) (c .before .before .before .before .before .before .before .before .args .request .write) (suc (c .before .before .before .before .before .before .before .before .args .below)) (c .before .before .before .before .e .given .0 .0)
-went c = sym (ap checkOf (c .frame .given .1)) ∙ told (c .before .before)
+went c = gone (c .before .before .before .before .before .before .before .before .args .fpd) _ (sym (ap stepOf (c .check .given .1)) ∙ told (c .before .before))
 
 returns-2 : tie.Need-returns-2
 returns-2 c =
-    let a = c .before .before .before .before .before .before .before .before .before .before .before .args in
-    let page = sym (c .before .is-leaf .ensures) ∙ c .if1 .taken in
-    rw (add-one (a .below)) (at-leaf (a .registers) (a .request .address) (a .request .write) (a .fpd) (a .image .now) (a .below) (a .table) (found-at (c .before .before .before .before .before .before)) (went (c .before .before .before)) (rw (add-one (a .below)) at page))
+    let a = c .before .before .before .before .before .before .before .args in
+    stopped (a .registers) (a .request .address) (a .request .write) (a .fpd) (a .image .now) (a .below) (a .table) (found-at (c .before .before)) (c .before .page-check .result) (c .match2 .keys2) (told (c .before))
 
 returns-3 : tie.Need-returns-3
 returns-3 c =
-    let a = c .before .before .before .before .before .before .before .before .before .args in
-    stopped (a .registers) (a .request .address) (a .request .write) (a .fpd) (a .image .now) (a .below) (a .table) (found-at (c .before .before .before .before)) (sym (ap checkOf (c .before .reason .given .1)) ∙ told (c .before .before .before))
+    let a = c .before .before .before .before .before .before .before .before .before .before .before .args in
+    let page = sym (c .before .is-leaf .ensures) ∙ c .if1 .taken in
+    rw (add-one (a .below)) (at-leaf (a .registers) (a .request .address) (a .request .write) (a .fpd) (a .image .now) (a .below) (a .table) (found-at (c .before .before .before .before .before .before)) (went (c .before .before .before)) (rw (add-one (a .below)) at page))
 
 returns-4 : tie.Need-returns-4
 returns-4 c =
@@ -116,9 +114,8 @@ page-step-spec =
     returns
     add-level
     page-check-requires
-    enum-known-reason
-    enum-known-frame
-    is-leaf-requires
+    enum-known-check
     returns-2
+    is-leaf-requires
     returns-3
     returns-4)
