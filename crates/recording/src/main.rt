@@ -1,4 +1,4 @@
-// A storm of recorder calls, made by a small generator of its own: faults of many kinds, clears, and calls that are refused.
+// Many recorder calls, made by a small generator: faults of many kinds, clears, and calls that are refused.
 // What the calls answered is counted and printed, with the records that stand in the buffer at the end.
 use faults::Fault;
 use faults::Reason;
@@ -100,7 +100,7 @@ fn one_call(buffer: &mut [u8], recorder: Recorder, x: u64) -> RecorderStep {
     }
 }
 
-fn storm(buffer: &mut [u8]) -> Tally {
+fn run_calls(buffer: &mut [u8]) -> Tally {
     let mut tally = Tally {
         written: 0,
         overflowed: 0,
@@ -146,7 +146,7 @@ fn line(name: &[u8], n: u64) {
 
 fn main() {
     let mut buffer = [0u8; 128];
-    let tally = storm(&mut buffer);
+    let tally = run_calls(&mut buffer);
     line(b"calls ", CALLS as u64);
     line(b"written ", tally.written);
     line(b"overflowed ", tally.overflowed);

@@ -2,8 +2,8 @@
 use Prim.Native.Nat.{_-_, _≤_}
 use native.Mathlib.Omega.{arith}
 use borrow.Author.Needs.{needs}
-use Rattle.storm.proofs.standing.Statement.{statement}
-use Rattle.storm.proofs.standing.Tie as tie
+use Rattle.recording.proofs.standing.Statement.{statement}
+use Rattle.recording.proofs.standing.Tie as tie
 
 abbrev Inv-loop : tie.InvT-loop
 Inv-loop buffer n₀ slot₀ n slot = slot ≤ 8

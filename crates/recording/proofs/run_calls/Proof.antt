@@ -1,11 +1,11 @@
--- `storm` is safe and ends: the buffer keeps its length, and the calls are counted.
+-- `run_calls` is safe and ends: the buffer keeps its length, and the calls are counted.
 use Prim.Native.Nat.{_-_, _≤_}
 use mathlib.Core.Path.{_≡_, refl, _∙_}
 use native.Mathlib.Omega.{arith}
 use borrow.Author.Needs.{needs}
 use lib.ListN.{length}
-use Rattle.storm.proofs.storm.Statement.{statement}
-use Rattle.storm.proofs.storm.Tie as tie
+use Rattle.recording.proofs.run_calls.Statement.{statement}
+use Rattle.recording.proofs.run_calls.Tie as tie
 
 abbrev Inv-loop : tie.InvT-loop
 Inv-loop buffer₀ tally₀ recorder₀ x₀ counter₀ buffer tally recorder x counter =
@@ -14,8 +14,8 @@ Inv-loop buffer₀ tally₀ recorder₀ x₀ counter₀ buffer tally recorder x 
 abbrev μ-loop : tie.MeasureT-loop
 μ-loop buffer₀ tally₀ recorder₀ x₀ counter₀ buffer tally recorder x counter = 10000 - counter
 
-pub storm-spec : {M : Type 1} → statement M
-storm-spec =
+pub run-calls-spec : {M : Type 1} → statement M
+run-calls-spec =
     tie.close
     (tie.spec
     Inv-loop
