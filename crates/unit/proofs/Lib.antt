@@ -1,3 +1,1 @@
-pub mod Cases
 pub mod Demand3
-pub mod Instances

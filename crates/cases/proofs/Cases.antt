@@ -22,7 +22,7 @@ use Rattle.interrupts.specs.Irte.{reservedIrte, irteCheck}
 use Rattle.interrupts.specs.Post.{setBit}
 use Rattle.interrupts.specs.Request.{requestCheck}
 use Rattle.interrupts.specs.Source.{sourceAllowed}
-use Rattle.unit.specs.Bench.{layout, bench, changed, resultOf, rows, answers, said}
+use Rattle.cases.specs.Bench.{layout, bench, changed, resultOf, rows, answers, said}
 
 pub whole : length bench ≡ 32768
 unfolding bench layout bytesOf

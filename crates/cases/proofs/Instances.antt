@@ -35,8 +35,8 @@ use Rattle.interrupts.specs.Irte.{reservedIrte, irteCheck}
 use Rattle.interrupts.specs.Request.{requestCheck}
 use Rattle.interrupts.specs.Source.{sourceAllowed}
 use Rattle.interrupts.specs.declared.InterruptRequest.{InterruptRequest}
-use Rattle.unit.specs.Bench.{layout, bench, benchRegisters, memoryRequest, interruptRequest}
+use Rattle.cases.specs.Bench.{layout, bench, benchRegisters, memoryRequest, interruptRequest}
 use Rattle.unit.proofs.Demand3.{isolation}
 
 -- one walked entry with its low byte made another
 switch-one : (turned : ℕ → ℕ → Type 0) (entries image : List ℕ) (a b : ℕ) → List·Memᴰ a entries → a < length image
