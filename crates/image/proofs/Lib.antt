@@ -6,6 +6,7 @@ pub mod Longer
 pub mod OneByte
 pub mod Pages
 pub mod Same
+pub mod Stages
 pub mod Stores
 pub mod Trees
 pub mod Words

@@ -6,3 +6,4 @@ pub mod Choice
 pub mod Entries
 pub mod Memory
 pub mod Rules
+pub mod Stage
