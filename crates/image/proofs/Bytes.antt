@@ -133,7 +133,7 @@ bytes-taken (suc n) [] bytes i = lit< tt
 bytes-taken (suc n) (x ∷ xs) bytes zero = bytes 0
 bytes-taken (suc n) (x ∷ xs) bytes (suc i) = bytes-taken n xs (λ j. bytes (suc j)) i
 
-no-bits : (high low : ℕ) → bits 0 high low ≡ 0
+pub no-bits : (high low : ℕ) → bits 0 high low ≡ 0
 no-bits high low = past-top 0 0 high {low = low} (lit< tt) (omega arith)
 
 -- a field from byte n up

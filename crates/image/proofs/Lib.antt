@@ -9,4 +9,5 @@ pub mod Same
 pub mod Stages
 pub mod Stores
 pub mod Trees
+pub mod WordFields
 pub mod Words

@@ -19,3 +19,7 @@ anySet e high low = not (eqb (bits e high low) 0)
 -- the number with the field in its place and every other bit 0: `inPlace e 63 12` is the address in 63:12
 abbrev pub inPlace : (e high low : ℕ) → ℕ
 inPlace e high low = bits e high low * 2 ^ low
+
+-- the field lies in one word of its entry
+abbrev pub inOneWord : (high low : ℕ) → Bool
+inOneWord high low = eqb (high / 64) (low / 64)

@@ -16,12 +16,17 @@ unfoldable pub spell : List ℕ → ℕ
 spell [] = 0
 spell (w ∷ ws) = w + 2 ^ 64 * spell ws
 
+abbrev pub words16 : Entry16 → List ℕ
+words16 e = e .low ∷ e .high ∷ []
+
 abbrev pub number16 : Entry16 → ℕ
-number16 e = spell (e .low ∷ e .high ∷ [])
+number16 e = spell (words16 e)
+
+abbrev pub words64 : Entry64 → List ℕ
+words64 e = e .w0 ∷ e .w1 ∷ e .w2 ∷ e .w3 ∷ e .w4 ∷ e .w5 ∷ e .w6 ∷ e .w7 ∷ []
 
 abbrev pub number64 : Entry64 → ℕ
-number64 e =
-    spell (e .w0 ∷ e .w1 ∷ e .w2 ∷ e .w3 ∷ e .w4 ∷ e .w5 ∷ e .w6 ∷ e .w7 ∷ [])
+number64 e = spell (words64 e)
 
 abbrev pub fetched8 : Found8 → Fetched
 fetched8 (found8.Entry e) = found e

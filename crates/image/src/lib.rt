@@ -10,6 +10,12 @@ ghost use Rattle.image.specs.Bytes.{bytesOf};
 ghost use Rattle.image.specs.Memory.{wordAt, ofImage, entry, withWord};
 ghost use Rattle.image.specs.Entries.{fetched8, fetched16, fetched64};
 
+mod entry_fields;
+
+pub use entry_fields::bit16;
+pub use entry_fields::bits16;
+pub use entry_fields::bits64;
+
 // An entry of 16 bytes: bits 63:0 and 127:64.
 pub struct Entry16 {
     pub low: u64,

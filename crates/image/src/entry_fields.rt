@@ -1,0 +1,61 @@
+// Fields of entries by their bit numbers in the whole entry, as VT-d writes them: 83:82 of an entry of 16 bytes. Each field
+// that the rules read lies in one word; one that doesn't is answered 0.
+ghost use mathlib.Core.List.{[], _∷_};
+ghost use mathlib.Core.Path.{_≡_};
+ghost use lib.ListN.{getD};
+ghost use Rattle.image.specs.Bits.{bits, bit, inOneWord};
+ghost use Rattle.image.specs.Choice.{if_then_else_};
+ghost use Rattle.image.specs.Entries.{words16, words64, number16, number64};
+use crate::Entry16;
+use crate::Entry64;
+use crate::field;
+
+fn word16(e: Entry16, n: u32) -> u64
+    ensures { λ r. ⌜ r ≡ getD (words16 e) n 0 ⌝ }
+{
+    match n {
+        0 => e.low,
+        1 => e.high,
+        _ => 0,
+    }
+}
+
+pub fn bits16(e: Entry16, high: u32, low: u32) -> u64
+    ensures { λ r. ⌜ r ≡ (if inOneWord high low then bits (number16 e) high low else 0) ⌝ }
+{
+    if high / 64 != low / 64 {
+        return 0;
+    }
+    field(word16(e, low / 64), high % 64, low % 64)
+}
+
+pub fn bit16(e: Entry16, place: u32) -> bool
+    ensures { λ r. ⌜ r ≡ bit (number16 e) place ⌝ }
+{
+    bits16(e, place, place) == 1
+}
+
+fn word64(e: Entry64, n: u32) -> u64
+    ensures { λ r. ⌜ r ≡ getD (words64 e) n 0 ⌝ }
+{
+    match n {
+        0 => e.w0,
+        1 => e.w1,
+        2 => e.w2,
+        3 => e.w3,
+        4 => e.w4,
+        5 => e.w5,
+        6 => e.w6,
+        7 => e.w7,
+        _ => 0,
+    }
+}
+
+pub fn bits64(e: Entry64, high: u32, low: u32) -> u64
+    ensures { λ r. ⌜ r ≡ (if inOneWord high low then bits (number64 e) high low else 0) ⌝ }
+{
+    if high / 64 != low / 64 {
+        return 0;
+    }
+    field(word64(e, low / 64), high % 64, low % 64)
+}
