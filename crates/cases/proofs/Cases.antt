@@ -22,12 +22,16 @@ use Rattle.interrupts.specs.Irte.{reservedIrte, irteCheck}
 use Rattle.interrupts.specs.Post.{setBit}
 use Rattle.interrupts.specs.Request.{requestCheck}
 use Rattle.interrupts.specs.Source.{sourceAllowed}
-use Rattle.cases.specs.Bench.{layout, bench, changed, resultOf, rows, answers, said}
+use Rattle.cases.specs.Bench.{layout, bench, changed, resultOf, rows, answers, said, numbers, TwelveCases}
 
-pub whole : length bench ≡ 32768
+whole : length bench ≡ 32768
 unfolding bench layout bytesOf
 whole = refl
 
-pub cases : answers (rows bench) ≡ said (rows bench)
+answered : answers (rows bench) ≡ said (rows bench)
 unfolding answers said resultOf changed bench layout bytesOf littleEndian bits spell wordAt ofImage entry run mapRules admission badRegisters silenced memoryRecord fromBit64 memoryFault indexField interruptRecord interruptFault contextReserved contextInvalid contextCheck pageReserved pageCheck memoryRules rootReserved rootCheck widthRules contextRules rootRules walkRules descriptorCheck descriptorRules entryRules indexRules requestRules interruptRules reservedIrte irteCheck setBit requestCheck sourceAllowed
-cases = refl
+answered = refl
+
+pub twelve-cases : TwelveCases
+unfolding numbers
+twelve-cases = record { whole = whole; numbered = refl; answered = answered }

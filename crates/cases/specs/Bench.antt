@@ -2,7 +2,8 @@
 use Prim.Native.Nat.{ℕ, _+_, _-_}
 use mathlib.Core.Bool.{Bool, true, false}
 use mathlib.Core.List.{List, [], _∷_, _++_}
-use lib.ListN.{take, replicate, set}
+use mathlib.Core.Path.{_≡_}
+use lib.ListN.{length, take, replicate, set}
 use Rattle.image.specs.Bytes.{bytesOf}
 use Rattle.image.specs.Entries.{spell}
 use Rattle.image.specs.Memory.{ofImage}
@@ -113,13 +114,15 @@ expected (fault reason low high) image = memory (blocked (faulted reason low hig
 expected (becomes outcome bytes) image = interrupted outcome (changed bytes image)
 
 pub record Row : Type 0 where
+  pub number : ℕ
   pub image : List ℕ
   pub source : ℕ
   pub ask : Ask
   pub answer : Answer
 
-abbrev pub row : (image : List ℕ) (source : ℕ) → Ask → Answer → Row
-row image source ask answer = record { image = image; source = source; ask = ask; answer = answer }
+abbrev pub row : (number : ℕ) (image : List ℕ) (source : ℕ) → Ask → Answer → Row
+row number image source ask answer =
+    record { number = number; image = image; source = source; ask = ask; answer = answer }
 
 -- a fixed, edge-triggered interrupt to one destination
 abbrev pub delivers : (vector destination : ℕ) → interrupts.InterruptOutcome
@@ -137,36 +140,27 @@ delivers vector destination =
 -- document 01's rows; record words that it doesn't give follow from its rule
 abbrev pub rows : List ℕ → List Row
 rows image =
-    -- 1
-    row image 0x0310 (read 0x40201ABC) (host 0x12345ABC)
-    -- 2
-    ∷ row image 0x0310 (write 0x40201ABC) (fault 0x05 0x40201000 0x8000000500000310)
-    -- 3
-    ∷ row image 0x0310 (read 0x40202000) (fault 0x06 0x40202000 0xC000000600000310)
-    -- 4
-    ∷ row image 0x0310 (read 0x40412345) (host 0x40612345)
-    -- 5
-    ∷ row image 0x0310 (read 0x40600000) (fault 0x07 0x40600000 0xC000000700000310)
-    -- 6
-    ∷ row image 0x0310 (read 0x40800000) (fault 0x0C 0x40800000 0xC000000C00000310)
-    -- 7, then with the image one byte shorter
-    ∷ row image 0x0310 (read 0x40BFF000) (host 0x23456000)
-    ∷ row (take 32767 image) 0x0310 (read 0x40BFF000) (fault 0x07 0x40BFF000 0xC000000700000310)
-    -- 8
-    ∷ row image 0x0310 (read 0x7FFFFFFFFF) (fault 0x06 0x7FFFFFF000 0xC000000600000310)
-    ∷ row image 0x0310 (read 0x8000000000) (fault 0x04 0x8000000000 0xC000000400000310)
-    -- 9
-    ∷ row image 0x0410 (read 0x40201ABC) (fault 0x01 0x40201000 0xC000000100000410)
-    ∷ row image 0x0311 (read 0x40201ABC) (fault 0x02 0x40201000 0xC000000200000311)
-    -- 10
-    ∷ row image 0x0310 (interrupt 0xFEE00050 0) (becomes (delivers 0x41 7) [])
-    ∷ row image 0x0311 (interrupt 0xFEE00050 0) (becomes (interrupts.blocked (faulted 0x26 0x0002000000000000 0x8000002600000311)) [])
-    -- 11: index 65,538
-    ∷ row image 0x0310 (interrupt 0xFEEFFFFC 3) (becomes (interrupts.blocked (faulted 0x21 0xFFFF000000000000 0x8000002100000310)) [])
-    -- 12, then again over what it left
-    ∷ row image 0x0310 (interrupt 0xFEE00090 0)
+    row 1 image 0x0310 (read 0x40201ABC) (host 0x12345ABC)
+    ∷ row 2 image 0x0310 (write 0x40201ABC) (fault 0x05 0x40201000 0x8000000500000310)
+    ∷ row 3 image 0x0310 (read 0x40202000) (fault 0x06 0x40202000 0xC000000600000310)
+    ∷ row 4 image 0x0310 (read 0x40412345) (host 0x40612345)
+    ∷ row 5 image 0x0310 (read 0x40600000) (fault 0x07 0x40600000 0xC000000700000310)
+    ∷ row 6 image 0x0310 (read 0x40800000) (fault 0x0C 0x40800000 0xC000000C00000310)
+    -- its second row: with the image one byte shorter
+    ∷ row 7 image 0x0310 (read 0x40BFF000) (host 0x23456000)
+    ∷ row 7 (take 32767 image) 0x0310 (read 0x40BFF000) (fault 0x07 0x40BFF000 0xC000000700000310)
+    ∷ row 8 image 0x0310 (read 0x7FFFFFFFFF) (fault 0x06 0x7FFFFFF000 0xC000000600000310)
+    ∷ row 8 image 0x0310 (read 0x8000000000) (fault 0x04 0x8000000000 0xC000000400000310)
+    ∷ row 9 image 0x0410 (read 0x40201ABC) (fault 0x01 0x40201000 0xC000000100000410)
+    ∷ row 9 image 0x0311 (read 0x40201ABC) (fault 0x02 0x40201000 0xC000000200000311)
+    ∷ row 10 image 0x0310 (interrupt 0xFEE00050 0) (becomes (delivers 0x41 7) [])
+    ∷ row 10 image 0x0311 (interrupt 0xFEE00050 0) (becomes (interrupts.blocked (faulted 0x26 0x0002000000000000 0x8000002600000311)) [])
+    -- index 65,538
+    ∷ row 11 image 0x0310 (interrupt 0xFEEFFFFC 3) (becomes (interrupts.blocked (faulted 0x21 0xFFFF000000000000 0x8000002100000310)) [])
+    -- its second row: again, over what the first left
+    ∷ row 12 image 0x0310 (interrupt 0xFEE00090 0)
     (becomes (interrupts.posted 0x6400 0x31 (notice 0xF2 7)) ((0x6406, 2) ∷ (0x6420, 1) ∷ []))
-    ∷ row (changed ((0x6406, 2) ∷ (0x6420, 1) ∷ []) image) 0x0310 (interrupt 0xFEE00090 0)
+    ∷ row 12 (changed ((0x6406, 2) ∷ (0x6420, 1) ∷ []) image) 0x0310 (interrupt 0xFEE00090 0)
     (becomes (interrupts.posted 0x6400 0x31 silent) [])
     ∷ []
 
@@ -178,3 +172,16 @@ answers (r ∷ rs) = resultOf (r .source) (r .ask) (r .image) ∷ answers rs
 unfoldable pub said : List Row → List Result
 said [] = []
 said (r ∷ rs) = expected (r .answer) (r .image) ∷ said rs
+
+unfoldable pub numbers : List Row → List ℕ
+numbers [] = []
+numbers (r ∷ rs) = r .number ∷ numbers rs
+
+-- The twelve cases, as one claim. Proved in proofs/Cases.antt.
+pub record TwelveCases : Type 0 where
+  pub whole : length bench ≡ 32768
+  -- none is left out: 7, 8, 9, 10 and 12 have two rows each
+  pub numbered : numbers (rows bench)
+      ≡ 1 ∷ 2 ∷ 3 ∷ 4 ∷ 5 ∷ 6 ∷ 7 ∷ 7 ∷ 8 ∷ 8 ∷ 9 ∷ 9 ∷ 10 ∷ 10 ∷ 11 ∷ 12 ∷ 12 ∷ []
+  -- the rules answer what the rows say
+  pub answered : answers (rows bench) ≡ said (rows bench)

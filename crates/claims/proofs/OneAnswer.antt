@@ -1,0 +1,15 @@
+-- No two answers of the code, and no two reasons, say the same.
+use Rattle.faults.specs.Reason.{numberOf-injective}
+use Rattle.dma.proofs.Injective as memory
+use Rattle.dma.specs.declared.MemoryAnswer.the-variants.{Granted, Blocked, Refused}
+use Rattle.interrupts.proofs.Injective as interrupts
+use Rattle.claims.specs.OneAnswer.{OneMemoryAnswer, OneInterruptAnswer, OneReason}
+
+pub one-memory-answer : OneMemoryAnswer
+one-memory-answer = memory.outcomeOf-injective
+
+pub one-interrupt-answer : OneInterruptAnswer
+one-interrupt-answer = interrupts.outcomeOf-injective
+
+pub one-reason : OneReason
+one-reason = numberOf-injective

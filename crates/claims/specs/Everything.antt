@@ -1,0 +1,37 @@
+-- Every claim that docs/PROOF.md names, as one type. Its term is `everything` in proofs/Everything.antt, so a claim whose proof is lost
+-- is refused here, and tests/run-claims holds the page to this list and this list to the page. What a function promises is its contract,
+-- and isn't repeated here.
+use Rattle.faults.specs.Total.{Total}
+use Rattle.dma.specs.Isolation.{Locality, RightsOn, RightsOff}
+use Rattle.dma.specs.Named.{AtMostNine, NoneUntaken}
+use Rattle.interrupts.specs.Claims.{SetsExactly, NoticeExactly, LeavesAll, StaysInside, IndexBound, EntryOfIndex, NoWrap, AtMostTen, NoneBeforeTable, Isolated}
+use Rattle.unit.specs.Isolation.{Isolation, MoreMemory}
+use Rattle.cases.specs.Bench.{TwelveCases}
+use Rattle.claims.specs.OneAnswer.{OneMemoryAnswer, OneInterruptAnswer, OneReason}
+
+pub record Everything : Type 0 where
+  -- demand 1: nothing is changed by an answer that is no post
+  pub leaves-all : LeavesAll
+  -- demand 2: one answer, the post, the index, the recorder, the bench cases
+  pub one-memory-answer : OneMemoryAnswer
+  pub one-interrupt-answer : OneInterruptAnswer
+  pub one-reason : OneReason
+  pub sets-exactly : SetsExactly
+  pub notice-exactly : NoticeExactly
+  pub stays-inside : StaysInside
+  pub index-bound : IndexBound
+  pub entry-of-index : EntryOfIndex
+  pub no-wrap : NoWrap
+  pub total : Total
+  pub twelve-cases : TwelveCases
+  -- demand 3: memory, rights, and the words that are named
+  pub isolation : Isolation
+  pub locality : Locality
+  pub isolated : Isolated
+  pub rights-on : RightsOn
+  pub rights-off : RightsOff
+  pub more-memory : MoreMemory
+  pub at-most-nine : AtMostNine
+  pub none-untaken : NoneUntaken
+  pub at-most-ten : AtMostTen
+  pub none-before-table : NoneBeforeTable
