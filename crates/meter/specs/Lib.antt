@@ -1,0 +1,4 @@
+pub mod Meter
+pub mod Refused
+pub mod Row
+pub mod Runs
