@@ -1,5 +1,5 @@
 -- What one level of the walk makes of the entry that the code fetched and checked.
-use Prim.Native.Nat.{ℕ, zero, suc, _+_, _-_, _*_, _<_}
+use Prim.Native.Nat.{ℕ, zero, suc, _+_, _-_, _*_, _<_, _≤_}
 use mathlib.Core.Bool.{Bool, true, false}
 use mathlib.Core.Path.{_≡_, refl, ap, sym, _∙_}
 use mathlib.Core.List.{List}
@@ -102,17 +102,9 @@ leads registers address write fpd level place e {next} = on (pageCheck registers
     on (go frame) true h = let z : _≡_ {A = ℕ} 0 1 = cc in absurd (omega arith)
     on (go frame) false h = (cc, refl)
 
--- level 1 leads no further
-pub deeper : (registers : Registers) (address : ℕ) (write fpd : Bool) (m : Memory) (n table : ℕ) {next : ℕ}
-    → down next tt ≡ pageOver registers address write fpd m n table → 0 < n
-unfolding stepOver
-deeper registers address write fpd m zero table {next} = on (entry 1 m (placeIn address table 0))
-  where
-    on : (f : Fetched)
-        → down next tt ≡ onFetch f (done (fault 0x07 fpd)) (pageStep registers address write fpd 1 (placeIn address table 0) tt)
-        → 0 < 0
-    on missing h = let z : _≡_ {A = ℕ} 0 1 = cc in absurd (omega arith)
-    on (found e) h =
-        let page = leads registers address write fpd 1 (placeIn address table 0) e h .1 in
-        let z : _≡_ {A = ℕ} 0 1 = cc in absurd (omega arith)
-deeper registers address write fpd m (suc n) table = λ h. omega arith
+-- below level 1 there is no table
+pub past : (registers : Registers) (address : ℕ) (write fpd : Bool) (m : Memory) (level table : ℕ) → level ≤ 0
+    → fault 0x07 fpd ≡ run (pageRules registers address write fpd level table) m
+unfolding run walkRules
+past registers address write fpd m zero table none = refl
+past registers address write fpd m (suc n) table none = absurd (omega arith)

@@ -2,7 +2,7 @@
 -- follows a context is a parameter.
 use Prim.Native.Nat.{ℕ, _+_, _*_}
 use mathlib.Core.Bool.{Bool, false}
-use Rattle.image.specs.Check.{onCheck}
+use Rattle.image.specs.Check.{Check, onCheck}
 use Rattle.image.specs.Rules.{Rules, answer, fetch}
 use Rattle.registers.specs.Source.{busOf, devfnOf}
 use Rattle.registers.specs.declared.Registers.{Registers}
@@ -38,3 +38,7 @@ lookupRules registers = rootRules registers noContext (λ c. answer (context c))
 abbrev pub checkedContext : Registers → (e : ℕ) → Lookup
 checkedContext registers e =
     onCheck (contextCheck registers e) (λ reason. noContext reason (faultProcessingDisabled e)) context
+
+-- a root entry's check that stopped, told as a lookup
+abbrev pub stoppedLookup : Check ℕ → Lookup
+stoppedLookup check = onCheck check (λ reason. noContext reason false) (λ table. noContext 0x08 false)

@@ -7,7 +7,7 @@ use Rattle.image.specs.Memory.{Memory}
 use Rattle.image.specs.Rules.{Rules, answer}
 use Rattle.registers.specs.declared.Registers.{Registers}
 use Rattle.image.specs.Check.{Check, stop, go, onCheck}
-use Rattle.dma.specs.Lookup.{rootRules}
+use Rattle.dma.specs.Lookup.{Lookup, onLookup, rootRules}
 use Rattle.dma.specs.Page.{pageCheck, leafAt}
 use Rattle.dma.specs.Walk.{Step, done, down, walkRules, stepOver}
 use Rattle.dma.specs.declared.context.Context.{Context}
@@ -29,6 +29,10 @@ Reachable (fault reason fpd) = Unit {0}
 abbrev pub checked : (fpd : Bool) → Check ℕ → Step (Unit {0}) Translation
 checked fpd (stop reason) = done (fault reason fpd)
 checked fpd (go frame) = down frame tt
+
+-- a lookup that found no context, told as a translation: for the code's contracts
+abbrev pub withoutContext : Lookup → Translation
+withoutContext found = onLookup found fault (λ c. through)
 
 module _ (registers : Registers) (address : ℕ) (write : Bool) where
   -- a page ends the walk, any other entry leads one level down. Nothing is handed down

@@ -3,8 +3,8 @@ ghost use mathlib.Core.Bool.{false};
 ghost use mathlib.Core.Path.{_≡_};
 ghost use Rattle.image.specs.Memory.{ofImage};
 ghost use Rattle.image.specs.Rules.{run, answer};
-ghost use Rattle.dma.specs.Checked.{lookupOf};
-ghost use Rattle.dma.specs.Lookup.{context, noContext, contextRules, lookupRules};
+ghost use Rattle.dma.specs.Checked.{checkOf, lookupOf};
+ghost use Rattle.dma.specs.Lookup.{context, noContext, stoppedLookup, contextRules, lookupRules};
 use crate::context::Lookup;
 use crate::context::context_check;
 use crate::entry::Check;
@@ -14,6 +14,16 @@ use image::Found16;
 use image::page_entry16;
 use registers::Registers;
 use registers::SourceId;
+
+// A root entry's check that stopped, told as a lookup: a root entry has no FPD. The other arm is never taken.
+fn stopped(check: Check) -> Lookup
+    ensures { λ r. ⌜ lookupOf r ≡ stoppedLookup (checkOf check) ⌝ }
+{
+    match check {
+        Check::Stop(reason) => Lookup::Fault(reason, false),
+        Check::Go(_) => Lookup::Fault(Reason::RootAccess, false),
+    }
+}
 
 fn context_in(image: &[u8], registers: Registers, source: SourceId, table: u64) -> Lookup
     ensures { λ r. ⌜ lookupOf r ≡ run (contextRules registers noContext (λ c. answer (context c)) (source .id) table) (ofImage (now (image .entry))) ⌝ }
@@ -32,8 +42,9 @@ pub(crate) fn find_context(image: &[u8], registers: Registers, source: SourceId)
     let Found16::Entry(e) = page_entry16(image, registers.root_table, 16 * bus as u64) else {
         return Lookup::Fault(Reason::RootAccess, false);
     };
-    match root_check(registers.haw, e) {
-        Check::Stop(reason) => Lookup::Fault(reason, false),
-        Check::Go(table) => context_in(image, registers, source, table),
-    }
+    let check = root_check(registers.haw, e);
+    let Check::Go(table) = check else {
+        return stopped(check);
+    };
+    context_in(image, registers, source, table)
 }

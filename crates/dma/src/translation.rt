@@ -4,8 +4,8 @@ ghost use Prim.Native.Nat.{min};
 ghost use Rattle.dma.specs.Context.{Usable};
 ghost use Rattle.image.specs.Memory.{ofImage};
 ghost use Rattle.image.specs.Rules.{run};
-ghost use Rattle.dma.specs.Checked.{translationOf};
-ghost use Rattle.dma.specs.Translation.{widthRules, translationRules};
+ghost use Rattle.dma.specs.Checked.{lookupOf, translationOf};
+ghost use Rattle.dma.specs.Translation.{withoutContext, widthRules, translationRules};
 use crate::MemoryRequest;
 use crate::context::Context;
 use crate::context::Lookup;
@@ -53,11 +53,22 @@ fn translate_in(
     walk(image, registers, request, context.fpd, levels, context.top)
 }
 
+// A lookup that found no context, told as a translation. The other arm is never taken.
+fn without_context(found: Lookup) -> Translation
+    ensures { λ r. ⌜ translationOf r ≡ withoutContext (lookupOf found) ⌝ }
+{
+    match found {
+        Lookup::Fault(reason, fpd) => Translation::Fault(reason, fpd),
+        Lookup::Found(_) => Translation::Through,
+    }
+}
+
 pub(crate) fn translate(image: &[u8], registers: Registers, request: MemoryRequest) -> Translation
     ensures { λ r. ⌜ translationOf r ≡ run (translationRules registers (request .address) (request .write) (request .source .id)) (ofImage (now (image .entry))) ⌝ }
 {
-    match find_context(image, registers, request.source) {
-        Lookup::Fault(reason, fpd) => Translation::Fault(reason, fpd),
-        Lookup::Found(context) => translate_in(image, registers, request, context),
-    }
+    let found = find_context(image, registers, request.source);
+    let Lookup::Found(context) = found else {
+        return without_context(found);
+    };
+    translate_in(image, registers, request, context)
 }

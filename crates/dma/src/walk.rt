@@ -1,6 +1,6 @@
 // The walk through the page tables, from the top level down.
 ghost use mathlib.Core.Path.{_≡_};
-ghost use Prim.Native.Nat.{_≤_, _<_};
+ghost use Prim.Native.Nat.{_≤_};
 ghost use Rattle.image.specs.Memory.{ofImage};
 ghost use Rattle.image.specs.Rules.{run};
 ghost use Rattle.dma.specs.Checked.{translationOf};
@@ -9,6 +9,7 @@ use crate::MemoryRequest;
 use crate::page::Step;
 use crate::page::page_step;
 use crate::translation::Translation;
+use faults::Reason;
 use registers::Registers;
 
 pub(crate) fn walk(
@@ -19,12 +20,12 @@ pub(crate) fn walk(
     levels: u32,
     table: u64,
 ) -> Translation
-    requires { ⌜ (levels ≤ 5) × (0 < levels) ⌝ }
+    requires { ⌜ levels ≤ 5 ⌝ }
     ensures { λ r. ⌜ translationOf r ≡ run (pageRules registers (request .address) (request .write) fpd levels table) (ofImage (now (image .entry))) ⌝ }
 {
     let mut level = levels;
     let mut at = table;
-    loop {
+    while 0 < level {
         let step = page_step(image, registers, request, fpd, level - 1, at);
         match step {
             Step::Leaf(frame, of) => return Translation::Leaf(frame, of),
@@ -35,4 +36,6 @@ pub(crate) fn walk(
             }
         }
     }
+    // No step leads below level 1.
+    Translation::Fault(Reason::PageEntryAccess, fpd)
 }

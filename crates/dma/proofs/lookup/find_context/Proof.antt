@@ -7,7 +7,7 @@ use Rattle.image.specs.Memory.{found, ofImage, entry}
 use Rattle.image.specs.Rules.{answer, run}
 use Rattle.registers.specs.Source.{busOf, devfnOf}
 use Rattle.dma.specs.Checked.{checkOf}
-use Rattle.dma.specs.Lookup.{context, noContext, contextRules, rootRules}
+use Rattle.dma.specs.Lookup.{context, noContext, stoppedLookup, contextRules, rootRules}
 use Rattle.dma.specs.Root.{rootCheck}
 use Rattle.dma.proofs.Stages.{placed, unfetched, checked}
 use borrow.Author.Needs.{needs}
@@ -49,26 +49,38 @@ returns c =
 root-check-requires : tie.Need-root-check-requires
 root-check-requires c κs = search needs
 
-enum-known-reason : tie.Need-enum-known-reason
-enum-known-reason c = search needs
+enum-known-check : tie.Need-enum-known-check
+enum-known-check c = search needs
 
-enum-known-table : tie.Need-enum-known-table
-enum-known-table c = search needs
+enum-told-2 : tie.Need-enum-told-2
+enum-told-2 c = search needs
 
-context-in-requires : tie.Need-context-in-requires
-context-in-requires c κs = search needs
+stopped-requires : tie.Need-stopped-requires
+stopped-requires c κs = search needs
+
+found-at : (c : tie.After-known-told)
+    → found (number16 (c .before .e .given .0 .0))
+    ≡ entry 2 (ofImage (c .before .before .before .before .before .before .args .image .now)) (c .before .before .before .before .before .before .args .registers .«root_table» + 16 * busOf (c .before .before .before .before .before .before .args .source .id))
+found-at c = sym (ap fetched16 (c .before .e .given .1)) ∙ place (c .before .before .before)
 
 returns-2 : tie.Need-returns-2
 unfolding rootRules run
 returns-2 c =
     let a = c .before .before .before .before .before .before .before .before .before .before .args in
-    checked (ofImage (a .image .now)) (a .registers .«root_table» + 16 * busOf (a .source .id)) (noContext 0x08 false) noContext (λ (e : ℕ). false) (rootCheck (a .registers .haw)) (contextRules (a .registers) noContext (λ c. answer (context c)) (a .source .id)) (sym (ap fetched16 (c .before .before .before .before .before .e .given .1)) ∙ place (c .before .before .before .before .before .before .before)) (sym (ap checkOf (c .before .reason .given .1)) ∙ c .before .before .before .root-check .ensures)
+    let told = sym (ap checkOf (c .before .enum-told2 .given .1)) ∙ c .before .before .before .root-check .ensures in
+    c .stopped .ensures
+    ∙ ap (λ k. stoppedLookup (checkOf k)) (c .before .enum-told2 .given .1)
+    ∙ checked (ofImage (a .image .now)) (a .registers .«root_table» + 16 * busOf (a .source .id)) (noContext 0x08 false) noContext (λ (e : ℕ). false) (rootCheck (a .registers .haw)) (contextRules (a .registers) noContext (λ c. answer (context c)) (a .source .id)) (found-at (c .before .before .before .before)) told
+
+context-in-requires : tie.Need-context-in-requires
+context-in-requires c κs = search needs
 
 returns-3 : tie.Need-returns-3
 unfolding rootRules
 returns-3 c =
     let a = c .before .before .before .before .before .before .before .before .before .before .before .args in
-    c .context-in .ensures ∙ checked (ofImage (a .image .now)) (a .registers .«root_table» + 16 * busOf (a .source .id)) (noContext 0x08 false) noContext (λ (e : ℕ). false) (rootCheck (a .registers .haw)) (contextRules (a .registers) noContext (λ c. answer (context c)) (a .source .id)) (sym (ap fetched16 (c .before .before .before .before .before .before .e .given .1)) ∙ place (c .before .before .before .before .before .before .before .before)) (sym (ap checkOf (c .before .before .table .given .1)) ∙ c .before .before .before .before .root-check .ensures)
+    let told = sym (ap checkOf (c .before .before .check .given .1)) ∙ c .before .before .before .before .root-check .ensures in
+    c .context-in .ensures ∙ checked (ofImage (a .image .now)) (a .registers .«root_table» + 16 * busOf (a .source .id)) (noContext 0x08 false) noContext (λ (e : ℕ). false) (rootCheck (a .registers .haw)) (contextRules (a .registers) noContext (λ c. answer (context c)) (a .source .id)) (found-at (c .before .before .before .before .before)) told
 
 pub find-context-spec : {M : Type 1} → statement M
 find-context-spec =
@@ -82,8 +94,9 @@ find-context-spec =
     enum-told
     returns
     root-check-requires
-    enum-known-reason
-    enum-known-table
-    context-in-requires
+    enum-known-check
+    enum-told-2
+    stopped-requires
     returns-2
+    context-in-requires
     returns-3)

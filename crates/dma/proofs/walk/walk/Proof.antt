@@ -6,13 +6,13 @@ use Rattle.image.specs.Memory.{ofImage}
 use Rattle.image.specs.Rules.{run}
 use Rattle.dma.specs.Checked.{stepOf}
 use Rattle.dma.specs.Translation.{pageRules}
-use Rattle.dma.proofs.Stepped.{ended, onward, deeper}
+use Rattle.dma.proofs.Stepped.{ended, onward, past}
 use Rattle.dma.proofs.walk.walk.Statement.{statement}
 use Rattle.dma.proofs.walk.walk.Tie as tie
 
 abbrev Inv-loop : tie.InvT-loop
 Inv-loop image registers request fpd levels table level₀ at₀ level at =
-    (level ≤ 5) × (0 < level)
+    (level ≤ 5)
     × (run (pageRules registers (request .address) (request .write) fpd level at) (ofImage image)
     ≡ run (pageRules registers (request .address) (request .write) fpd levels table) (ofImage image))
 
@@ -20,7 +20,7 @@ abbrev μ-loop : tie.MeasureT-loop
 μ-loop image registers request fpd levels table level₀ at₀ level at = level
 
 loop-holds : tie.Need-loop-holds Inv-loop μ-loop
-loop-holds c = (omega arith, omega arith, refl)
+loop-holds c = (search needs, refl)
 
 sub-page-step : tie.Need-sub-page-step Inv-loop μ-loop
 sub-page-step c = search needs
@@ -33,18 +33,18 @@ enum-known-step c = search needs
 
 returns : tie.Need-returns Inv-loop μ-loop
 returns c =
-    let a = c .before .before .before .before .before .before .args in
-    let l = c .before .before .before .before .loop in
-    ended (a .registers) (a .request .address) (a .request .write) (a .fpd) (ofImage (a .image .now)) (l .level) (l .at) (l .inv .1) (sym (ap stepOf (c .before .step .given .1)) ∙ c .before .before .before .page-step .ensures) ∙ l .inv .2
+    let a = c .before .before .before .before .before .before .before .args in
+    let l = c .before .before .before .before .before .loop in
+    ended (a .registers) (a .request .address) (a .request .write) (a .fpd) (ofImage (a .image .now)) (l .level) (l .at) (omega arith) (sym (ap stepOf (c .before .step .given .1)) ∙ c .before .before .before .page-step .ensures) ∙ l .inv .1
 
 enum-known-step-2 : tie.Need-enum-known-step-2 Inv-loop μ-loop
 enum-known-step-2 c = search needs
 
 returns-2 : tie.Need-returns-2 Inv-loop μ-loop
 returns-2 c =
-    let a = c .before .before .before .before .before .before .args in
-    let l = c .before .before .before .before .loop in
-    ended (a .registers) (a .request .address) (a .request .write) (a .fpd) (ofImage (a .image .now)) (l .level) (l .at) (l .inv .1) (sym (ap stepOf (c .before .step2 .given .1)) ∙ c .before .before .before .page-step .ensures) ∙ l .inv .2
+    let a = c .before .before .before .before .before .before .before .args in
+    let l = c .before .before .before .before .before .loop in
+    ended (a .registers) (a .request .address) (a .request .write) (a .fpd) (ofImage (a .image .now)) (l .level) (l .at) (omega arith) (sym (ap stepOf (c .before .step2 .given .1)) ∙ c .before .before .before .page-step .ensures) ∙ l .inv .1
 
 enum-known-step-3 : tie.Need-enum-known-step-3 Inv-loop μ-loop
 enum-known-step-3 c = search needs
@@ -57,10 +57,16 @@ loop-less c = search needs
 
 loop-again : tie.Need-loop-again Inv-loop μ-loop
 loop-again c =
-    let a = c .before .before .before .before .before .before .args in
-    let l = c .before .before .before .before .loop in
+    let a = c .before .before .before .before .before .before .before .args in
+    let l = c .before .before .before .before .before .loop in
     let led = sym (ap stepOf (c .before .step3 .given .1)) ∙ c .before .before .before .page-step .ensures in
-    (omega arith, deeper (a .registers) (a .request .address) (a .request .write) (a .fpd) (ofImage (a .image .now)) (l .level - 1) (l .at) led, onward (a .registers) (a .request .address) (a .request .write) (a .fpd) (ofImage (a .image .now)) (l .level) (l .at) (l .inv .1) led ∙ l .inv .2)
+    (omega arith, onward (a .registers) (a .request .address) (a .request .write) (a .fpd) (ofImage (a .image .now)) (l .level) (l .at) (omega arith) led ∙ l .inv .1)
+
+returns-3 : tie.Need-returns-3 Inv-loop μ-loop
+returns-3 c =
+    let a = c .before .before .before .args in
+    let l = c .before .loop in
+    past (a .registers) (a .request .address) (a .request .write) (a .fpd) (ofImage (a .image .now)) (l .level) (l .at) (c .loop-test .left) ∙ l .inv .1
 
 pub walk-spec : {M : Type 1} → statement M
 walk-spec =
@@ -78,4 +84,5 @@ walk-spec =
     enum-known-step-3
     sub-level
     loop-less
-    loop-again)
+    loop-again
+    returns-3)
