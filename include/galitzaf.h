@@ -58,7 +58,7 @@ extern "C" {
 
 /* What a call answers. */
 #define GALITZAF_OK 0x00             /* a request: the answer buffer holds its answer */
-#define GALITZAF_REFUSED_3 0x03      /* recorder: record buffer, next slot or slot out of range */
+#define GALITZAF_REFUSED_3 0x03      /* recorder: length of records or state, next slot or slot out of range */
 #define GALITZAF_NO_FAULT 0x10       /* record: the answer holds no fault */
 #define GALITZAF_NOT_RECORDABLE 0x11 /* record: FPD silenced the fault */
 #define GALITZAF_DROPPED 0x12        /* record: overflow was set already */
@@ -71,7 +71,7 @@ extern "C" {
 #define GALITZAF_BAD_REGISTERS 0x101 /* not 24 bytes, or a bit set that has to be zero */
 #define GALITZAF_BAD_ANSWER 0x102    /* not 24 bytes, or, to be recorded, of no kind above */
 #define GALITZAF_BAD_KIND 0x103      /* write is neither 0 nor 1 */
-#define GALITZAF_BAD_RECORDER 0x104  /* not 2 bytes, or overflow is neither 0 nor 1 */
+#define GALITZAF_BAD_RECORDER 0x104  /* overflow is neither 0 nor 1 */
 
 /* Where an untranslated request may go. source has the bus in 15:8, device and function in 7:0; write
  * is 1 for a write, 0 for a read. */
@@ -87,8 +87,9 @@ uint32_t galitzaf_interrupt_request(const uint8_t *registers, size_t registers_l
                                     uint16_t source, uint64_t address, uint32_t data,
                                     uint8_t *answer, size_t answer_len);
 
-/* Records the fault of a request's answer. A malformed answer is told first, then a malformed recorder,
- * then refusal 3, then that the answer holds no fault. A byte 2 other than 1 counts as not recordable. */
+/* Records the fault of a request's answer. Every recorder call tells refusal 3 first: records or a state
+ * of another length, a next slot or a slot to clear above the last. Here a malformed answer comes next, then
+ * a malformed recorder, then that the answer holds no fault. A byte 2 other than 1 counts as not recordable. */
 uint32_t galitzaf_record(const uint8_t *answer, size_t answer_len,
                          uint8_t *records, size_t records_len,
                          uint8_t *recorder, size_t recorder_len);

@@ -11,9 +11,13 @@ use Rattle.faults.specs.Slots.{one-if}
 use Rattle.ffi.specs.Buffer.{byte, bytes}
 use Rattle.ffi.specs.Status.{badAnswer, badRecorder, noFault}
 
--- not 2 bytes, or overflow is neither 0 nor 1
-unfoldable pub badState : List ℕ → Bool
-badState recorder = not (eqb (length recorder) 2) || ltb 1 (byte recorder 1)
+-- number 3, checked first by every call: the state isn't 2 bytes, or the records or the next slot are out of place
+unfoldable pub unfit : (len : ℕ) (recorder : List ℕ) → Bool
+unfit len recorder = not (eqb (length recorder) 2) || outOfPlace 8 len (byte recorder 0)
+
+-- overflow is neither 0 nor 1
+abbrev pub badState : List ℕ → Bool
+badState recorder = ltb 1 (byte recorder 1)
 
 abbrev pub overflowIn : List ℕ → Bool
 overflowIn recorder = eqb (byte recorder 1) 1
@@ -31,12 +35,14 @@ withState a = (a .answer, stateBytes (a .state .next) (a .state .overflow))
 
 unfoldable pub clearSlotCall : (records recorder : List ℕ) (slot : ℕ) → ℕ × List ℕ
 clearSlotCall records recorder slot =
-    if badState recorder then (badRecorder, records)
+    if unfit (length records) recorder || leb 8 slot then (refused, records)
+    else if badState recorder then (badRecorder, records)
     else withRecords (clearing 8 records (byte recorder 0) (overflowIn recorder) slot)
 
 unfoldable pub clearOverflowCall : (records recorder : List ℕ) → ℕ × List ℕ
 clearOverflowCall records recorder =
-    if badState recorder then (badRecorder, recorder)
+    if unfit (length records) recorder then (refused, recorder)
+    else if badState recorder then (badRecorder, recorder)
     else withState (clearingOverflow 8 records (byte recorder 0) (overflowIn recorder))
 
 -- not 24 bytes, or of no kind that a request answers
@@ -54,8 +60,8 @@ withBoth a = (a .answer, a .state .buffer, stateBytes (a .state .next) (a .state
 -- byte 0 of a fault's answer is 1, and byte 2 is 1 where it may be recorded
 unfoldable pub recordCall : (answer records recorder : List ℕ) → ℕ × List ℕ × List ℕ
 recordCall answer records recorder =
-    if badFault answer then (badAnswer, records, recorder)
+    if unfit (length records) recorder then (refused, records, recorder)
+    else if badFault answer then (badAnswer, records, recorder)
     else if badState recorder then (badRecorder, records, recorder)
-    else if outOfPlace 8 (length records) (byte recorder 0) then (refused, records, recorder)
     else if not (eqb (byte answer 0) 1) then (noFault, records, recorder)
     else withBoth (recording 8 records (byte recorder 0) (overflowIn recorder) (eqb (byte answer 2) 1) (recordIn answer))

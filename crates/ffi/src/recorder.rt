@@ -1,10 +1,9 @@
 // The recorder's calls, its state in two bytes: the next slot, and overflow as 0 or 1.
 ghost use mathlib.Core.Path.{_≡_};
-ghost use mathlib.Core.Bool.{false};
 ghost use lib.Dec.{eqb};
 ghost use lib.ListN.{length};
 ghost use Rattle.ffi.specs.Buffer.{byte};
-ghost use Rattle.ffi.specs.Recording.{badState, stateBytes, badFault, clearSlotCall, clearOverflowCall, recordCall};
+ghost use Rattle.ffi.specs.Recording.{unfit, stateBytes, badFault, clearSlotCall, clearOverflowCall, recordCall};
 use crate::answer::flag;
 use crate::buffer::word;
 use crate::status::BAD_ANSWER;
@@ -17,17 +16,18 @@ use faults::after_clear_overflow;
 use faults::after_words;
 use faults::out_of_place;
 
-fn bad_state(recorder: &[u8]) -> bool
-    ensures { λ r. ⌜ r ≡ badState (now (recorder .entry)) ⌝ }
+// Refusal 3, as far as every call checks it: a state that isn't 2 bytes, or records or a next slot out of place.
+fn is_unfit(len: usize, recorder: &[u8]) -> bool
+    ensures { λ r. ⌜ r ≡ unfit len (now (recorder .entry)) ⌝ }
 {
     if recorder.len() != 2 {
         return true;
     }
-    1 < recorder[1]
+    out_of_place(len, recorder[0])
 }
 
 fn read_state(recorder: &[u8]) -> Recorder
-    requires { ⌜ badState (now recorder) ≡ false ⌝ }
+    requires { ⌜ length (now recorder) ≡ 2 ⌝ }
     ensures { λ r. ⌜ (r .next ≡ byte (now (recorder .entry)) 0) × (r .overflow ≡ eqb (byte (now (recorder .entry)) 1) 1) ⌝ }
 {
     Recorder {
@@ -48,7 +48,10 @@ fn write_state(recorder: &mut [u8], state: Recorder)
 pub extern "C" fn galitzaf_clear_slot(records: &mut [u8], recorder: &[u8], slot: u8) -> u32
     ensures { λ r. ⌜ (r, now (records .exit)) ≡ clearSlotCall (now (records .entry)) (now (recorder .entry)) slot ⌝ }
 {
-    if bad_state(recorder) {
+    if is_unfit(records.len(), recorder) | (8 <= slot) {
+        return REFUSED_3;
+    }
+    if 1 < recorder[1] {
         return BAD_RECORDER;
     }
     let step = after_clear(records, read_state(recorder), slot);
@@ -60,7 +63,10 @@ pub extern "C" fn galitzaf_clear_slot(records: &mut [u8], recorder: &[u8], slot:
 pub extern "C" fn galitzaf_clear_overflow(records: &[u8], recorder: &mut [u8]) -> u32
     ensures { λ r. ⌜ (r, now (recorder .exit)) ≡ clearOverflowCall (now (records .entry)) (now (recorder .entry)) ⌝ }
 {
-    if bad_state(recorder) {
+    if is_unfit(records.len(), recorder) {
+        return REFUSED_3;
+    }
+    if 1 < recorder[1] {
         return BAD_RECORDER;
     }
     let step = after_clear_overflow(records, read_state(recorder));
@@ -84,22 +90,21 @@ fn bad_answer(answer: &[u8]) -> bool
 pub extern "C" fn galitzaf_record(answer: &[u8], records: &mut [u8], recorder: &mut [u8]) -> u32
     ensures { λ r. ⌜ (r, now (records .exit), now (recorder .exit)) ≡ recordCall (now (answer .entry)) (now (records .entry)) (now (recorder .entry)) ⌝ }
 {
+    if is_unfit(records.len(), recorder) {
+        return REFUSED_3;
+    }
     if bad_answer(answer) {
         return BAD_ANSWER;
     }
-    if bad_state(recorder) {
+    if 1 < recorder[1] {
         return BAD_RECORDER;
-    }
-    let state = read_state(recorder);
-    if out_of_place(records.len(), state.next) {
-        return REFUSED_3;
     }
     if answer[0] != 1 {
         return NO_FAULT;
     }
     let low = word(answer, 8);
     let high = word(answer, 16);
-    let step = after_words(records, state, answer[2] == 1, low, high);
+    let step = after_words(records, read_state(recorder), answer[2] == 1, low, high);
     let said = step.answer;
     let left = step.recorder;
     write_state(recorder, left);

@@ -1,5 +1,5 @@
-//! Malformed calls: one argument that the header calls malformed, everything else good. The call
-//! says which, and nothing changes.
+//! Malformed calls: one argument that the header calls malformed, everything else good; and calls
+//! that number 3 refuses, whatever else is wrong with them. The call says which, and nothing changes.
 
 use crate::bytes;
 use crate::met::{Call, Met};
@@ -11,7 +11,7 @@ use interface::{ANSWER_SIZE, RECORDER_SIZE, RECORDS_SIZE, REGISTERS_SIZE};
 pub const NAME: &str = "malformed";
 
 /// Calls.
-pub const CALLS: u64 = 9 * 500;
+pub const CALLS: u64 = 12 * 500;
 
 /// The arguments of any call.
 #[derive(Clone, PartialEq, Eq)]
@@ -43,11 +43,8 @@ fn spoil_registers(random: &mut Random, registers: &mut Vec<u8>) {
     registers[byte as usize] |= 1 << bit;
 }
 
-/// Sets overflow to something other than 0 or 1, or changes the length.
-fn spoil_recorder(random: &mut Random, recorder: &mut Vec<u8>) {
-    if random.coin() {
-        return resized(random, recorder);
-    }
+/// Sets overflow to something other than 0 or 1.
+fn spoil_overflow(random: &mut Random, recorder: &mut [u8]) {
     recorder[1] = 2 + random.below(254) as u8;
 }
 
@@ -59,6 +56,22 @@ fn spoil_recorded(random: &mut Random, answer: &mut Vec<u8>) {
     answer[0] = 6 + random.below(250) as u8;
 }
 
+/// Records or a state of another length, or a next slot above the last; the rest may be malformed
+/// too, which number 3 comes before.
+fn spoil_place(random: &mut Random, arguments: &mut Arguments) {
+    if random.coin() {
+        spoil_overflow(random, &mut arguments.recorder);
+    }
+    if random.coin() {
+        spoil_recorded(random, &mut arguments.answer);
+    }
+    match random.below(3) {
+        0 => resized(random, &mut arguments.records),
+        1 => resized(random, &mut arguments.recorder),
+        _ => arguments.recorder[0] = 8 + random.below(248) as u8,
+    }
+}
+
 /// What is called, and what is wrong with it.
 fn spoil(random: &mut Random, which: u64, arguments: &mut Arguments) -> (Call, u32) {
     match which {
@@ -66,7 +79,8 @@ fn spoil(random: &mut Random, which: u64, arguments: &mut Arguments) -> (Call, u
         2 | 3 => resized(random, &mut arguments.answer),
         4 => arguments.write = 2 + random.below(254) as u8,
         5 => spoil_recorded(random, &mut arguments.answer),
-        _ => spoil_recorder(random, &mut arguments.recorder),
+        6..=8 => spoil_overflow(random, &mut arguments.recorder),
+        _ => spoil_place(random, arguments),
     }
     match which {
         0 => (Call::Memory, 0x101),
@@ -77,7 +91,10 @@ fn spoil(random: &mut Random, which: u64, arguments: &mut Arguments) -> (Call, u
         5 => (Call::Record, 0x102),
         6 => (Call::Record, 0x104),
         7 => (Call::ClearSlot, 0x104),
-        _ => (Call::ClearOverflow, 0x104),
+        8 => (Call::ClearOverflow, 0x104),
+        9 => (Call::Record, 0x03),
+        10 => (Call::ClearSlot, 0x03),
+        _ => (Call::ClearOverflow, 0x03),
     }
 }
 
@@ -117,7 +134,7 @@ pub fn run(number: u64, tally: Option<&mut Tally>) -> Result<(), String> {
         recorder: [0; RECORDER_SIZE].to_vec(),
     };
     debug_assert_eq!(before.registers.len(), REGISTERS_SIZE);
-    let (which, expected) = spoil(&mut random, number % 9, &mut before);
+    let (which, expected) = spoil(&mut random, number % 12, &mut before);
     let mut after = before.clone();
     let status = call(which, &mut after);
     if status != expected || after != before {

@@ -62,9 +62,9 @@ fn malformed(wanted: &mut Vec<Met>) {
     for (call, statuses) in [
         (Call::Memory, [0x101, 0x102, 0x103].as_slice()),
         (Call::Interrupt, &[0x101, 0x102]),
-        (Call::Record, &[0x102, 0x104]),
-        (Call::ClearSlot, &[0x104]),
-        (Call::ClearOverflow, &[0x104]),
+        (Call::Record, &[0x03, 0x102, 0x104]),
+        (Call::ClearSlot, &[0x03, 0x104]),
+        (Call::ClearOverflow, &[0x03, 0x104]),
     ] {
         wanted.extend(
             statuses

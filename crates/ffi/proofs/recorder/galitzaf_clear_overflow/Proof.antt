@@ -1,55 +1,61 @@
-use mathlib.Core.Path.{_≡_, refl, ap, sym, _∙_}
-use Rattle.faults.specs.Answers.{afterOf}
-use Rattle.ffi.proofs.States.{two-bytes, overflow-refused, overflow-cleared}
+-- Each way out is a line of the definition.
+use Prim.Native.Nat.{ℕ}
+use mathlib.Core.Path.{_≡_, ap, sym, _∙_}
+use native.Mathlib.Omega.{arith}
 use borrow.Author.Needs.{needs}
+use borrow.Author.Tests.{lt-ltb, le-ltb}
+use lib.ListN.{length}
+use Rattle.ffi.specs.Recording.{clearOverflowCall, withState}
+use Rattle.ffi.proofs.States.{two-bytes}
 use Rattle.ffi.proofs.recorder.galitzaf_clear_overflow.Statement.{statement}
 use Rattle.ffi.proofs.recorder.galitzaf_clear_overflow.Tie as tie
 
-bad-state-requires : tie.Need-bad-state-requires
-bad-state-requires c κs = search needs
-
-same-length : tie.Need-same-length
-same-length c = search needs
-
 returns : tie.Need-returns
-returns c =
+unfolding clearOverflowCall
+returns c = rw (← c .before .is-unfit .ensures, c .if1 .taken)
+
+two : (c : tie.Else1) → length (c .before .before .before .before .before .args .recorder .now) ≡ 2
+two c =
     let a = c .before .before .before .before .before .args in
-    overflow-refused (a .records .now) (a .recorder .now) (sym (c .before .bad-state .ensures) ∙ c .if1 .taken)
+    two-bytes (length (a .records .now)) (a .recorder .now) (sym (c .before .is-unfit .ensures) ∙ c .if1 .left)
 
-read-state-requires : tie.Need-read-state-requires
-read-state-requires c κs = sym (c .before .before .bad-state .ensures) ∙ c .before .if1 .left
-
-after-clear-overflow-requires : tie.Need-after-clear-overflow-requires
-after-clear-overflow-requires c κs = search needs
-
-write-state-requires : tie.Need-write-state-requires
-write-state-requires c κs = two-bytes (c .before .before .before .before .before .before .before .before .before .before .args .recorder .now) (sym (c .before .before .before .before .before .before .bad-state .ensures) ∙ c .before .before .before .before .before .if1 .left)
-
-number-requires : tie.Need-number-requires
-number-requires c κs = search needs
-
-same-length-2 : tie.Need-same-length-2
-same-length-2 c = search needs
+slice-read-if2 : tie.Need-slice-read-if2
+slice-read-if2 c = omega (arith, two (c .before))
 
 returns-2 : tie.Need-returns-2
+unfolding clearOverflowCall
 returns-2 c =
-    let a = c .before .before .before .before .before .before .before .before .before .before .before .before .before .before .args in
-    let step = c .before .before .before .before .before .before .after-clear-overflow in
-    let good = sym (c .before .before .before .before .before .before .before .before .before .before .bad-state .ensures) ∙ c .before .before .before .before .before .before .before .before .before .if1 .left in
-    let read = c .before .before .before .before .before .before .before .read-state .ensures in
-    rw (c .number .ensures, c .before .before .before .write-state .ensures)
-    (overflow-cleared (a .records .now) (a .recorder .now) good (read .0) (read .1) (afterOf (step .result) (a .records .now)) (step .ensures))
+    let past = c .before .before in
+    rw (← past .before .is-unfit .ensures, past .if1 .left, lt-ltb _ _ (c .if2 .taken))
+
+read-state-requires : tie.Need-read-state-requires
+read-state-requires c κs = two (c .before .before .before)
+
+write-state-requires : tie.Need-write-state-requires
+write-state-requires c κs = two (c .before .before .before .before .before .before .before)
+
+returns-3 : tie.Need-returns-3
+unfolding clearOverflowCall
+returns-3 c =
+    let wrote = c .before .before .before in
+    let cleared = wrote .before .before .before in
+    let read = cleared .before in
+    let second = read .before .before in
+    let first = second .before .before in
+    rw (
+      c .number .ensures,
+      wrote .write-state .ensures,
+      ← first .before .is-unfit .ensures,
+      first .if1 .left,
+      le-ltb _ _ (second .if2 .left),
+      ← read .read-state .ensures .0,
+      ← read .read-state .ensures .1,
+    )
+    (ap withState (cleared .after-clear-overflow .ensures))
 
 pub galitzaf-clear-overflow-spec : {M : Type 1} → statement M
 galitzaf-clear-overflow-spec =
     tie.close
     (tie.spec
-    bad-state-requires
-    same-length
-    returns
-    read-state-requires
-    after-clear-overflow-requires
-    write-state-requires
-    number-requires
-    same-length-2
-    returns-2)
+    (λ c κs. search needs) (λ c. search needs) returns slice-read-if2 (λ c. search needs) returns-2 read-state-requires
+    (λ c κs. search needs) write-state-requires (λ c κs. search needs) (λ c. search needs) returns-3)

@@ -1,49 +1,59 @@
+-- Each way out is a line of the definition.
 use Prim.Native.Nat.{ℕ}
-use mathlib.Core.List.{List}
-use mathlib.Core.Path.{_≡_, refl, ap, sym, _∙_}
-use Rattle.faults.specs.Answers.{afterOf}
-use Rattle.ffi.proofs.States.{slot-refused, slot-cleared}
+use mathlib.Core.Path.{_≡_, ap, sym, _∙_}
+use native.Mathlib.Omega.{arith}
 use borrow.Author.Needs.{needs}
+use borrow.Author.Tests.{lt-ltb, le-ltb}
+use lib.Dec.{leb}
+use lib.ListN.{length}
+use Rattle.faults.proofs.Recording.{neither}
+use Rattle.ffi.specs.Recording.{clearSlotCall, withRecords}
+use Rattle.ffi.proofs.States.{two-bytes}
 use Rattle.ffi.proofs.recorder.galitzaf_clear_slot.Statement.{statement}
 use Rattle.ffi.proofs.recorder.galitzaf_clear_slot.Tie as tie
 
-bad-state-requires : tie.Need-bad-state-requires
-bad-state-requires c κs = search needs
-
 returns : tie.Need-returns
-returns c =
+unfolding clearSlotCall
+returns c = rw (← c .before .is-unfit .ensures, c .if1 .taken)
+
+two : (c : tie.Else1) → length (c .before .before .before .before .args .recorder .now) ≡ 2
+two c =
     let a = c .before .before .before .before .args in
-    slot-refused (a .records .now) (a .recorder .now) (a .slot) (sym (c .before .bad-state .ensures) ∙ c .if1 .taken)
+    let fit = neither (c .before .is-unfit .result) (leb 8 (a .slot)) (c .if1 .left) .0 in
+    two-bytes (length (a .records .now)) (a .recorder .now) (sym (c .before .is-unfit .ensures) ∙ fit)
 
-read-state-requires : tie.Need-read-state-requires
-read-state-requires c κs = sym (c .before .before .bad-state .ensures) ∙ c .before .if1 .left
-
-after-clear-requires : tie.Need-after-clear-requires
-after-clear-requires c κs = search needs
-
-number-requires : tie.Need-number-requires
-number-requires c κs = search needs
-
-same-length : tie.Need-same-length
-same-length c = search needs
+shared-slice-read-if2 : tie.Need-shared-slice-read-if2
+shared-slice-read-if2 c = omega (arith, two (c .before))
 
 returns-2 : tie.Need-returns-2
+unfolding clearSlotCall
 returns-2 c =
-    let a = c .before .before .before .before .before .before .before .before .before .before .args in
-    let step = c .before .before .before .after-clear in
-    let good = sym (c .before .before .before .before .before .before .before .bad-state .ensures) ∙ c .before .before .before .before .before .before .if1 .left in
-    let read = c .before .before .before .before .read-state .ensures in
-    rw (c .number .ensures)
-    (slot-cleared (a .records .now) (a .recorder .now) good (read .0) (read .1) (afterOf (step .result) (step .last .0)) (a .slot) (step .ensures))
+    let past = c .before .before in
+    rw (← past .before .is-unfit .ensures, past .if1 .left, lt-ltb _ _ (c .if2 .taken))
+
+read-state-requires : tie.Need-read-state-requires
+read-state-requires c κs = two (c .before .before .before)
+
+returns-3 : tie.Need-returns-3
+unfolding clearSlotCall
+returns-3 c =
+    let cleared = c .before .before .before in
+    let read = cleared .before in
+    let second = read .before .before in
+    let first = second .before .before in
+    rw (
+      c .number .ensures,
+      ← first .before .is-unfit .ensures,
+      first .if1 .left,
+      le-ltb _ _ (second .if2 .left),
+      ← read .read-state .ensures .0,
+      ← read .read-state .ensures .1,
+    )
+    (ap withRecords (cleared .after-clear .ensures))
 
 pub galitzaf-clear-slot-spec : {M : Type 1} → statement M
 galitzaf-clear-slot-spec =
     tie.close
     (tie.spec
-    bad-state-requires
-    returns
-    read-state-requires
-    after-clear-requires
-    number-requires
-    same-length
-    returns-2)
+    (λ c κs. search needs) returns shared-slice-read-if2 returns-2 read-state-requires (λ c κs. search needs)
+    (λ c κs. search needs) (λ c. search needs) returns-3)

@@ -1,115 +1,123 @@
-use mathlib.Core.Path.{_≡_, refl, ap, sym, _∙_}
+-- Each way out is a line of the definition.
+use Prim.Native.Nat.{ℕ}
+use mathlib.Core.Path.{_≡_, ap, sym, _∙_}
 use native.Mathlib.Omega.{arith}
-use Rattle.image.specs.Memory.{wordAt}
-use Rattle.faults.specs.Answers.{afterOf}
-use lib.Dec.{lit≤}
-use Rattle.ffi.proofs.States.{two-bytes, answer-length, word-of, record-unread, record-unstated, record-refused, record-none, recorded}
 use borrow.Author.Needs.{needs}
+use borrow.Author.Tests.{lt-ltb, le-ltb, eq-eqb, ne-eqb}
+use lib.Dec.{lit≤}
+use lib.ListN.{length}
+use Rattle.image.specs.Memory.{wordAt}
+use Rattle.ffi.specs.Recording.{recordCall, withBoth}
+use Rattle.ffi.proofs.States.{two-bytes, answer-length, word-of}
 use Rattle.ffi.proofs.recorder.galitzaf_record.Statement.{statement}
 use Rattle.ffi.proofs.recorder.galitzaf_record.Tie as tie
 
-bad-answer-requires : tie.Need-bad-answer-requires
-bad-answer-requires c κs = search needs
-
 returns : tie.Need-returns
-returns c =
-    let a = c .before .before .before .before .before .args in
-    record-unread (a .answer .now) (a .records .now) (a .recorder .now) (sym (c .before .bad-answer .ensures) ∙ c .if1 .taken)
-
-bad-state-requires : tie.Need-bad-state-requires
-bad-state-requires c κs = search needs
-
-same-length : tie.Need-same-length
-same-length c = search needs
+unfolding recordCall
+returns c = rw (← c .before .is-unfit .ensures, c .if1 .taken)
 
 returns-2 : tie.Need-returns-2
+unfolding recordCall
 returns-2 c =
-    let a = c .before .before .before .before .before .before .before .before .args in
-    record-unstated (a .answer .now) (a .records .now) (a .recorder .now) (sym (c .before .before .before .before .bad-answer .ensures) ∙ c .before .before .before .if1 .left) (sym (c .before .bad-state .ensures) ∙ c .if2 .taken)
+    let first = c .before .before in
+    rw (← first .before .is-unfit .ensures, first .if1 .left, ← c .before .bad-answer .ensures, c .if2 .taken)
 
-read-state-requires : tie.Need-read-state-requires
-read-state-requires c κs = sym (c .before .before .bad-state .ensures) ∙ c .before .if2 .left
+two : (c : tie.Else1) → length (c .before .before .before .before .before .before .args .recorder .now) ≡ 2
+two c =
+    let a = c .before .before .before .before .before .before .args in
+    two-bytes (length (a .records .now)) (a .recorder .now) (sym (c .before .is-unfit .ensures) ∙ c .if1 .left)
 
-out-of-place-requires : tie.Need-out-of-place-requires
-out-of-place-requires c κs = search needs
+whole : (c : tie.Else2) → length (c .before .before .before .before .before .before .before .before .args .answer .now) ≡ 24
+whole c =
+    answer-length (c .before .before .before .before .before .before .before .before .args .answer .now)
+    (sym (c .before .bad-answer .ensures) ∙ c .if2 .left)
 
-same-length-2 : tie.Need-same-length-2
-same-length-2 c = search needs
+slice-read-if3 : tie.Need-slice-read-if3
+slice-read-if3 c = omega (arith, two (c .before .before .before))
 
 returns-3 : tie.Need-returns-3
+unfolding recordCall
 returns-3 c =
-    let a = c .before .before .before .before .before .before .before .before .before .before .before .before .args in
-    record-refused (a .answer .now) (a .records .now) (a .recorder .now) (sym (c .before .before .before .before .before .before .before .before .bad-answer .ensures) ∙ c .before .before .before .before .before .before .before .if1 .left) (sym (c .before .before .before .before .before .bad-state .ensures) ∙ c .before .before .before .before .if2 .left) (c .before .before .read-state .ensures .0) (c .before .before .read-state .ensures .1) (sym (c .before .out-of-place .ensures) ∙ c .if3 .taken)
+    let second = c .before .before in
+    let first = second .before .before in
+    rw (
+      ← first .before .is-unfit .ensures,
+      first .if1 .left,
+      ← second .before .bad-answer .ensures,
+      second .if2 .left,
+      lt-ltb _ _ (c .if3 .taken),
+    )
 
 shared-slice-read-if4 : tie.Need-shared-slice-read-if4
-shared-slice-read-if4 c = omega (arith, answer-length (c .before .before .before .before .before .before .before .before .before .before .before .before .before .args .answer .now) (sym (c .before .before .before .before .before .before .before .before .before .bad-answer .ensures) ∙ c .before .before .before .before .before .before .before .before .if1 .left))
-
-same-length-3 : tie.Need-same-length-3
-same-length-3 c = search needs
+shared-slice-read-if4 c = omega (arith, whole (c .before .before .before))
 
 returns-4 : tie.Need-returns-4
+unfolding recordCall
 returns-4 c =
-    let a = c .before .before .before .before .before .before .before .before .before .before .before .before .before .before .args in
-    record-none (a .answer .now) (a .records .now) (a .recorder .now) (sym (c .before .before .before .before .before .before .before .before .before .before .bad-answer .ensures) ∙ c .before .before .before .before .before .before .before .before .before .if1 .left) (sym (c .before .before .before .before .before .before .before .bad-state .ensures) ∙ c .before .before .before .before .before .before .if2 .left) (c .before .before .before .before .read-state .ensures .0) (c .before .before .before .before .read-state .ensures .1) (sym (c .before .before .before .out-of-place .ensures) ∙ c .before .before .if3 .left) (c .if4 .taken)
+    let third = c .before .before in
+    let second = third .before .before in
+    let first = second .before .before in
+    rw (
+      ← first .before .is-unfit .ensures,
+      first .if1 .left,
+      ← second .before .bad-answer .ensures,
+      second .if2 .left,
+      le-ltb _ _ (third .if3 .left),
+      ne-eqb _ _ (c .if4 .taken),
+    )
 
-word-requires : tie.Need-word-requires
-word-requires c κs = search needs
-
-word-requires-2 : tie.Need-word-requires-2
-word-requires-2 c κs = search needs
+read-state-requires : tie.Need-read-state-requires
+read-state-requires c κs =
+    let fourth = c .before .before .before .before in
+    two (fourth .before .before .before .before .before .before)
 
 shared-slice-read-after-words : tie.Need-shared-slice-read-after-words
-shared-slice-read-after-words c = omega (arith, answer-length (c .before .before .before .before .before .before .before .before .before .before .before .before .before .before .before .before .before .before .args .answer .now) (sym (c .before .before .before .before .before .before .before .before .before .before .before .before .before .before .bad-answer .ensures) ∙ c .before .before .before .before .before .before .before .before .before .before .before .before .before .if1 .left))
-
-after-words-requires : tie.Need-after-words-requires
-after-words-requires c κs = search needs
+shared-slice-read-after-words c =
+    let fourth = c .before .before .before .before .before .before in
+    omega (arith, whole (fourth .before .before .before .before))
 
 write-state-requires : tie.Need-write-state-requires
-write-state-requires c κs = two-bytes (c .before .before .before .before .before .before .before .before .before .before .before .before .before .before .before .before .before .before .before .before .before .before .before .args .recorder .now) (sym (c .before .before .before .before .before .before .before .before .before .before .before .before .before .before .before .before .bad-state .ensures) ∙ c .before .before .before .before .before .before .before .before .before .before .before .before .before .before .before .if2 .left)
-
-number-requires : tie.Need-number-requires
-number-requires c κs = search needs
-
-same-length-4 : tie.Need-same-length-4
-same-length-4 c = search needs
-
-same-length-5 : tie.Need-same-length-5
-same-length-5 c = search needs
+write-state-requires c κs =
+    let read = c .before .before .before .before .before .before in
+    let fourth = read .before .before .before .before .before in
+    two (fourth .before .before .before .before .before .before)
 
 returns-5 : tie.Need-returns-5
-unfolding wordAt
+unfolding recordCall wordAt
 returns-5 c =
-    let a = c .before .before .before .before .before .before .before .before .before .before .before .before .before .before .before .before .before .before .before .before .before .before .before .before .before .before .before .args in
-    let step = c .before .before .before .before .before .before .before .before .after-words in
-    let fine = (sym (c .before .before .before .before .before .before .before .before .before .before .before .before .before .before .before .before .before .before .before .before .before .before .before .bad-answer .ensures) ∙ c .before .before .before .before .before .before .before .before .before .before .before .before .before .before .before .before .before .before .before .before .before .before .if1 .left) in
-    rw (c .number .ensures, c .before .before .before .write-state .ensures)
-    (recorded (a .answer .now) (a .records .now) (a .recorder .now) fine (sym (c .before .before .before .before .before .before .before .before .before .before .before .before .before .before .before .before .before .before .before .before .bad-state .ensures) ∙ c .before .before .before .before .before .before .before .before .before .before .before .before .before .before .before .before .before .before .before .if2 .left) (c .before .before .before .before .before .before .before .before .before .before .before .before .before .before .before .before .before .read-state .ensures .0) (c .before .before .before .before .before .before .before .before .before .before .before .before .before .before .before .before .before .read-state .ensures .1) (sym (c .before .before .before .before .before .before .before .before .before .before .before .before .before .before .before .before .out-of-place .ensures) ∙ c .before .before .before .before .before .before .before .before .before .before .before .before .before .before .before .if3 .left) (c .before .before .before .before .before .before .before .before .before .before .before .before .before .if4 .left)
-    (c .before .before .before .before .before .before .before .before .before .before .before .before .word .ensures ∙ word-of (a .answer .now) fine 8 (lit≤ tt))
-    (c .before .before .before .before .before .before .before .before .before .before .before .word2 .ensures ∙ word-of (a .answer .now) fine 16 (lit≤ tt))
-    (afterOf (step .result) (step .last .0)) (step .ensures))
+    let wrote = c .before .before .before in
+    let made = wrote .before .before .before .before .before in
+    let read = made .before .before in
+    let words = read .before .before .before in
+    let fourth = words .before .before in
+    let third = fourth .before .before in
+    let second = third .before .before in
+    let first = second .before .before in
+    let answer = first .before .before .before .before .before .before .args .answer .now in
+    let fine = sym (second .before .bad-answer .ensures) ∙ second .if2 .left in
+    rw (
+      c .number .ensures,
+      wrote .write-state .ensures,
+      ← first .before .is-unfit .ensures,
+      first .if1 .left,
+      ← second .before .bad-answer .ensures,
+      second .if2 .left,
+      le-ltb _ _ (third .if3 .left),
+      eq-eqb _ _ (fourth .if4 .left),
+      ← word-of answer fine 8 (lit≤ tt),
+      ← word-of answer fine 16 (lit≤ tt),
+      ← words .before .word .ensures,
+      ← words .word2 .ensures,
+      ← read .read-state .ensures .0,
+      ← read .read-state .ensures .1,
+    )
+    (ap withBoth (made .after-words .ensures))
 
 pub galitzaf-record-spec : {M : Type 1} → statement M
 galitzaf-record-spec =
     tie.close
     (tie.spec
-    bad-answer-requires
-    returns
-    bad-state-requires
-    same-length
-    returns-2
-    read-state-requires
-    out-of-place-requires
-    same-length-2
-    returns-3
-    shared-slice-read-if4
-    same-length-3
-    returns-4
-    word-requires
-    word-requires-2
-    shared-slice-read-after-words
-    after-words-requires
-    write-state-requires
-    number-requires
-    same-length-4
-    same-length-5
-    returns-5)
+    (λ c κs. search needs) (λ c. search needs) returns (λ c κs. search needs) (λ c. search needs) returns-2
+    slice-read-if3 (λ c. search needs) returns-3 shared-slice-read-if4 (λ c. search needs) returns-4
+    (λ c κs. search needs) (λ c κs. search needs) read-state-requires shared-slice-read-after-words
+    (λ c κs. search needs) write-state-requires (λ c κs. search needs) (λ c. search needs) (λ c. search needs) returns-5)
