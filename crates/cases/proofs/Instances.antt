@@ -12,31 +12,28 @@ use lib.Seq.{getD-set-same, getD-set-other}
 use Rattle.image.specs.Alike.{SameWord, SameWords}
 use Rattle.image.specs.Bits.{bits}
 use Rattle.image.specs.Bytes.{littleEndian, bytesOf}
-use Rattle.image.specs.Entries.{spell}
 use Rattle.image.specs.Memory.{wordAt, ofImage, entry}
 use Rattle.image.specs.Rules.{run, mapRules, named, entriesOf, wordsFrom}
+use Rattle.image.proofs.Longer.{longer}
 use Rattle.registers.specs.Admission.{admission}
 use Rattle.registers.specs.Registers.{badRegisters}
 use Rattle.faults.specs.Record.{silenced, memoryRecord, fromBit64, memoryFault}
 use Rattle.dma.specs.Context.{contextReserved, contextInvalid, contextCheck}
-use Rattle.dma.specs.Isolation.{answerOver, walkedOver, Disjoint, Apart, Switched, SwitchedOn, SwitchedOff}
-use Rattle.dma.specs.Page.{pageReserved, pageCheck}
-use Rattle.dma.specs.Requests.{MemoryOutcome, granted, blocked, memoryRules, walked, tableEntries}
-use Rattle.dma.specs.Root.{rootReserved, rootCheck}
-use Rattle.image.proofs.Longer.{longer}
+use Rattle.dma.specs.Isolation.{answerOver, accessFault, walkedByAny, Disjoint, Apart, Switched, SwitchedOn, SwitchedOff}
 use Rattle.dma.specs.Lookup.{contextRules, rootRules}
+use Rattle.dma.specs.Page.{pageReserved, pageCheck}
+use Rattle.dma.specs.Requests.{MemoryOutcome, granted, blocked, memoryRules, tableEntries}
+use Rattle.dma.specs.Root.{rootReserved, rootCheck}
 use Rattle.dma.specs.Translation.{widthRules}
 use Rattle.dma.specs.Walk.{walkRules}
-use Rattle.dma.specs.declared.MemoryRequest.{MemoryRequest}
 use Rattle.interrupts.specs.Claims.{outcome, namedWords, AccessFault}
 use Rattle.interrupts.specs.Descriptor.{notice, descriptorCheck}
 use Rattle.interrupts.specs.Interrupts.{posted, descriptorRules, entryRules, indexRules, requestRules, interruptRules}
 use Rattle.interrupts.specs.Irte.{reservedIrte, irteCheck}
 use Rattle.interrupts.specs.Request.{requestCheck}
 use Rattle.interrupts.specs.Source.{sourceAllowed}
-use Rattle.interrupts.specs.declared.InterruptRequest.{InterruptRequest}
-use Rattle.cases.specs.Bench.{layout, bench, benchRegisters, memoryRequest, interruptRequest}
-use Rattle.unit.proofs.Demand3.{isolation}
+use Rattle.cases.specs.Bench.{layout, bench, benchRegisters}
+use Rattle.cases.specs.Instances.{reads, writes, beyond, readable, remaps, posts, PremisesMet}
 
 -- one walked entry with its low byte made another
 switch-one : (turned : ℕ → ℕ → Type 0) (entries image : List ℕ) (a b : ℕ) → List·Memᴰ a entries → a < length image
@@ -59,73 +56,101 @@ switch-one turned entries image a b is inside same other read write =
         go (yes e) = rw (e, getD-set-same image a b 0 inside) changed
         go (no e) = rw (getD-set-other image a n b 0 e) kept
 
--- cases 1 and 2: a read and a write of 40201ABC
-abbrev reads : MemoryRequest
-reads = memoryRequest 0x0310 0x40201ABC false
+-- then another
+followed : {turned : ℕ → ℕ → Type 0} {entries a b c : List ℕ} → ((x y z : ℕ) → turned x y → turned y z → turned x z)
+    → Switched turned entries a b → Switched turned entries b c → Switched turned entries a c
+followed on first second =
+    record {
+      same-length = second .same-length ∙ first .same-length;
+      elsewhere = λ n out. second .elsewhere n out ∙ first .elsewhere n out;
+      other-bits = λ n. second .other-bits n ∙ first .other-bits n;
+      read = λ n. on _ _ _ (first .read n) (second .read n);
+      write = λ n. on _ _ _ (first .write n) (second .write n);
+    }
 
-abbrev writes : MemoryRequest
-writes = memoryRequest 0x0310 0x40201ABC true
+-- the page entries that two walkers walk, and the root and context entry of a request
+abbrev pages : List ℕ
+pages = 0x3008 ∷ 0x4008 ∷ 0x5008 ∷ 0x3008 ∷ 0x4018 ∷ []
 
-read-answer : answerOver benchRegisters reads bench ≡ granted 0x12345ABC
-unfolding bench layout bytesOf littleEndian bits wordAt ofImage entry run mapRules admission badRegisters contextReserved contextInvalid contextCheck pageReserved pageCheck memoryRules rootReserved rootCheck widthRules contextRules rootRules walkRules
-read-answer = refl
+abbrev tables : List ℕ
+tables = 0x1030 ∷ 0x2100 ∷ []
 
-write-answer : (host : ℕ) → answerOver benchRegisters writes bench ≡ granted host → ⊥
-unfolding bench layout bytesOf littleEndian bits wordAt ofImage entry run mapRules admission badRegisters contextReserved contextInvalid contextCheck pageReserved pageCheck memoryRules rootReserved rootCheck widthRules contextRules rootRules walkRules
-write-answer host h = let z : _≡_ {A = ℕ} 0 1 = cc in omega arith
+leaf-in : List·Memᴰ 0x5008 pages
+leaf-in = List·Memᴰ·tail (List·Memᴰ·tail (List·Memᴰ·head refl))
 
--- the page entries that they walk, and the root and context entry
-walked-by : (write : Bool) → walkedOver benchRegisters (memoryRequest 0x0310 0x40201ABC write) bench ≡ 0x3008 ∷ 0x4008 ∷ 0x5008 ∷ []
-unfolding bench layout bytesOf littleEndian bits wordAt ofImage entry entriesOf mapRules admission badRegisters contextReserved contextInvalid contextCheck pageReserved pageCheck memoryRules rootReserved rootCheck widthRules contextRules rootRules walkRules
-walked-by true = refl
-walked-by false = refl
+beyond-in : List·Memᴰ 0x4018 pages
+beyond-in = List·Memᴰ·tail (List·Memᴰ·tail (List·Memᴰ·tail (List·Memᴰ·tail (List·Memᴰ·head refl))))
 
-tables-of : (write : Bool) → tableEntries benchRegisters (memoryRequest 0x0310 0x40201ABC write) (ofImage bench) ≡ 0x1030 ∷ 0x2100 ∷ []
-unfolding bench layout bytesOf littleEndian bits wordAt ofImage entry entriesOf mapRules admission badRegisters contextReserved contextInvalid contextCheck pageReserved pageCheck memoryRules rootReserved rootCheck widthRules contextRules rootRules walkRules
-tables-of true = refl
-tables-of false = refl
-
-after : (page table : ℕ) → List·Memᴰ page (0x3008 ∷ 0x4008 ∷ 0x5008 ∷ []) → List·Memᴰ table (0x1030 ∷ 0x2100 ∷ []) → Disjoint page table
-after page table p t = inr (omega (arith, low, high))
+high : (page : ℕ) → List·Memᴰ page pages → 0x3008 ≤ page
+high page =
+    next (lit≤ tt) (next (lit≤ tt) (next (lit≤ tt) (next (lit≤ tt) (next (lit≤ tt) (λ r. absurd (List·Memᴰ·not-nil r))))))
   where
-    high : 0x3008 ≤ page
-    high =
-        ⊎-elim (λ e. omega arith)
-        (λ r. ⊎-elim (λ e. omega arith) (λ r. ⊎-elim (λ e. omega arith) (λ r. absurd (List·Memᴰ·not-nil r)) (List·Memᴰ·cases-cons r)) (List·Memᴰ·cases-cons r))
-        (List·Memᴰ·cases-cons p)
+    next : {x : ℕ} {xs : List ℕ} → 0x3008 ≤ x → (List·Memᴰ page xs → 0x3008 ≤ page) → List·Memᴰ page (x ∷ xs) → 0x3008 ≤ page
+    next h rest is = ⊎-elim (λ e. rw e h) rest (List·Memᴰ·cases-cons is)
 
-    low : table ≤ 0x2100
-    low =
-        ⊎-elim (λ e. omega arith)
-        (λ r. ⊎-elim (λ e. omega arith) (λ r. absurd (List·Memᴰ·not-nil r)) (List·Memᴰ·cases-cons r))
-        (List·Memᴰ·cases-cons t)
+low : (table : ℕ) → List·Memᴰ table tables → table ≤ 0x2100
+low table is =
+    ⊎-elim (λ e. omega arith)
+    (λ r. ⊎-elim (λ e. omega arith) (λ r. absurd (List·Memᴰ·not-nil r)) (List·Memᴰ·cases-cons r))
+    (List·Memᴰ·cases-cons is)
 
-apart : (write : Bool) → Apart benchRegisters (memoryRequest 0x0310 0x40201ABC write) (memoryRequest 0x0310 0x40201ABC write) bench
-apart write page table p t = after page table (rw (walked-by write) at p) (rw (tables-of write) at t)
+after : (page table : ℕ) → List·Memᴰ page pages → List·Memᴰ table tables → Disjoint page table
+after page table p t = inr (omega (arith, low table t, high page p))
 
-leaf : (write : Bool) → List·Memᴰ 0x5008 (walkedOver benchRegisters (memoryRequest 0x0310 0x40201ABC write) bench)
-leaf write = rw (walked-by write) (List·Memᴰ·tail (List·Memᴰ·tail (List·Memᴰ·head refl)))
+-- rights switched on, over the image in which 4018 is only readable
+on-walked : walkedByAny benchRegisters (reads ∷ beyond ∷ []) readable ≡ pages
+unfolding walkedByAny readable bench layout bytesOf littleEndian bits wordAt ofImage entry entriesOf mapRules admission badRegisters contextReserved contextInvalid contextCheck pageReserved pageCheck memoryRules rootReserved rootCheck widthRules contextRules rootRules walkRules
+on-walked = refl
 
--- write switched on in the leaf: the read is granted as before
-more-rights : answerOver benchRegisters reads (set bench 0x5008 3) ≡ granted 0x12345ABC
+on-tables : tableEntries benchRegisters reads (ofImage readable) ≡ tables
+unfolding readable bench layout bytesOf littleEndian bits wordAt ofImage entry entriesOf mapRules admission badRegisters contextReserved contextInvalid contextCheck pageReserved pageCheck memoryRules rootReserved rootCheck widthRules contextRules rootRules walkRules
+on-tables = refl
+
+on-granted : answerOver benchRegisters reads readable ≡ granted 0x12345ABC
+unfolding readable bench layout bytesOf littleEndian bits wordAt ofImage entry run mapRules admission badRegisters contextReserved contextInvalid contextCheck pageReserved pageCheck memoryRules rootReserved rootCheck widthRules contextRules rootRules walkRules
+on-granted = refl
+
+walker-faulted : accessFault (answerOver benchRegisters beyond readable) ≡ true
+unfolding readable memoryFault bench layout bytesOf littleEndian bits wordAt ofImage entry run mapRules admission badRegisters contextReserved contextInvalid contextCheck pageReserved pageCheck memoryRules rootReserved rootCheck widthRules contextRules rootRules walkRules
+walker-faulted = refl
+
+on-switched : SwitchedOn (walkedByAny benchRegisters (reads ∷ beyond ∷ []) readable) readable (set (set readable 0x5008 3) 0x4018 3)
+unfolding readable bench layout bytesOf bits
+on-switched =
+    rw on-walked
+    (followed (λ x y z first second. omega arith)
+    (switch-one (λ before after. before ≤ after) pages readable 0x5008 3 leaf-in (lit< tt) (λ x. omega arith) refl (lit≤ tt) (lit≤ tt))
+    (switch-one (λ before after. before ≤ after) pages (set readable 0x5008 3) 0x4018 3 beyond-in (lit< tt) (λ x. omega arith) refl (lit≤ tt) (lit≤ tt)))
+
+-- rights switched off, over the bench image
+off-walked : walkedByAny benchRegisters (writes ∷ beyond ∷ []) bench ≡ pages
+unfolding walkedByAny bench layout bytesOf littleEndian bits wordAt ofImage entry entriesOf mapRules admission badRegisters contextReserved contextInvalid contextCheck pageReserved pageCheck memoryRules rootReserved rootCheck widthRules contextRules rootRules walkRules
+off-walked = refl
+
+off-tables : tableEntries benchRegisters writes (ofImage bench) ≡ tables
+unfolding bench layout bytesOf littleEndian bits wordAt ofImage entry entriesOf mapRules admission badRegisters contextReserved contextInvalid contextCheck pageReserved pageCheck memoryRules rootReserved rootCheck widthRules contextRules rootRules walkRules
+off-tables = refl
+
+off-blocked : (host : ℕ) → answerOver benchRegisters writes bench ≡ granted host → ⊥
+unfolding bench layout bytesOf littleEndian bits wordAt ofImage entry run mapRules admission badRegisters contextReserved contextInvalid contextCheck pageReserved pageCheck memoryRules rootReserved rootCheck widthRules contextRules rootRules walkRules
+off-blocked host h = let z : _≡_ {A = ℕ} 0 1 = cc in omega arith
+
+off-switched : SwitchedOff (walkedByAny benchRegisters (writes ∷ beyond ∷ []) bench) bench (set (set bench 0x5008 0) 0x4018 0)
 unfolding bench layout bytesOf bits
-more-rights =
-    isolation .rights-on benchRegisters reads reads bench (set bench 0x5008 3) (apart false)
-    (switch-one (λ before after. before ≤ after) _ bench 0x5008 3 (leaf false) (lit< tt) (λ x. omega arith) refl (lit≤ tt) (lit≤ tt))
-    0x12345ABC read-answer
+off-switched =
+    rw off-walked
+    (followed (λ x y z first second. omega arith)
+    (switch-one (λ before after. after ≤ before) pages bench 0x5008 0 leaf-in (lit< tt) (λ x. omega arith) refl (lit≤ tt) (lit≤ tt))
+    (switch-one (λ before after. after ≤ before) pages (set bench 0x5008 0) 0x4018 0 beyond-in (lit< tt) (λ x. omega arith) refl (lit≤ tt) (lit≤ tt)))
 
--- read switched off in the leaf: the write, which was blocked, is not granted
-less-rights : (host : ℕ) → answerOver benchRegisters writes (set bench 0x5008 0) ≡ granted host → ⊥
-unfolding bench layout bytesOf bits
-less-rights =
-    isolation .rights-off benchRegisters writes writes bench (set bench 0x5008 0) (apart true)
-    (switch-one (λ before after. after ≤ before) _ bench 0x5008 0 (leaf true) (lit< tt) (λ x. omega arith) refl (lit≤ tt) (lit≤ tt))
-    write-answer
+-- second images
+memory-answered : accessFault (answerOver benchRegisters reads bench) ≡ false
+unfolding bench layout bytesOf littleEndian bits wordAt ofImage entry run mapRules admission badRegisters contextReserved contextInvalid contextCheck pageReserved pageCheck memoryRules rootReserved rootCheck widthRules contextRules rootRules walkRules
+memory-answered = refl
 
--- an image that ends behind the last word that the read names
-alike : SameWords bench (take 0x5010 bench) (named (memoryRules benchRegisters reads) (ofImage bench))
+memory-alike : SameWords bench (take 0x5010 bench) (named (memoryRules benchRegisters reads) (ofImage bench))
 unfolding bench layout bytesOf littleEndian bits wordAt ofImage entry named wordsFrom SameWords mapRules admission badRegisters contextReserved contextInvalid contextCheck pageReserved pageCheck memoryRules rootReserved rootCheck widthRules contextRules rootRules walkRules
-alike = (
+memory-alike = (
   record { whole = lit≤ tt; whole′ = lit≤ tt; bytes = refl },
   (
     record { whole = lit≤ tt; whole′ = lit≤ tt; bytes = refl },
@@ -145,40 +170,38 @@ alike = (
   ),
 )
 
-shorter-memory : answerOver benchRegisters reads (take 0x5010 bench) ≡ granted 0x12345ABC
-shorter-memory =
-    isolation .memory benchRegisters reads bench (take 0x5010 bench) (rw read-answer) alike ∙ read-answer
-
--- case 10's interrupt, over an image that ends behind its entry
-abbrev rings : InterruptRequest
-rings = interruptRequest 0x0310 0xFEE00050 0
-
-interrupt-alike : SameWords bench (take 0x6030 bench) (namedWords benchRegisters rings bench)
+interrupt-alike : SameWords bench (take 0x6030 bench) (namedWords benchRegisters remaps bench)
 unfolding bench layout bytesOf littleEndian bits wordAt ofImage entry named wordsFrom SameWords mapRules admission badRegisters entryRules indexRules requestRules interruptRules reservedIrte irteCheck requestCheck sourceAllowed
 interrupt-alike = (
   record { whole = lit≤ tt; whole′ = lit≤ tt; bytes = refl },
   (record { whole = lit≤ tt; whole′ = lit≤ tt; bytes = refl }, tt),
 )
 
-no-access : AccessFault (outcome benchRegisters rings bench) → ⊥
+interrupt-answered : AccessFault (outcome benchRegisters remaps bench) → ⊥
 unfolding bench layout bytesOf littleEndian bits wordAt ofImage entry run mapRules admission badRegisters entryRules indexRules requestRules interruptRules reservedIrte irteCheck requestCheck sourceAllowed
-no-access fault = fault
+interrupt-answered fault = fault
 
-same-interrupt : outcome benchRegisters rings bench ≡ outcome benchRegisters rings (take 0x6030 bench)
-same-interrupt =
-    isolation .interrupts benchRegisters rings bench (take 0x6030 bench) no-access interrupt-alike .0
-
--- case 12's post, its notice among the answer's parts: the image that ends behind its descriptor, then all of it
-abbrev posts : InterruptRequest
-posts = interruptRequest 0x0310 0xFEE00090 0
-
-post-answer : outcome benchRegisters posts (take 0x6440 bench) ≡ posted 0x6400 0x31 (notice 0xF2 7)
+post-answered : outcome benchRegisters posts (take 0x6440 bench) ≡ posted 0x6400 0x31 (notice 0xF2 7)
 unfolding bench layout bytesOf littleEndian bits wordAt ofImage entry run mapRules admission badRegisters descriptorRules entryRules indexRules requestRules interruptRules reservedIrte irteCheck requestCheck sourceAllowed descriptorCheck
-post-answer = refl
+post-answered = refl
 
-same-post : outcome benchRegisters posts bench ≡ posted 0x6400 0x31 (notice 0xF2 7)
-same-post =
-    sym
-    (isolation .interrupts benchRegisters posts (take 0x6440 bench) bench (λ fault. rw post-answer at fault)
-    (rw (take-append-drop 0x6440 bench) at (longer (take 0x6440 bench) (drop 0x6440 bench) (interruptRules benchRegisters posts))) .0)
-    ∙ post-answer
+post-alike : SameWords (take 0x6440 bench) bench (namedWords benchRegisters posts (take 0x6440 bench))
+post-alike = rw (take-append-drop 0x6440 bench) at (longer (take 0x6440 bench) (drop 0x6440 bench) (interruptRules benchRegisters posts))
+
+pub premises-met : PremisesMet
+premises-met =
+    record {
+      memory-answered = memory-answered;
+      memory-alike = memory-alike;
+      interrupt-answered = interrupt-answered;
+      interrupt-alike = interrupt-alike;
+      post-answered = post-answered;
+      post-alike = post-alike;
+      walker-faulted = walker-faulted;
+      on-apart = λ page table p t. after page table (rw on-walked at p) (rw on-tables at t);
+      on-switched = on-switched;
+      on-granted = on-granted;
+      off-apart = λ page table p t. after page table (rw off-walked at p) (rw off-tables at t);
+      off-switched = off-switched;
+      off-blocked = off-blocked;
+    }

@@ -2,13 +2,16 @@
 use Rattle.faults.proofs.Totals.{total}
 use Rattle.dma.proofs.Access.{locality}
 use Rattle.dma.proofs.Nine.{at-most-nine, none-untaken}
-use Rattle.dma.proofs.Rights.{rights-on, rights-off}
+use Rattle.dma.proofs.Rights.{rights-on, rights-off, unshared}
+use Rattle.dma.proofs.Unfetched.{access-means-unfetched}
 use Rattle.interrupts.proofs.Exact.{sets-exactly, leaves-all, stays-inside}
 use Rattle.interrupts.proofs.Isolation.{isolated}
 use Rattle.interrupts.proofs.Named.{index-bound, entry-of-index, no-wrap, at-most-ten, none-before-table}
 use Rattle.interrupts.proofs.Notices.{notice-exactly}
+use Rattle.interrupts.proofs.Unfetched.{interrupt-access-means-unfetched}
 use Rattle.unit.proofs.Demand3.{isolation, more-memory}
 use Rattle.cases.proofs.Cases.{twelve-cases}
+use Rattle.cases.proofs.Instances.{premises-met}
 use Rattle.claims.specs.Everything.{Everything}
 use Rattle.claims.proofs.OneAnswer.{one-memory-answer, one-interrupt-answer, one-reason}
 
@@ -29,10 +32,14 @@ everything =
       twelve-cases = twelve-cases;
       isolation = isolation;
       locality = locality;
+      access-means-unfetched = access-means-unfetched;
       isolated = isolated;
+      interrupt-access-means-unfetched = interrupt-access-means-unfetched;
       rights-on = rights-on;
       rights-off = rights-off;
+      unshared = unshared;
       more-memory = more-memory;
+      premises-met = premises-met;
       at-most-nine = at-most-nine;
       none-untaken = none-untaken;
       at-most-ten = at-most-ten;

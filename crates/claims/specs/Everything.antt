@@ -2,11 +2,12 @@
 -- is refused here, and tests/run-claims holds the page to this list and this list to the page. What a function promises is its contract,
 -- and isn't repeated here.
 use Rattle.faults.specs.Total.{Total}
-use Rattle.dma.specs.Isolation.{Locality, RightsOn, RightsOff}
+use Rattle.dma.specs.Isolation.{Locality, AccessMeansUnfetched, RightsOn, RightsOff, Unshared}
 use Rattle.dma.specs.Named.{AtMostNine, NoneUntaken}
-use Rattle.interrupts.specs.Claims.{SetsExactly, NoticeExactly, LeavesAll, StaysInside, IndexBound, EntryOfIndex, NoWrap, AtMostTen, NoneBeforeTable, Isolated}
+use Rattle.interrupts.specs.Claims.{SetsExactly, NoticeExactly, LeavesAll, StaysInside, IndexBound, EntryOfIndex, NoWrap, AtMostTen, NoneBeforeTable, InterruptAccessMeansUnfetched, Isolated}
 use Rattle.unit.specs.Isolation.{Isolation, MoreMemory}
 use Rattle.cases.specs.Bench.{TwelveCases}
+use Rattle.cases.specs.Instances.{PremisesMet}
 use Rattle.claims.specs.OneAnswer.{OneMemoryAnswer, OneInterruptAnswer, OneReason}
 
 pub record Everything : Type 0 where
@@ -27,10 +28,14 @@ pub record Everything : Type 0 where
   -- demand 3: memory, rights, and the words that are named
   pub isolation : Isolation
   pub locality : Locality
+  pub access-means-unfetched : AccessMeansUnfetched
   pub isolated : Isolated
+  pub interrupt-access-means-unfetched : InterruptAccessMeansUnfetched
   pub rights-on : RightsOn
   pub rights-off : RightsOff
+  pub unshared : Unshared
   pub more-memory : MoreMemory
+  pub premises-met : PremisesMet
   pub at-most-nine : AtMostNine
   pub none-untaken : NoneUntaken
   pub at-most-ten : AtMostTen

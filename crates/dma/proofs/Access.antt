@@ -9,9 +9,9 @@ use Rattle.image.proofs.Isolated.{isolated}
 use Rattle.image.proofs.Trees.{outside-map}
 use Rattle.registers.specs.Admission.{Admitted, refusal, pass, take, admission, onAdmission, inInterruptRange}
 use Rattle.registers.specs.declared.Registers.{Registers}
-use Rattle.faults.specs.Record.{FaultAnswer, memoryFault}
+use Rattle.faults.specs.Record.{memoryFault}
 use Rattle.dma.specs.Isolation.{accessFault, answerOver, Locality}
-use Rattle.dma.specs.Requests.{MemoryOutcome, granted, blocked, refused, outcome, memoryRules}
+use Rattle.dma.specs.Requests.{granted, refused, outcome, memoryRules}
 use Rattle.dma.specs.Translation.{Translation, fault, pageStep, widthRules, translationRules}
 use Rattle.dma.specs.declared.MemoryRequest.{MemoryRequest}
 use Rattle.dma.proofs.Cases.{width-cases}
@@ -49,9 +49,3 @@ locality registers request image image′ answered same =
     (isolated (λ o. accessFault o ≡ true) (memoryRules registers request) image image′ (outside-memory registers request)
     (λ ended. let z : _≡_ {A = Bool} true false = sym ended ∙ answered in let y : _≡_ {A = ℕ} 0 1 = cc in omega arith)
     same)
-
--- the exception is no wider than the demand's words: only a blocked request ends in an access fault
-pub no-access : (o : MemoryOutcome) → ((f : FaultAnswer) → o ≡ blocked f → ⊥) → accessFault o ≡ false
-no-access (granted address) h = refl
-no-access (blocked f) h = absurd (h f refl)
-no-access (refused number) h = refl

@@ -15,4 +15,5 @@ pub mod Stages
 pub mod Stepped
 pub mod Steps
 pub mod Tables
+pub mod Unfetched
 pub mod Walks

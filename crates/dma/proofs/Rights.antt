@@ -2,7 +2,7 @@
 use Prim.Native.Nat.{ℕ, zero, suc, _+_, _*_, _/_, _%_, _≤_, _<_}
 use mathlib.Core.Bool.{Bool, true, false}
 use mathlib.Core.Path.{_≡_, refl, ap, sym, _∙_}
-use mathlib.Core.List.{List, [], _∷_, _++_, List·Memᴰ, List·Memᴰ·head, List·Memᴰ·tail}
+use mathlib.Core.List.{List, [], _∷_, _++_, List·Memᴰ, List·Memᴰ·head, List·Memᴰ·tail, List·Memᴰ·not-nil, List·Memᴰ·append-cases}
 use mathlib.Core.Logic.{_⊎_, inl, inr, ⊎-elim}
 use native.Mathlib.Omega.{arith}
 use native.Mathlib.Decide.{decLe}
@@ -19,7 +19,7 @@ use Rattle.registers.specs.Admission.{Admitted, refusal, pass, take, admission,
 use Rattle.registers.specs.Registers.{badRegisters}
 use Rattle.registers.proofs.Good.{good}
 use Rattle.registers.specs.declared.Registers.{Registers}
-use Rattle.dma.specs.Isolation.{answerOver, walkedOver, Disjoint, Apart, Switched, SwitchedOn, SwitchedOff, RightsOn, RightsOff}
+use Rattle.dma.specs.Isolation.{answerOver, walkedOver, walkedByAny, Disjoint, Apart, Switched, SwitchedOn, SwitchedOff, RightsOn, RightsOff, Unshared}
 use Rattle.dma.specs.Lookup.{contextRules, rootRules}
 use Rattle.dma.specs.Requests.{MemoryOutcome, granted, outcome, memoryRules, walked, tableEntries}
 use Rattle.dma.specs.Root.{rootCheck}
@@ -31,7 +31,7 @@ use Rattle.dma.proofs.Raised.{Raised, RaisedFetch, Reaches}
 use Rattle.dma.proofs.Tables.{rootPlace, contextPlace, SameTables, kept-translation}
 
 -- the claims' premise is no stronger than the demand's words: two entries that share no byte are disjoint
-pub unshared : (page table : ℕ) → ((n : ℕ) → page ≤ n → n < page + 8 → table ≤ n → n < table + 16 → ⊥) → Disjoint page table
+pub unshared : Unshared
 unshared page table none = go (decLe (page + 8) table) (decLe (table + 16) page) (decLe page table)
   where
     go : Dec (page + 8 ≤ table) → Dec (table + 16 ≤ page) → Dec (page ≤ table) → Disjoint page table
@@ -79,6 +79,14 @@ module _ (entries low high : List ℕ) (words : (a : ℕ) → List·Memᴰ a ent
           rw (word-inside low a h, word-inside high a (omega (arith, on .same-length))) (raised-word a aligned h)
       go (no h) = rw (outside low 0 a (omega arith), outside high 0 a (omega (arith, on .same-length))) tt
 
+-- walked entries are words
+aligned-any : (registers : Registers) (walkers : List MemoryRequest) (image : List ℕ) (a : ℕ) → List·Memᴰ a (walkedByAny registers walkers image) → a % 8 ≡ 0
+unfolding walkedByAny
+aligned-any registers [] image a is = absurd (List·Memᴰ·not-nil is)
+aligned-any registers (walker ∷ walkers) image a is =
+    ⊎-elim (aligned-walked registers walker (ofImage image) a) (aligned-any registers walkers image a)
+    (List·Memᴰ·append-cases (walkedOver registers walker image) is)
+
 -- switched off is switched on the other way
 flipped : {entries image image′ : List ℕ} → SwitchedOff entries image image′ → SwitchedOn entries image′ image
 flipped off =
@@ -110,8 +118,8 @@ module _ (registers : Registers) (request : MemoryRequest) (taken : take ≡ adm
   unfolding rootRules contextRules entriesOf
   context-in m {e} {table} {e′} root passed context = rw (← tables m, root, passed, context) (List·Memᴰ·tail (List·Memᴰ·head refl))
 
-  module _ {turned : ℕ → ℕ → Type 0} (walker : MemoryRequest) (image image′ : List ℕ) (apart : Apart registers walker request image)
-      (switched : Switched turned (walkedOver registers walker image) image image′) where
+  module _ {turned : ℕ → ℕ → Type 0} (walkers : List MemoryRequest) (image image′ : List ℕ) (apart : Apart registers walkers request image)
+      (switched : Switched turned (walkedByAny registers walkers image) image image′) where
     same-table : (place : ℕ)
         → ((e : ℕ) → entry 2 (ofImage image) place ≡ found e → List·Memᴰ place (tableEntries registers request (ofImage image)))
         → entry 2 (ofImage image) place ≡ entry 2 (ofImage image′) place
@@ -173,9 +181,9 @@ carried registers request image image′ same raised host = go (admission regist
         ∙ grants
 
 pub rights-on : RightsOn
-rights-on registers walker request image image′ apart on =
-    carried registers request image image′ (λ taken. same-tables registers request taken walker image image′ apart on)
-    (raised-words (walkedOver registers walker image) image image′ (aligned-walked registers walker (ofImage image)) on)
+rights-on registers walkers request image image′ apart on =
+    carried registers request image image′ (λ taken. same-tables registers request taken walkers image image′ apart on)
+    (raised-words (walkedByAny registers walkers image) image image′ (aligned-any registers walkers image) on)
 
 mirrored : {registers : Registers} {request : MemoryRequest} {m m′ : Memory} → SameTables registers request m m′ → SameTables registers request m′ m
 mirrored same =
@@ -185,8 +193,8 @@ mirrored same =
     }
 
 pub rights-off : RightsOff
-rights-off registers walker request image image′ apart off denied host was =
+rights-off registers walkers request image image′ apart off denied host was =
     denied host
-    (carried registers request image′ image (λ taken. mirrored (same-tables registers request taken walker image image′ apart off))
-    (raised-words (walkedOver registers walker image) image′ image (aligned-walked registers walker (ofImage image)) (flipped off))
+    (carried registers request image′ image (λ taken. mirrored (same-tables registers request taken walkers image image′ apart off))
+    (raised-words (walkedByAny registers walkers image) image′ image (aligned-any registers walkers image) (flipped off))
     host was)

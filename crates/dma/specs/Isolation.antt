@@ -1,9 +1,9 @@
 -- The customer's demand 3 for memory requests: the statements. Their proofs are in proofs/. Each speaks of a whole request,
 -- from registers to answer, for any registers, any image and any request.
-use Prim.Native.Nat.{ℕ, _+_, _≤_, _/_}
+use Prim.Native.Nat.{ℕ, _+_, _≤_, _<_, _/_}
 use mathlib.Core.Bool.{Bool, true, false}
 use mathlib.Core.Path.{_≡_}
-use mathlib.Core.List.{List, List·Memᴰ}
+use mathlib.Core.List.{List, [], _∷_, _++_, List·Memᴰ}
 use mathlib.Core.Logic.{_⊎_}
 use lib.Dec.{eqb}
 use lib.ListN.{length, getD}
@@ -12,6 +12,7 @@ use Rattle.image.specs.Bits.{bits}
 use Rattle.image.specs.Choice.{_or_}
 use Rattle.image.specs.Memory.{ofImage}
 use Rattle.image.specs.Rules.{run, named}
+use Rattle.image.specs.Unfetched.{Unfetched}
 use Rattle.registers.specs.declared.Registers.{Registers}
 use Rattle.dma.specs.Requests.{MemoryOutcome, granted, blocked, refused, memoryRules, walked, tableEntries}
 use Rattle.dma.specs.declared.MemoryRequest.{MemoryRequest}
@@ -35,6 +36,14 @@ Locality =
     → SameWords image image′ (named (memoryRules registers request) (ofImage image))
     → answerOver registers request image′ ≡ answerOver registers request image
 
+-- The exception is no wider than the demand's words: an access fault means an entry that couldn't be fetched, of which a byte lies
+-- outside the image.
+abbrev pub AccessMeansUnfetched : Type 0
+AccessMeansUnfetched =
+    (registers : Registers) (request : MemoryRequest) (image : List ℕ)
+    → accessFault (answerOver registers request image) ≡ true
+    → Unfetched (memoryRules registers request) image
+
 -- The page entries that a request walked, one that faults included.
 abbrev pub walkedOver : Registers → MemoryRequest → List ℕ → List ℕ
 walkedOver registers request image = walked registers request (ofImage image)
@@ -43,11 +52,23 @@ walkedOver registers request image = walked registers request (ofImage image)
 abbrev pub Disjoint : (page table : ℕ) → Type 0
 Disjoint page table = (page + 8 ≤ table) ⊎ (table + 16 ≤ page)
 
--- No entry that the walker walked shares a byte with the request's root or context entry.
-abbrev pub Apart : Registers → (walker request : MemoryRequest) → List ℕ → Type 0
-Apart registers walker request image =
+-- So are two that share none: the claims' premise is no stronger than the demand's words.
+abbrev pub Unshared : Type 0
+Unshared =
     (page table : ℕ)
-    → List·Memᴰ page (walkedOver registers walker image)
+    → ((n : ℕ) → page ≤ n → n < page + 8 → table ≤ n → n < table + 16 → ⊥)
+    → Disjoint page table
+
+-- The page entries that any number of requests, the walkers, walked, taken together: one walker is a list of one.
+unfoldable pub walkedByAny : Registers → (walkers : List MemoryRequest) → List ℕ → List ℕ
+walkedByAny registers [] image = []
+walkedByAny registers (walker ∷ walkers) image = walkedOver registers walker image ++ walkedByAny registers walkers image
+
+-- No entry that a walker walked shares a byte with the request's root or context entry.
+abbrev pub Apart : Registers → (walkers : List MemoryRequest) (request : MemoryRequest) → List ℕ → Type 0
+Apart registers walkers request image =
+    (page table : ℕ)
+    → List·Memᴰ page (walkedByAny registers walkers image)
     → List·Memᴰ table (tableEntries registers request (ofImage image))
     → Disjoint page table
 
@@ -67,22 +88,23 @@ SwitchedOn = Switched (λ before after. before ≤ after)
 abbrev pub SwitchedOff : (entries image image′ : List ℕ) → Type 0
 SwitchedOff = Switched (λ before after. after ≤ before)
 
--- 2. Whichever of the entries that any memory request, the walker, walked have read, write or both switched on, a granted request
--- stays granted, with the same host address: the walker itself, and any other request.
+-- 2. Whichever of the entries that any memory requests, the walkers, walked have read, write or both switched on, a granted request
+-- stays granted, with the same host address: a walker itself, and any other request. A walker may have been granted, blocked, by an
+-- access fault too, or refused.
 abbrev pub RightsOn : Type 0
 RightsOn =
-    (registers : Registers) (walker request : MemoryRequest) (image image′ : List ℕ)
-    → Apart registers walker request image
-    → SwitchedOn (walkedOver registers walker image) image image′
+    (registers : Registers) (walkers : List MemoryRequest) (request : MemoryRequest) (image image′ : List ℕ)
+    → Apart registers walkers request image
+    → SwitchedOn (walkedByAny registers walkers image) image image′
     → (address : ℕ) → answerOver registers request image ≡ granted address
     → answerOver registers request image′ ≡ granted address
 
 -- 3. Whichever of them have either or both switched off, a request that was blocked or refused isn't granted.
 abbrev pub RightsOff : Type 0
 RightsOff =
-    (registers : Registers) (walker request : MemoryRequest) (image image′ : List ℕ)
-    → Apart registers walker request image
-    → SwitchedOff (walkedOver registers walker image) image image′
+    (registers : Registers) (walkers : List MemoryRequest) (request : MemoryRequest) (image image′ : List ℕ)
+    → Apart registers walkers request image
+    → SwitchedOff (walkedByAny registers walkers image) image image′
     → ((address : ℕ) → answerOver registers request image ≡ granted address → ⊥)
     → (address : ℕ) → answerOver registers request image′ ≡ granted address
     → ⊥

@@ -9,5 +9,6 @@ pub mod Same
 pub mod Stages
 pub mod Stores
 pub mod Trees
+pub mod Unfetched
 pub mod WordFields
 pub mod Words

@@ -7,3 +7,4 @@ pub mod Entries
 pub mod Memory
 pub mod Rules
 pub mod Stage
+pub mod Unfetched

@@ -9,4 +9,5 @@ pub mod Notices
 pub mod Posts
 pub mod SourceId
 pub mod Stages
+pub mod Unfetched
 pub mod Words

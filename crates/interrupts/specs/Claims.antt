@@ -1,5 +1,5 @@
 -- What holds of every interrupt request, whatever the registers, the request and the image. Each claim is proved under its name
--- in proofs/: Exact, Notices, Named, Isolation.
+-- in proofs/: Exact, Notices, Named, Isolation, Unfetched.
 use Prim.Native.Nat.{ℕ, _+_, _*_, _/_, _%_, _≤_, _<_}
 use mathlib.Core.Bool.{Bool, true, false, not, _&&_, _||_}
 use mathlib.Core.List.{List, [], _∷_}
@@ -12,6 +12,7 @@ use Rattle.image.specs.Bits.{bits, bit}
 use Rattle.image.specs.Choice.{if_then_else_}
 use Rattle.image.specs.Memory.{ofImage}
 use Rattle.image.specs.Rules.{run, named}
+use Rattle.image.specs.Unfetched.{Unfetched}
 use Rattle.registers.specs.declared.Registers.{Registers}
 use Rattle.interrupts.specs.Descriptor.{Notice, silent, notice}
 use Rattle.interrupts.specs.Interrupts.{InterruptOutcome, passed, remapped, posted, blocked, refused, interruptRules}
@@ -109,6 +110,11 @@ AccessFault passed = ⊥
 AccessFault (remapped r) = ⊥
 AccessFault (posted descriptor vector n) = ⊥
 AccessFault (refused number) = ⊥
+
+-- it means an entry or a descriptor that couldn't be fetched, of which a byte lies outside the image
+abbrev pub InterruptAccessMeansUnfetched : Type 0
+InterruptAccessMeansUnfetched = (registers : Registers) (request : InterruptRequest) (image : List ℕ) →
+    AccessFault (outcome registers request image) → Unfetched (interruptRules registers request) image
 
 -- the customer's demand 3 for interrupts: over an image alike in the named words the same answer, unless it was an access fault,
 -- and so the same bits are set

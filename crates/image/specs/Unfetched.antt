@@ -1,0 +1,21 @@
+-- An entry that the rules read and couldn't fetch.
+use Prim.Native.Nat.{ℕ, _+_, _*_, _<_}
+use mathlib.Core.Path.{_≡_}
+use mathlib.Core.List.{List, [], _∷_}
+use lib.ListN.{length}
+use Rattle.image.specs.Memory.{Memory, ofImage, entry, onFetch}
+use Rattle.image.specs.Rules.{Rules, answer, fetch}
+
+-- the entries, each by its number of words and its address, that the rules read over a memory and couldn't fetch: none, or the one
+-- that ended the request
+unfoldable pub unfetched : {A : Type 0} → Rules A → Memory → List (ℕ × ℕ)
+unfetched (answer a) m = []
+unfetched (fetch words at outside next) m =
+    onFetch (entry words m at) ((words, at) ∷ []) (λ e. unfetched (next e) m)
+
+-- the rules ended with an entry of which a byte lies outside the image
+pub record Unfetched {A : Type 0} (q : Rules A) (image : List ℕ) : Type 0 where
+  pub words : ℕ
+  pub at : ℕ
+  pub read : unfetched q (ofImage image) ≡ (words, at) ∷ []
+  pub outside : length image < at + 8 * words
