@@ -6,6 +6,7 @@ mod check;
 mod row;
 
 pub use row::reset_row;
+pub use row::tick_row;
 
 pub enum Gate {
     Off,
