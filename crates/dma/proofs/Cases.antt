@@ -3,7 +3,6 @@ use Prim.Native.Nat.{ℕ, _+_, _*_, _^_, min}
 use mathlib.Core.Bool.{Bool, true, false}
 use mathlib.Core.Path.{_≡_, refl}
 use lib.Dec.{eqb, leb}
-use Rattle.image.specs.Check.{Check, stop, go, onCheck}
 use Rattle.image.specs.Choice.{if_then_else_}
 use Rattle.image.specs.Rules.{Rules, answer}
 use Rattle.registers.specs.declared.Registers.{Registers}
@@ -13,12 +12,6 @@ use Rattle.dma.specs.declared.context.Context.{Context}
 either : {A : Type 0} (P : Rules A → Type 0) (t : Bool) (a b : Rules A) → P a → P b → P (if t then a else b)
 either P true a b x y = x
 either P false a b x y = y
-
--- an entry's check stops with an answer, or goes on
-pub check-cases : {A B : Type 0} (P : Rules B → Type 0) (k : Check A) (stopped : ℕ → B) (next : A → Rules B)
-    → ((reason : ℕ) → P (answer (stopped reason))) → ((a : A) → k ≡ go a → P (next a)) → P (onCheck k (λ reason. answer (stopped reason)) next)
-check-cases P (stop reason) stopped next ended gone = ended reason
-check-cases P (go a) stopped next ended gone = gone a refl
 
 -- the width and pass-through answer, or the walk follows
 pub width-cases : (P : Rules Translation → Type 0) (registers : Registers) (address : ℕ) (write : Bool) (c : Context)

@@ -3,11 +3,10 @@ pub mod Address
 pub mod Admissions
 pub mod Aligned
 pub mod Cases
+pub mod Forks
 pub mod Injective
-pub mod Leaves
 pub mod Lookups
 pub mod Nine
-pub mod Properties
 pub mod Raised
 pub mod Reserved
 pub mod Rights

@@ -2,38 +2,41 @@
 use Prim.Native.Nat.{ℕ, _+_, _*_}
 use mathlib.Core.Bool.{Bool, false}
 use mathlib.Core.Path.{_≡_, refl}
+use native.Mathlib.Omega.{arith}
 use Rattle.image.specs.Check.{Check, stop, go, onCheck}
+use Rattle.image.specs.EntryKind.{EntryKind, rootEntry, contextEntry}
 use Rattle.image.specs.Memory.{Memory, Fetched, missing, found, entry, onFetch}
-use Rattle.image.specs.Rules.{Rules, answer, fetch, run}
+use Rattle.image.specs.Rules.{Rules, answer, run}
+use Rattle.image.proofs.Forks.{Every, every-answer, every-fetch, every-run}
+use Rattle.image.proofs.Stages.{check-cases}
 use Rattle.registers.specs.Source.{busOf, devfnOf}
 use Rattle.registers.specs.declared.Registers.{Registers}
 use Rattle.dma.specs.Context.{contextCheck, faultProcessingDisabled, Usable}
 use Rattle.dma.specs.Lookup.{Lookup, context, noContext, onLookup, contextRules, rootRules, lookupRules}
 use Rattle.dma.specs.Root.{rootCheck}
 use Rattle.dma.specs.declared.context.Context.{Context}
-use Rattle.dma.proofs.Cases.{check-cases}
-use Rattle.dma.proofs.Properties.{Answers, answers-answer, answers-fetch}
 use Rattle.dma.proofs.Stages.{usable}
 
--- what holds of the rules after a context holds of the whole, for any property of rules that a fetch keeps: P of the whole, Q after the
--- root entry, R after the context entry
-module _ {A : Type 0} (P Q R : Rules A → Type 0) (registers : Registers) (faulted : (reason : ℕ) (fpd : Bool) → A) (next : Context → Rules A)
-    (root-read : (place : ℕ) (rest : ℕ → Rules A) → ((e : ℕ) → Q (rest e)) → P (fetch 2 place (faulted 0x08 false) rest))
-    (root-stopped : (reason : ℕ) → Q (answer (faulted reason false)))
-    (context-read : (place : ℕ) (rest : ℕ → Rules A) → ((e : ℕ) → R (rest e)) → Q (fetch 2 place (faulted 0x09 false) rest))
-    (context-stopped : (reason : ℕ) (fpd : Bool) → R (answer (faulted reason fpd)))
-    (follows : (c : Context) → Usable c → R (next c)) where
-  pub lookup-cases : (source : ℕ) → P (rootRules registers faulted next source)
+-- what holds of the forks and answers of a lookup and of what follows a context
+module _ {A : Type 0} (Fork : EntryKind → ℕ → A → Type 0) (Ends : A → Type 0) (most : ℕ) (registers : Registers)
+    (faulted : (reason : ℕ) (fpd : Bool) → A) (next : Context → Rules A)
+    (root-read : (place : ℕ) → Fork rootEntry place (faulted 0x08 false))
+    (context-read : (place : ℕ) → Fork contextEntry place (faulted 0x09 false))
+    (stops : (reason : ℕ) (fpd : Bool) → Ends (faulted reason fpd))
+    (follows : (c : Context) → Usable c → Every Fork Ends most (next c)) where
+  pub every-lookup : (source : ℕ) → Every Fork Ends (4 + most) (rootRules registers faulted next source)
   unfolding rootRules contextRules
-  lookup-cases source =
-      root-read _ _
+  every-lookup source =
+      every-fetch Fork Ends (4 + most) (2 + most) rootEntry (registers .«root_table» + 16 * busOf source) (faulted 0x08 false) _ (omega arith)
+      (root-read _)
       (λ e.
-      check-cases Q (rootCheck (registers .haw) e) (λ reason. faulted reason false) (contextRules registers faulted next source) root-stopped
+      check-cases (Every Fork Ends (2 + most)) (rootCheck (registers .haw) e) (λ reason. faulted reason false)
+      (contextRules registers faulted next source) (λ reason _. every-answer Fork Ends (2 + most) (faulted reason false) (stops reason false))
       (λ table _.
-      context-read _ _
+      every-fetch Fork Ends (2 + most) most contextEntry (table + 16 * devfnOf source) (faulted 0x09 false) _ (omega arith) (context-read _)
       (λ e.
-      check-cases R (contextCheck registers e) (λ reason. faulted reason (faultProcessingDisabled e)) next
-      (λ reason. context-stopped reason (faultProcessingDisabled e))
+      check-cases (Every Fork Ends most) (contextCheck registers e) (λ reason. faulted reason (faultProcessingDisabled e)) next
+      (λ reason _. every-answer Fork Ends most _ (stops reason (faultProcessingDisabled e)))
       (λ c told. follows c (usable registers e told)))))
 
 -- the lookup, then what follows it
@@ -86,11 +89,8 @@ module _ {A : Type 0} (registers : Registers) (faulted : (reason : ℕ) (fpd : B
 abbrev pub Finds : Lookup → Type 0
 Finds l = onLookup l (λ reason fpd. Unit {0}) Usable
 
-pub finds : (registers : Registers) (source : ℕ) → Answers Finds (lookupRules registers source)
-finds registers =
-    lookup-cases (Answers Finds) (Answers Finds) (Answers Finds) registers noContext (λ c. answer (context c))
-    (λ place rest. answers-fetch Finds 2 place (noContext 0x08 false) rest tt)
-    (λ reason. answers-answer Finds (noContext reason false) tt)
-    (λ place rest. answers-fetch Finds 2 place (noContext 0x09 false) rest tt)
-    (λ reason fpd. answers-answer Finds (noContext reason fpd) tt)
-    (λ c good. answers-answer Finds (context c) good)
+pub finds : (registers : Registers) (source : ℕ) (m : Memory) → Finds (run (lookupRules registers source) m)
+finds registers source m =
+    every-run (λ kind at l. Finds l) Finds (λ kind at l found. found) 4 (lookupRules registers source) m
+    (every-lookup (λ kind at l. Finds l) Finds 0 registers noContext (λ c. answer (context c)) (λ place. tt) (λ place. tt) (λ reason fpd. tt)
+    (λ c good. every-answer (λ kind at l. Finds l) Finds 0 (context c) good) source)

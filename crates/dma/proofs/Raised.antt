@@ -16,7 +16,7 @@ use Rattle.dma.specs.Page.{denied, ownRight, leafAt, pageReserved, pageC
 use Rattle.dma.specs.Translation.{Translation, through, leaf, fault, pageStep, pageRules}
 use Rattle.dma.specs.Walk.{Step, done, down}
 use Rattle.dma.proofs.Steps.{past, page-frame}
-use Rattle.dma.proofs.Aligned.{leads-aligned}
+use Rattle.dma.proofs.Stepped.{leads-aligned}
 use Rattle.dma.proofs.Walks.{BothFetched, KeptStep, kept-walk}
 
 -- the same entry with rights switched on
@@ -97,5 +97,5 @@ module _ (registers : Registers) (haw : 2 ≤ registers .haw) (address : ℕ) (w
       → run (pageRules registers address write fpd level table) m ≡ t
       → run (pageRules registers address write fpd level table) m′ ≡ t
   raised-walk m m′ raised level table =
-      kept-walk address (fault 0x07 fpd) (pageStep registers address write fpd) (leads-aligned registers address write fpd) Reaches Raised
+      kept-walk address (λ s. fault 0x07 fpd) (pageStep registers address write fpd) (leads-aligned registers address write fpd) Reaches Raised
       raised-step m m′ raised level table tt

@@ -10,6 +10,7 @@ use lib.ListN.{length, getD}
 use Rattle.image.specs.Bits.{bits}
 use Rattle.image.specs.Check.{go}
 use Rattle.image.specs.Choice.{if_then_else_}
+use Rattle.image.specs.EntryKind.{isRootOrContext}
 use Rattle.image.specs.Memory.{Memory, Fetched, missing, found, wordAt, ofImage, entry}
 use Rattle.image.specs.Rules.{Rules, run, entriesOf, mapRules}
 use Rattle.image.proofs.Same.{same-entry, both-missing}
@@ -102,9 +103,9 @@ module _ (registers : Registers) (request : MemoryRequest) (taken : take ≡ adm
   abbrev rules : Rules Translation
   rules = translationRules registers (request .address) (request .write) (request .source .id)
 
-  tables : (m : Memory) → entriesOf 2 rules m ≡ tableEntries registers request m
+  tables : (m : Memory) → entriesOf isRootOrContext rules m ≡ tableEntries registers request m
   unfolding memoryRules
-  tables m = rw (← taken) (sym (entries-map (outcome request) 2 rules m))
+  tables m = rw (← taken) (sym (entries-map (outcome request) isRootOrContext rules m))
 
   -- the root and the context entry of a request are among the entries of two words that it read
   root-in : (m : Memory) {e : ℕ} → entry 2 m (rootPlace registers request) ≡ found e

@@ -1,5 +1,4 @@
--- The stages before the page walk. Root and context entry are one kind of stage: an entry of 16 bytes in a table's page, its check, and
--- what follows.
+-- The stages before the page walk: where their entries are, and what a context entry's check ensures.
 use Prim.Native.Nat.{ℕ, _+_, _*_, _≤_, _<_}
 use mathlib.Core.Bool.{Bool, true, false, not}
 use mathlib.Core.Path.{_≡_, refl, ap, sym, _∙_}
@@ -11,8 +10,7 @@ use lib.ListN.{take, drop}
 use Rattle.image.specs.Bits.{bits, bit, inPlace}
 use Rattle.image.specs.Check.{Check, stop, go, onCheck}
 use Rattle.image.specs.Choice.{if_then_else_, _or_}
-use Rattle.image.specs.Memory.{Memory, Fetched, missing, found, ofImage, entry}
-use Rattle.image.specs.Rules.{Rules, answer, fetch, run}
+use Rattle.image.specs.Memory.{Fetched, ofImage, entry}
 use Rattle.image.proofs.Pages.{in-page}
 use Rattle.registers.specs.declared.Registers.{Registers}
 use Rattle.dma.specs.Context.{addressWidth, levelsOf, translationType, widthSupported, contextReserved, contextInvalid, contextOf, contextCheck, Usable}
@@ -24,26 +22,6 @@ pub placed : (image : List ℕ) (table : ℕ) {k : ℕ} {f : Fetched} → k < 25
     → f ≡ entry 2 (ofImage (take 4096 (drop table image))) (16 * k)
     → f ≡ entry 2 (ofImage image) (table + 16 * k)
 placed image table {k} h fetched = fetched ∙ in-page 4096 image table 2 (16 * k) (omega arith)
-
-module _ {A B : Type 0} (m : Memory) (place : ℕ) (none : A) (faulted : ℕ → Bool → A) (fpd : ℕ → Bool) (check : ℕ → Check B) (next : B → Rules A) where
-  abbrev stage : Rules A
-  stage = fetch 2 place none (λ e. onCheck (check e) (λ reason. answer (faulted reason (fpd e))) next)
-
-  pub unfetched : missing ≡ entry 2 m place → none ≡ run stage m
-  unfolding run
-  unfetched h = rw (← h)
-
-  module _ {e : ℕ} (h : found e ≡ entry 2 m place) where
-    pub checked : {k : Check B} → k ≡ check e → run (onCheck k (λ reason. answer (faulted reason (fpd e))) next) m ≡ run stage m
-    unfolding run
-    checked told = rw (← h) (ap (λ (k : Check B). run (onCheck k (λ reason. answer (faulted reason (fpd e))) next) m) told)
-
--- rules that only answer
-pub only : {A B : Type 0} (m : Memory) (k : Check B) (stopped : ℕ → A) (gone : B → A)
-    → onCheck k stopped gone ≡ run (onCheck k (λ reason. answer (stopped reason)) (λ b. answer (gone b))) m
-unfolding run
-only m (stop reason) stopped gone = refl
-only m (go b) stopped gone = refl
 
 -- a context entry that its check lets pass is past 03h, and the context is what it says
 pub valid : (registers : Registers) (e : ℕ) {c : Context} → contextCheck registers e ≡ go c

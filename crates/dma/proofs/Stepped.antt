@@ -1,5 +1,5 @@
 -- What one level of the walk makes of the entry that the code fetched and checked.
-use Prim.Native.Nat.{ℕ, zero, suc, _+_, _-_, _*_, _<_, _≤_}
+use Prim.Native.Nat.{ℕ, zero, suc, _+_, _-_, _*_, _%_, _<_, _≤_}
 use mathlib.Core.Bool.{Bool, true, false}
 use mathlib.Core.Path.{_≡_, refl, ap, sym, _∙_}
 use mathlib.Core.List.{List}
@@ -21,7 +21,7 @@ use denote.Enum.Declared.{tagOf}
 use Rattle.dma.proofs.page.Step.{the-type}
 use Rattle.dma.specs.declared.page.Step.{Step as StepCode}
 use Rattle.dma.specs.declared.page.Step.the-variants as step
-use Rattle.dma.proofs.Steps.{index-lt}
+use Rattle.dma.proofs.Steps.{index-lt, page-frame}
 use Rattle.dma.proofs.Walks.{walk-step}
 
 -- an entry taken from its table's page is the one that the rules name
@@ -74,11 +74,11 @@ module _ (registers : Registers) (address : ℕ) (write fpd : Bool) (image : Lis
 module _ (registers : Registers) (address : ℕ) (write fpd : Bool) (m : Memory) (level table : ℕ) (more : 0 < level) where
   first : run (pageRules registers address write fpd level table) m
       ≡ onStep (pageOver registers address write fpd m (level - 1) table) (λ a. a)
-      (λ next s. run (walkRules address (fault 0x07 fpd) (pageStep registers address write fpd) (level - 1) next s) m)
+      (λ next s. run (walkRules address (λ s. fault 0x07 fpd) (pageStep registers address write fpd) (level - 1) next s) m)
   first =
       let this : level ≡ suc (level - 1) = omega arith in
       ap (λ (l : ℕ). run (pageRules registers address write fpd l table) m) this
-      ∙ walk-step address (fault 0x07 fpd) (pageStep registers address write fpd) m (level - 1) table tt
+      ∙ walk-step address (λ s. fault 0x07 fpd) (pageStep registers address write fpd) m (level - 1) table tt
 
   pub ended : {t : Translation} → done t ≡ pageOver registers address write fpd m (level - 1) table
       → t ≡ run (pageRules registers address write fpd level table) m
@@ -101,6 +101,12 @@ leads registers address write fpd level place e {next} = on (pageCheck registers
     on (stop r) page h = let z : _≡_ {A = ℕ} 0 1 = cc in absurd (omega arith)
     on (go frame) true h = let z : _≡_ {A = ℕ} 0 1 = cc in absurd (omega arith)
     on (go frame) false h = (cc, refl)
+
+-- so it leads to a multiple of 8
+pub leads-aligned : (registers : Registers) (address : ℕ) (write fpd : Bool) (level place : ℕ) (s : Unit {0}) (e next : ℕ) (t : Unit {0})
+    → down next t ≡ pageStep registers address write fpd level place s e → next % 8 ≡ 0
+leads-aligned registers address write fpd level place s e next t told =
+    rw (page-frame registers write level e next (leads registers address write fpd level place e told .0)) (omega arith)
 
 -- below level 1 there is no table
 pub past : (registers : Registers) (address : ℕ) (write fpd : Bool) (m : Memory) (level table : ℕ) → level ≤ 0

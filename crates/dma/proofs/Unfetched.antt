@@ -111,7 +111,7 @@ module _ (registers : Registers) (request : MemoryRequest) where
 
       go : (e : ℕ) (x : Step (Unit {0}) Translation) → x ≡ step e
           → ((next : ℕ) → 0 < n → Inside Access (pageRules registers (request .address) (request .write) fpd n next))
-          → Inside Access (onStep x answer (walkRules (request .address) (fault 0x07 fpd) (pageStep registers (request .address) (request .write) fpd) n))
+          → Inside Access (onStep x answer (walkRules (request .address) (λ s. fault 0x07 fpd) (pageStep registers (request .address) (request .write) fpd) n))
       go e (done t) told ih = step-otherwise fpd (suc n) (placeIn (request .address) table n) tt e t told
       go e (down next s) told ih =
           ih next (more-levels n e (leads registers (request .address) (request .write) fpd (suc n) (placeIn (request .address) table n) e told .1))

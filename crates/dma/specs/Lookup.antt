@@ -3,7 +3,9 @@
 use Prim.Native.Nat.{ℕ, _+_, _*_}
 use mathlib.Core.Bool.{Bool, false}
 use Rattle.image.specs.Check.{Check, onCheck}
-use Rattle.image.specs.Rules.{Rules, answer, fetch}
+use Rattle.image.specs.EntryKind.{rootEntry, contextEntry}
+use Rattle.image.specs.Rules.{Rules, answer}
+use Rattle.image.specs.Stage.{stage}
 use Rattle.registers.specs.Source.{busOf, devfnOf}
 use Rattle.registers.specs.declared.Registers.{Registers}
 use Rattle.dma.specs.Context.{contextCheck, faultProcessingDisabled}
@@ -14,13 +16,13 @@ use Rattle.dma.specs.declared.context.Context.{Context}
 module _ {A : Type 0} (registers : Registers) (faulted : (reason : ℕ) (fpd : Bool) → A) (next : Context → Rules A) where
   unfoldable pub contextRules : (source table : ℕ) → Rules A
   contextRules source table =
-      fetch 2 (table + 16 * devfnOf source) (faulted 0x09 false)
-      (λ e. onCheck (contextCheck registers e) (λ reason. answer (faulted reason (faultProcessingDisabled e))) next)
+      stage contextEntry (table + 16 * devfnOf source) (faulted 0x09 false) (contextCheck registers)
+      (λ e reason. faulted reason (faultProcessingDisabled e)) next
 
   unfoldable pub rootRules : (source : ℕ) → Rules A
   rootRules source =
-      fetch 2 (registers .«root_table» + 16 * busOf source) (faulted 0x08 false)
-      (λ e. onCheck (rootCheck (registers .haw) e) (λ reason. answer (faulted reason false)) (contextRules source))
+      stage rootEntry (registers .«root_table» + 16 * busOf source) (faulted 0x08 false) (rootCheck (registers .haw))
+      (λ e reason. faulted reason false) (contextRules source)
 
 -- the lookup alone: for the code's contracts
 pub data Lookup : Type 0 where

@@ -1,6 +1,7 @@
 -- A memory request, from registers to answer, as one rules tree.
 use Prim.Native.Nat.{ℕ}
 use mathlib.Core.List.{List}
+use Rattle.image.specs.EntryKind.{isPage, isRootOrContext}
 use Rattle.image.specs.Memory.{Memory}
 use Rattle.image.specs.Rules.{Rules, mapRules, entriesOf}
 use Rattle.registers.specs.Admission.{admission, onAdmission, inInterruptRange}
@@ -29,11 +30,10 @@ memoryRules registers request =
     (granted (request .address))
     (mapRules (outcome request) (translationRules registers (request .address) (request .write) (request .source .id)))
 
--- document 01's walked entries: the page entries, of one word each, one that faults included; one that couldn't be fetched isn't
--- among them
+-- document 01's walked entries: the page entries, one that faults included; one that couldn't be fetched isn't among them
 abbrev pub walked : Registers → MemoryRequest → Memory → List ℕ
-walked registers request = entriesOf 1 (memoryRules registers request)
+walked registers request = entriesOf isPage (memoryRules registers request)
 
--- the root and context entries, of two words each, where fetched
+-- the root and context entries, where fetched
 abbrev pub tableEntries : Registers → MemoryRequest → Memory → List ℕ
-tableEntries registers request = entriesOf 2 (memoryRules registers request)
+tableEntries registers request = entriesOf isRootOrContext (memoryRules registers request)

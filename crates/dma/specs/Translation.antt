@@ -44,11 +44,11 @@ module _ (registers : Registers) (address : ℕ) (write : Bool) where
   -- one level over a memory: for the code's contracts
   abbrev pub pageOver : (fpd : Bool) → Memory → (below table : ℕ) → Step (Unit {0}) Translation
   pageOver fpd m below table =
-      stepOver address (fault 0x07 fpd) (pageStep fpd) m below table tt
+      stepOver address (λ s. fault 0x07 fpd) (pageStep fpd) m below table tt
 
   abbrev pub pageRules : (fpd : Bool) (level table : ℕ) → Rules Translation
   pageRules fpd level table =
-      walkRules address (fault 0x07 fpd) (pageStep fpd) level table tt
+      walkRules address (λ s. fault 0x07 fpd) (pageStep fpd) level table tt
 
   -- X is the smaller of MGAW and AW's 39, 48 or 57 bits. Pass-through then goes no further
   unfoldable pub widthRules : Context → Rules Translation

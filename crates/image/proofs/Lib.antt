@@ -1,5 +1,6 @@
 pub mod Bytes
 pub mod Fields
+pub mod Forks
 pub mod Isolated
 pub mod Local
 pub mod Longer

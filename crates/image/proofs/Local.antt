@@ -2,6 +2,7 @@
 use Prim.Native.Nat.{ℕ, zero, suc, _+_, _*_}
 use mathlib.Core.Path.{_≡_, refl, ap, sym, _∙_, subst}
 use mathlib.Core.List.{List, [], _∷_, _++_}
+use Rattle.image.specs.EntryKind.{EntryKind, wordsOf}
 use Rattle.image.specs.Memory.{Memory, Fetched, missing, found, entry, onFetch}
 use Rattle.image.specs.Rules.{Rules, answer, fetch, run, named, Complete, wordsFrom, SameIn}
 
@@ -25,14 +26,14 @@ module _ {A : Type 0} where
   pub local : (q : Rules A) (m m′ : Memory) → Complete q m → SameIn (named q m) m m′ → run q m ≡ run q m′
   unfolding run named Complete
   local (answer a) m m′ c h = refl
-  local (fetch words at outside next) m m′ c h = go (entry words m at) refl c h (λ x. local (next x) m m′)
+  local (fetch kind at outside next) m m′ c h = go (entry (wordsOf kind) m at) refl c h (λ x. local (next x) m m′)
     where
-      go : (f : Fetched) → entry words m at ≡ f
+      go : (f : Fetched) → entry (wordsOf kind) m at ≡ f
           → onFetch f ⊥ (λ e. Complete (next e) m)
-          → SameIn (onFetch f [] (λ e. wordsFrom words at ++ named (next e) m)) m m′
+          → SameIn (onFetch f [] (λ e. wordsFrom (wordsOf kind) at ++ named (next e) m)) m m′
           → ((x : ℕ) → Complete (next x) m → SameIn (named (next x) m) m m′ → run (next x) m ≡ run (next x) m′)
-          → onFetch f outside (λ e. run (next e) m) ≡ run (fetch words at outside next) m′
+          → onFetch f outside (λ e. run (next e) m) ≡ run (fetch kind at outside next) m′
       go missing e c h ih = absurd c
       go (found x) e c h ih =
-          let same = entry-alike words at m m′ (alike-left (wordsFrom words at) (named (next x) m) m m′ h) in
-          rw (← same, e) (ih x c (alike-right (wordsFrom words at) (named (next x) m) m m′ h))
+          let same = entry-alike (wordsOf kind) at m m′ (alike-left (wordsFrom (wordsOf kind) at) (named (next x) m) m m′ h) in
+          rw (← same, e) (ih x c (alike-right (wordsFrom (wordsOf kind) at) (named (next x) m) m m′ h))

@@ -6,6 +6,7 @@ use native.Mathlib.Omega.{arith}
 use lib.ListN.{length, take, drop, length-append, length-drop}
 use lib.Seq.{take-append-le, drop-append-le}
 use Rattle.image.specs.Alike.{SameWord, SameWords}
+use Rattle.image.specs.EntryKind.{EntryKind, wordsOf}
 use Rattle.image.specs.Memory.{Fetched, missing, found, onFetch, ofImage, entry}
 use Rattle.image.specs.Rules.{Rules, answer, fetch, wordsFrom, named}
 use Rattle.image.proofs.Words.{whole-entry}
@@ -31,11 +32,11 @@ module _ (image more : List ℕ) where
   pub longer : {A : Type 0} (q : Rules A) → SameWords image (image ++ more) (named q (ofImage image))
   unfolding SameWords named entry wordsFrom
   longer (answer a) = tt
-  longer (fetch zero at outside next) = longer (next 0)
-  longer {A} (fetch (suc n) at outside next) = by (λ e. longer (next e)) (entry (suc n) (ofImage image) at) refl
+  longer {A} (fetch kind at outside next) = by (wordsOf kind) (λ e. longer (next e)) (entry (wordsOf kind) (ofImage image) at) refl
     where
-      by : ((e : ℕ) → SameWords image (image ++ more) (named (next e) (ofImage image)))
-          → (f : Fetched) → entry (suc n) (ofImage image) at ≡ f
-          → SameWords image (image ++ more) (onFetch f [] (λ e. wordsFrom (suc n) at ++ named (next e) (ofImage image)))
-      by rest missing h = tt
-      by rest (found e) h = words-kept (suc n) at (named (next e) (ofImage image)) (whole-entry image n at h) (rest e)
+      by : (n : ℕ) → ((e : ℕ) → SameWords image (image ++ more) (named (next e) (ofImage image)))
+          → (f : Fetched) → entry n (ofImage image) at ≡ f
+          → SameWords image (image ++ more) (onFetch f [] (λ e. wordsFrom n at ++ named (next e) (ofImage image)))
+      by n rest missing h = tt
+      by zero rest (found e) h = rest e
+      by (suc n) rest (found e) h = words-kept (suc n) at (named (next e) (ofImage image)) (whole-entry image n at h) (rest e)

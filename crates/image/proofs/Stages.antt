@@ -2,6 +2,7 @@
 use Prim.Native.Nat.{ℕ}
 use mathlib.Core.Path.{_≡_, refl, ap, sym, _∙_}
 use Rattle.image.specs.Check.{Check, stop, go, onCheck}
+use Rattle.image.specs.EntryKind.{EntryKind, wordsOf}
 use Rattle.image.specs.Memory.{Memory, Fetched, missing, found, entry, onFetch}
 use Rattle.image.specs.Rules.{Rules, answer, fetch, run, named, wordsFrom}
 use Rattle.image.specs.Stage.{stage}
@@ -20,9 +21,9 @@ pub check-cases : {A B : Type 0} (P : Rules A → Type 0) (k : Check B) (stopped
 check-cases P (stop reason) stopped next ended gone = ended reason refl
 check-cases P (go b) stopped next ended gone = gone b refl
 
-module _ {A B : Type 0} (words at : ℕ) (absent : A) (check : ℕ → Check B) (stopped : ℕ → ℕ → A) (next : B → Rules A) where
+module _ {A B : Type 0} (kind : EntryKind) (at : ℕ) (absent : A) (check : ℕ → Check B) (stopped : ℕ → ℕ → A) (next : B → Rules A) where
   abbrev this : Rules A
-  this = stage words at absent check stopped next
+  this = stage kind at absent check stopped next
 
   -- what follows an entry's fetch
   abbrev pub after : ℕ → Rules A
@@ -30,26 +31,26 @@ module _ {A B : Type 0} (words at : ℕ) (absent : A) (check : ℕ → Check B) 
 
   -- over a memory, by what the code's fetch and check said
   module _ (m : Memory) where
-    pub unfetched : missing ≡ entry words m at → absent ≡ run this m
+    pub unfetched : missing ≡ entry (wordsOf kind) m at → absent ≡ run this m
     unfolding run
     unfetched h = rw (← h)
 
-    pub checked : {e : ℕ} → found e ≡ entry words m at → {q : Rules A} → q ≡ after e → run q m ≡ run this m
+    pub checked : {e : ℕ} → found e ≡ entry (wordsOf kind) m at → {q : Rules A} → q ≡ after e → run q m ≡ run this m
     unfolding run
     checked {e} h told = rw (← h) (ap (λ (q : Rules A). run q m) told)
 
   -- what holds of the rules after the fetch, where it stops and where it goes on, holds of the stage, if a fetch keeps it
-  pub stage-cases : (P Q : Rules A → Type 0) → ((rest : ℕ → Rules A) → ((e : ℕ) → Q (rest e)) → P (fetch words at absent rest))
+  pub stage-cases : (P Q : Rules A → Type 0) → ((rest : ℕ → Rules A) → ((e : ℕ) → Q (rest e)) → P (fetch kind at absent rest))
       → ((e reason : ℕ) → check e ≡ stop reason → Q (answer (stopped e reason))) → ((e : ℕ) (b : B) → check e ≡ go b → Q (next b)) → P this
   stage-cases P Q read ended gone = read after (λ e. check-cases Q (check e) (stopped e) next (ended e) (gone e))
 
   -- what holds of each answer over a memory holds of the answer
   pub run-cases : (m : Memory) (P : A → Type 0) → P absent
-      → ((e reason : ℕ) → entry words m at ≡ found e → check e ≡ stop reason → P (stopped e reason))
-      → ((e : ℕ) (b : B) → entry words m at ≡ found e → check e ≡ go b → P (run (next b) m)) → P (run this m)
+      → ((e reason : ℕ) → entry (wordsOf kind) m at ≡ found e → check e ≡ stop reason → P (stopped e reason))
+      → ((e : ℕ) (b : B) → entry (wordsOf kind) m at ≡ found e → check e ≡ go b → P (run (next b) m)) → P (run this m)
   unfolding run
-  run-cases m P none ended gone = by (entry words m at) refl
+  run-cases m P none ended gone = by (entry (wordsOf kind) m at) refl
     where
-      by : (f : Fetched) → entry words m at ≡ f → P (onFetch f absent (λ e. run (after e) m))
+      by : (f : Fetched) → entry (wordsOf kind) m at ≡ f → P (onFetch f absent (λ e. run (after e) m))
       by missing h = none
       by (found e) h = check-cases (λ q. P (run q m)) (check e) (stopped e) next (λ reason. ended e reason h) (λ b. gone e b h)

@@ -5,6 +5,7 @@ use mathlib.Core.List.{List, [], _∷_}
 use native.Mathlib.Decide.{decLe}
 use native.Mathlib.Omega.{arith}
 use lib.ListN.{length}
+use Rattle.image.specs.EntryKind.{wordsOf}
 use Rattle.image.specs.Memory.{Fetched, missing, found, onFetch, ofImage, entry}
 use Rattle.image.specs.Rules.{Rules, answer, fetch, run, mapRules}
 use Rattle.image.specs.Unfetched.{Unfetched, unfetched}
@@ -13,12 +14,12 @@ use Rattle.image.proofs.Words.{inside}
 -- no answer is of this kind, but those to an entry that couldn't be fetched
 unfoldable pub Inside : {A : Type 0} → (A → Type 0) → Rules A → Type 0
 Inside Kind (answer a) = Kind a → ⊥
-Inside Kind (fetch words at outside next) = (e : ℕ) → Inside Kind (next e)
+Inside Kind (fetch kind at outside next) = (e : ℕ) → Inside Kind (next e)
 
 pub inside-map : {A B : Type 0} (f : A → B) (Kind : B → Type 0) (q : Rules A) → Inside (λ a. Kind (f a)) q → Inside Kind (mapRules f q)
 unfolding Inside mapRules
 inside-map f Kind (answer a) h = h
-inside-map f Kind (fetch words at outside next) h = λ e. inside-map f Kind (next e) (h e)
+inside-map f Kind (fetch kind at outside next) h = λ e. inside-map f Kind (next e) (h e)
 
 past-end : (image : List ℕ) (words at : ℕ) → entry words (ofImage image) at ≡ missing → length image < at + 8 * words
 past-end image words at h = go (decLe (at + 8 * words) (length image))
@@ -34,14 +35,14 @@ pub ended-outside : {A : Type 0} (Kind : A → Type 0) (image : List ℕ) (q : R
     → Inside Kind q → Kind (run q (ofImage image)) → Unfetched q image
 unfolding Inside run unfetched
 ended-outside Kind image (answer a) h is = absurd (h is)
-ended-outside {A} Kind image (fetch words at outside next) h is =
-    go (entry words (ofImage image) at) refl is (λ e. ended-outside Kind image (next e) (h e))
+ended-outside {A} Kind image (fetch kind at outside next) h is =
+    go (entry (wordsOf kind) (ofImage image) at) refl is (λ e. ended-outside Kind image (next e) (h e))
   where
-    go : (f : Fetched) → entry words (ofImage image) at ≡ f → Kind (onFetch f outside (λ e. run (next e) (ofImage image)))
+    go : (f : Fetched) → entry (wordsOf kind) (ofImage image) at ≡ f → Kind (onFetch f outside (λ e. run (next e) (ofImage image)))
         → ((e : ℕ) → Kind (run (next e) (ofImage image)) → Unfetched (next e) image)
-        → Unfetched (fetch words at outside next) image
+        → Unfetched (fetch kind at outside next) image
     go missing told is ih =
-        record { words = words; at = at; read = rw told; outside = past-end image words at told }
+        record { words = wordsOf kind; at = at; read = rw told; outside = past-end image (wordsOf kind) at told }
     go (found e) told is ih =
         let u = ih e is in
         record { words = u .words; at = u .at; read = rw told (u .read); outside = u .outside }

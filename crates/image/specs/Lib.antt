@@ -4,6 +4,7 @@ pub mod Bytes
 pub mod Check
 pub mod Choice
 pub mod Entries
+pub mod EntryKind
 pub mod Memory
 pub mod Rules
 pub mod Stage

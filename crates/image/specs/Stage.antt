@@ -2,10 +2,11 @@
 -- fails ends the request.
 use Prim.Native.Nat.{ℕ}
 use Rattle.image.specs.Check.{Check, onCheck}
+use Rattle.image.specs.EntryKind.{EntryKind}
 use Rattle.image.specs.Rules.{Rules, answer, fetch}
 
--- so many words at an address; what an entry that can't be fetched is answered, its check, and what one that the check stops is
+-- an entry of a kind at an address; what an entry that can't be fetched is answered, its check, and what one that the check stops is
 -- answered, which may depend on the entry (FPD is read from it)
-abbrev pub stage : {A B : Type 0} → (words at : ℕ) → A → ((e : ℕ) → Check B) → ((e reason : ℕ) → A) → (B → Rules A) → Rules A
-stage words at absent check stopped next =
-    fetch words at absent (λ e. onCheck (check e) (λ reason. answer (stopped e reason)) next)
+abbrev pub stage : {A B : Type 0} → (kind : EntryKind) (at : ℕ) → A → ((e : ℕ) → Check B) → ((e reason : ℕ) → A) → (B → Rules A) → Rules A
+stage kind at absent check stopped next =
+    fetch kind at absent (λ e. onCheck (check e) (λ reason. answer (stopped e reason)) next)

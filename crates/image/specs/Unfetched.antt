@@ -3,6 +3,7 @@ use Prim.Native.Nat.{ℕ, _+_, _*_, _<_}
 use mathlib.Core.Path.{_≡_}
 use mathlib.Core.List.{List, [], _∷_}
 use lib.ListN.{length}
+use Rattle.image.specs.EntryKind.{wordsOf}
 use Rattle.image.specs.Memory.{Memory, ofImage, entry, onFetch}
 use Rattle.image.specs.Rules.{Rules, answer, fetch}
 
@@ -10,8 +11,8 @@ use Rattle.image.specs.Rules.{Rules, answer, fetch}
 -- that ended the request
 unfoldable pub unfetched : {A : Type 0} → Rules A → Memory → List (ℕ × ℕ)
 unfetched (answer a) m = []
-unfetched (fetch words at outside next) m =
-    onFetch (entry words m at) ((words, at) ∷ []) (λ e. unfetched (next e) m)
+unfetched (fetch kind at outside next) m =
+    onFetch (entry (wordsOf kind) m at) ((wordsOf kind, at) ∷ []) (λ e. unfetched (next e) m)
 
 -- the rules ended with an entry of which a byte lies outside the image
 pub record Unfetched {A : Type 0} (q : Rules A) (image : List ℕ) : Type 0 where

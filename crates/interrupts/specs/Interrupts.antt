@@ -5,6 +5,7 @@ use mathlib.Core.Bool.{Bool, false, not}
 use lib.Dec.{leb}
 use Rattle.image.specs.Check.{onCheck}
 use Rattle.image.specs.Choice.{if_then_else_}
+use Rattle.image.specs.EntryKind.{remappingEntry, postedDescriptor}
 use Rattle.image.specs.Rules.{Rules, answer, fetch, mapRules}
 use Rattle.registers.specs.Admission.{admission, onAdmission, inInterruptRange}
 use Rattle.registers.specs.declared.Registers.{Registers}
@@ -23,7 +24,7 @@ pub data Delivery : Type 0 where
 
 unfoldable pub descriptorRules : (eime fpd : Bool) (at vector : ℕ) → Rules Delivery
 descriptorRules eime fpd at vector =
-    fetch 8 at (fault 0x27 fpd)
+    fetch postedDescriptor at (fault 0x27 fpd)
     (λ d. answer (onCheck (descriptorCheck eime d) (λ reason. fault reason fpd) (post at vector)))
 
 abbrev pub onIrte : (eime fpd : Bool) → Irte → Rules Delivery
@@ -38,7 +39,7 @@ entryRules registers source e =
 unfoldable pub indexRules : Registers → (source index : ℕ) → Rules Delivery
 indexRules registers source index =
     if leb (2 ^ (registers .s + 1)) index then answer (fault 0x21 false)
-    else fetch 2 (registers .«interrupt_table» + 16 * index) (fault 0x23 false) (entryRules registers source)
+    else fetch remappingEntry (registers .«interrupt_table» + 16 * index) (fault 0x23 false) (entryRules registers source)
 
 pub data InterruptOutcome : Type 0 where
   -- the request goes on unchanged

@@ -3,7 +3,7 @@ use Rattle.image.specs.Memory.{ofImage}
 use Rattle.registers.specs.Admitted.{admittedOf}
 use Rattle.dma.specs.Requests.{outcome}
 use Rattle.dma.proofs.Admissions.{refuses, passes, takes}
-use Rattle.dma.proofs.Leaves.{reachable}
+use Rattle.dma.proofs.Forks.{reachable}
 use borrow.Author.Needs.{needs}
 use Rattle.dma.proofs.memory_request.Statement.{statement}
 use Rattle.dma.proofs.memory_request.Tie as tie

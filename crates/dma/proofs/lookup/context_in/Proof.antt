@@ -5,10 +5,12 @@ use native.Mathlib.Omega.{arith}
 use Rattle.image.specs.Entries.{fetched16, number16}
 use Rattle.image.specs.Memory.{found, ofImage, entry}
 use Rattle.image.specs.Rules.{answer}
+use Rattle.image.specs.EntryKind.{contextEntry}
+use Rattle.image.proofs.Stages.{unfetched, checked, only}
 use Rattle.registers.specs.Source.{busOf, devfnOf}
 use Rattle.dma.specs.Context.{contextCheck, faultProcessingDisabled}
 use Rattle.dma.specs.Lookup.{context, noContext, contextRules}
-use Rattle.dma.proofs.Stages.{placed, unfetched, checked, only}
+use Rattle.dma.proofs.Stages.{placed}
 use borrow.Author.Needs.{needs}
 use Rattle.dma.proofs.lookup.context_in.Statement.{statement}
 use Rattle.dma.proofs.lookup.context_in.Tie as tie
@@ -43,7 +45,7 @@ returns : tie.Need-returns
 unfolding contextRules
 returns c =
     let a = c .before .before .before .before .before .args in
-    unfetched (ofImage (a .image .now)) (a .table + 16 * devfnOf (a .source .id)) (noContext 0x09 false) noContext faultProcessingDisabled (contextCheck (a .registers)) (λ c. answer (context c)) (sym (ap fetched16 (c .enum-told .given .1)) ∙ place (c .before .before))
+    unfetched contextEntry (a .table + 16 * devfnOf (a .source .id)) (noContext 0x09 false) (contextCheck (a .registers)) (λ e reason. noContext reason (faultProcessingDisabled e)) (λ c. answer (context c)) (ofImage (a .image .now)) (sym (ap fetched16 (c .enum-told .given .1)) ∙ place (c .before .before))
 
 context-check-requires : tie.Need-context-check-requires
 context-check-requires c κs = search needs
@@ -55,7 +57,7 @@ returns-2 c =
     let e = number16 (c .before .before .e .given .0 .0) in
     c .context-check .ensures
     ∙ only (ofImage (a .image .now)) (contextCheck (a .registers) e) (λ reason. noContext reason (faultProcessingDisabled e)) context
-    ∙ checked (ofImage (a .image .now)) (a .table + 16 * devfnOf (a .source .id)) (noContext 0x09 false) noContext faultProcessingDisabled (contextCheck (a .registers)) (λ c. answer (context c)) (sym (ap fetched16 (c .before .before .e .given .1)) ∙ place (c .before .before .before .before)) refl
+    ∙ checked contextEntry (a .table + 16 * devfnOf (a .source .id)) (noContext 0x09 false) (contextCheck (a .registers)) (λ e reason. noContext reason (faultProcessingDisabled e)) (λ c. answer (context c)) (ofImage (a .image .now)) (sym (ap fetched16 (c .before .before .e .given .1)) ∙ place (c .before .before .before .before)) refl
 
 pub context-in-spec : {M : Type 1} → statement M
 context-in-spec =

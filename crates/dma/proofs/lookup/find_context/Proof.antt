@@ -5,11 +5,14 @@ use native.Mathlib.Omega.{arith}
 use Rattle.image.specs.Entries.{fetched16, number16}
 use Rattle.image.specs.Memory.{found, ofImage, entry}
 use Rattle.image.specs.Rules.{answer, run}
+use Rattle.image.specs.Check.{onCheck}
+use Rattle.image.specs.EntryKind.{rootEntry}
+use Rattle.image.proofs.Stages.{unfetched, checked}
 use Rattle.registers.specs.Source.{busOf, devfnOf}
 use Rattle.dma.specs.Checked.{checkOf}
 use Rattle.dma.specs.Lookup.{context, noContext, stoppedLookup, contextRules, rootRules}
 use Rattle.dma.specs.Root.{rootCheck}
-use Rattle.dma.proofs.Stages.{placed, unfetched, checked}
+use Rattle.dma.proofs.Stages.{placed}
 use borrow.Author.Needs.{needs}
 use Rattle.dma.proofs.lookup.find_context.Statement.{statement}
 use Rattle.dma.proofs.lookup.find_context.Tie as tie
@@ -44,7 +47,7 @@ returns : tie.Need-returns
 unfolding rootRules
 returns c =
     let a = c .before .before .before .before .before .args in
-    unfetched (ofImage (a .image .now)) (a .registers .«root_table» + 16 * busOf (a .source .id)) (noContext 0x08 false) noContext (λ (e : ℕ). false) (rootCheck (a .registers .haw)) (contextRules (a .registers) noContext (λ c. answer (context c)) (a .source .id)) (sym (ap fetched16 (c .enum-told .given .1)) ∙ place (c .before .before))
+    unfetched rootEntry (a .registers .«root_table» + 16 * busOf (a .source .id)) (noContext 0x08 false) (rootCheck (a .registers .haw)) (λ e reason. noContext reason false) (contextRules (a .registers) noContext (λ c. answer (context c)) (a .source .id)) (ofImage (a .image .now)) (sym (ap fetched16 (c .enum-told .given .1)) ∙ place (c .before .before))
 
 root-check-requires : tie.Need-root-check-requires
 root-check-requires c κs = search needs
@@ -70,7 +73,7 @@ returns-2 c =
     let told = sym (ap checkOf (c .before .enum-told2 .given .1)) ∙ c .before .before .before .root-check .ensures in
     c .stopped .ensures
     ∙ ap (λ k. stoppedLookup (checkOf k)) (c .before .enum-told2 .given .1)
-    ∙ checked (ofImage (a .image .now)) (a .registers .«root_table» + 16 * busOf (a .source .id)) (noContext 0x08 false) noContext (λ (e : ℕ). false) (rootCheck (a .registers .haw)) (contextRules (a .registers) noContext (λ c. answer (context c)) (a .source .id)) (found-at (c .before .before .before .before)) told
+    ∙ checked rootEntry (a .registers .«root_table» + 16 * busOf (a .source .id)) (noContext 0x08 false) (rootCheck (a .registers .haw)) (λ e reason. noContext reason false) (contextRules (a .registers) noContext (λ c. answer (context c)) (a .source .id)) (ofImage (a .image .now)) (found-at (c .before .before .before .before)) (ap (λ k. onCheck k (λ reason. answer (noContext reason false)) (contextRules (a .registers) noContext (λ c. answer (context c)) (a .source .id))) told)
 
 context-in-requires : tie.Need-context-in-requires
 context-in-requires c κs = search needs
@@ -80,7 +83,7 @@ unfolding rootRules
 returns-3 c =
     let a = c .before .before .before .before .before .before .before .before .before .before .before .args in
     let told = sym (ap checkOf (c .before .before .check .given .1)) ∙ c .before .before .before .before .root-check .ensures in
-    c .context-in .ensures ∙ checked (ofImage (a .image .now)) (a .registers .«root_table» + 16 * busOf (a .source .id)) (noContext 0x08 false) noContext (λ (e : ℕ). false) (rootCheck (a .registers .haw)) (contextRules (a .registers) noContext (λ c. answer (context c)) (a .source .id)) (found-at (c .before .before .before .before .before)) told
+    c .context-in .ensures ∙ checked rootEntry (a .registers .«root_table» + 16 * busOf (a .source .id)) (noContext 0x08 false) (rootCheck (a .registers .haw)) (λ e reason. noContext reason false) (contextRules (a .registers) noContext (λ c. answer (context c)) (a .source .id)) (ofImage (a .image .now)) (found-at (c .before .before .before .before .before)) (ap (λ k. onCheck k (λ reason. answer (noContext reason false)) (contextRules (a .registers) noContext (λ c. answer (context c)) (a .source .id))) told)
 
 pub find-context-spec : {M : Type 1} → statement M
 find-context-spec =
