@@ -1,5 +1,5 @@
 -- No two answers of the code, and no two reasons, say the same.
-use Rattle.faults.specs.Reason.{numberOf-injective}
+use Rattle.faults.proofs.Numbers.{numberOf-injective}
 use Rattle.dma.proofs.Injective as memory
 use Rattle.dma.specs.declared.MemoryAnswer.the-variants.{Granted, Blocked, Refused}
 use Rattle.interrupts.proofs.Injective as interrupts

@@ -9,7 +9,7 @@ use Rattle.image.specs.Bits.{bits, inPlace}
 use Rattle.image.specs.Entries.{spell}
 use Rattle.faults.specs.declared.fault.Fault.{Fault}
 use Rattle.faults.specs.Fault.{faultOf, highWord}
-use Rattle.faults.specs.Reason.{numberOf-injective}
+use Rattle.faults.proofs.Numbers.{numberOf-injective}
 use Rattle.faults.specs.Record.{
   FaultAnswer,
   fromBit64,
