@@ -23,6 +23,8 @@ use native.Mathlib.Nat.{
   mod-eq-of-lt,
   div-eq-of-lt,
   one-le-pow,
+  lt-of-lt-of-le,
+  pow-le-pow-right,
   pow-suc,
   pow-succ',
 }
@@ -30,6 +32,7 @@ use native.Mathlib.Numerals.{add-one}
 use native.Mathlib.Omega.{arith}
 use lib.Arith.{mod-mul}
 use lib.Dec.{lit<}
+use lib.Pow.{pow-add}
 use lib.ListN.{length, getD, set, take, drop}
 use lib.Seq.{paste, paste-suc, take-all, getD-drop}
 use Rattle.image.specs.Bits.{bits}
@@ -82,6 +85,13 @@ bytes-beside (suc n) m low high h =
     rw (suc-add n m, split, add-mul-mod-self-left low 256 (256 ^ n * high), add-mul-div-left low (256 ^ n * high) (lit< tt))
     (ap (λ (l : List ℕ). low % 256 ∷ l) (bytes-beside n m (low / 256) high below))
 
+-- the place of byte i in a number
+pub byte-power : (i : ℕ) → 2 ^ (8 * i) ≡ 256 ^ i
+byte-power zero = refl
+byte-power (suc i) =
+    let one : 8 * suc i ≡ 8 + 8 * i = omega arith in
+    rw (one, pow-add 2 8 (8 * i), byte-power i, pow-succ' 256 i)
+
 -- a run of bytes by its last byte
 pub last-byte : (n : ℕ) (xs : List ℕ) → n < length xs
     → littleEndian (take (suc n) xs) ≡ littleEndian (take n xs) + 256 ^ n * getD xs n 0
@@ -103,6 +113,21 @@ bytes-below (suc n) (x ∷ xs) bytes =
     let first = bytes 0 in
     let rest = bytes-below n xs (λ i. bytes (suc i)) in
     rw (pow-succ' 256 n) (omega arith)
+
+-- a byte more of a number that is gathered in a word, lowest byte first
+module _ (xs : List ℕ) (i : ℕ) (bytes : AreBytes xs) (turn : i < 8) (more : i < length xs) where
+  pub gathered-below : littleEndian (take (i + 1) xs) < 2 ^ 64
+  gathered-below =
+      lt-of-lt-of-le (bytes-below (i + 1) xs bytes) (pow-le-pow-right {n = 256} (lit< tt) {i = i + 1} {j = 8} (omega arith))
+
+  pub gathered : {word b : ℕ} → word ≡ littleEndian (take i xs) → b ≡ getD xs i 0
+      → word + b * 2 ^ (8 * i) % 2 ^ 64 ≡ littleEndian (take (i + 1) xs)
+  gathered {word} {b} so-far next =
+      let sum : littleEndian (take (i + 1) xs) ≡ word + b * 2 ^ (8 * i) =
+          rw (add-one i, last-byte i xs more, so-far, next, byte-power i, mul-comm (getD xs i 0) (256 ^ i)) in
+      let below = gathered-below in
+      let fits : b * 2 ^ (8 * i) < 2 ^ 64 = omega arith in
+      rw (mod-eq-of-lt fits) (sym sum)
 
 -- the bytes of a number with one more byte below it
 pub byte-before : (n d rest : ℕ) → d < 256 → bytesOf (suc n) (d + 256 * rest) ≡ d ∷ bytesOf n rest

@@ -48,19 +48,6 @@ module _ (image : List ℕ) where
   unfolding wordAt littleEndian bytesFrom
   spelled at h = rw (part 8 at h) (simp (add-assoc, mul-zero, add-zero))
 
-  -- the same as one sum
-  pub summed : (at : ℕ) → at + 8 ≤ length image
-      → wordAt image at
-      ≡ getD image at 0
-      + getD image (at + 1) 0 * 0x100
-      + getD image (at + 2) 0 * 0x1_0000
-      + getD image (at + 3) 0 * 0x100_0000
-      + getD image (at + 4) 0 * 0x1_0000_0000
-      + getD image (at + 5) 0 * 0x100_0000_0000
-      + getD image (at + 6) 0 * 0x1_0000_0000_0000
-      + getD image (at + 7) 0 * 0x100_0000_0000_0000
-  summed at h = spelled at h ∙ omega arith
-
   -- an entry that lies whole in the image is the number that its words spell
   pub inside : (n at : ℕ) → at + 8 * n ≤ length image → entry n (ofImage image) at ≡ found (spell (wordsIn image n at))
   unfolding entry ofImage spell wordsIn

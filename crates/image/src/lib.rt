@@ -89,25 +89,24 @@ pub fn table_page(image: &[u8], table: u64) -> &[u8]
     &image[from..to]
 }
 
-fn wide(x: u8) -> u64
-    ensures { λ r. ⌜ (r ≡ x) × (r < 256) ⌝ }
+// The number in the 8 bytes from an index, lowest byte first.
+fn little_endian(image: &[u8], at: usize) -> u64
+    requires { ⌜ at + 8 ≤ length (now image) ⌝ }
+    ensures { λ r. ⌜ r ≡ wordAt (now (image .entry)) at ⌝ }
 {
-    x as u64
+    let mut word = 0;
+    for i in 0..8usize {
+        word += (image[at + i] as u64) << (8 * i);
+    }
+    word
 }
 
-// The word in the 8 bytes from an index.
+// The same as one load: the compiler joins the loop's eight here, where it doesn't yet see which bits a caller looks at.
 fn word(image: &[u8], at: usize) -> u64
     requires { ⌜ at + 8 ≤ length (now image) ⌝ }
     ensures { λ r. ⌜ r ≡ wordAt (now (image .entry)) at ⌝ }
 {
-    wide(image[at])
-        + wide(image[at + 1]) * 0x100
-        + wide(image[at + 2]) * 0x1_0000
-        + wide(image[at + 3]) * 0x100_0000
-        + wide(image[at + 4]) * 0x1_0000_0000
-        + wide(image[at + 5]) * 0x100_0000_0000
-        + wide(image[at + 6]) * 0x1_0000_0000_0000
-        + wide(image[at + 7]) * 0x100_0000_0000_0000
+    little_endian(image, at)
 }
 
 pub fn fetch8(image: &[u8], at: u64) -> Found8
