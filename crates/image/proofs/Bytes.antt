@@ -124,7 +124,7 @@ module _ (xs : List ℕ) (i : ℕ) (bytes : AreBytes xs) (turn : i < 8) (more : 
       → word + b * 2 ^ (8 * i) % 2 ^ 64 ≡ littleEndian (take (i + 1) xs)
   gathered {word} {b} so-far next =
       let sum : littleEndian (take (i + 1) xs) ≡ word + b * 2 ^ (8 * i) =
-          rw (add-one i, last-byte i xs more, so-far, next, byte-power i, mul-comm (getD xs i 0) (256 ^ i)) in
+      rw (add-one i, last-byte i xs more, so-far, next, byte-power i, mul-comm (getD xs i 0) (256 ^ i)) in
       let below = gathered-below in
       let fits : b * 2 ^ (8 * i) < 2 ^ 64 = omega arith in
       rw (mod-eq-of-lt fits) (sym sum)

@@ -11,14 +11,8 @@ use Rattle.image.proofs.fetch8.Tie as tie
 returns : tie.Need-returns
 returns c = let a = c .before .before .args in sym (outside (a .image .now) 0 (a .at) (omega arith))
 
-sub-if2 : tie.Need-sub-if2
-sub-if2 c = search needs
-
 returns-2 : tie.Need-returns-2
 returns-2 c = let a = c .before .before .before .args in sym (outside (a .image .now) 0 (a .at) (omega arith))
-
-word-requires : tie.Need-word-requires
-word-requires c κs = search needs
 
 returns-3 : tie.Need-returns-3
 unfolding wordsIn
@@ -28,4 +22,4 @@ returns-3 c =
     ∙ fetched (a .image .now) 1 (a .at) (c .word .result ∷ []) (omega arith) cc
 
 pub fetch8-spec : {M : Type 1} → statement M
-fetch8-spec = tie.close (tie.spec returns sub-if2 returns-2 word-requires returns-3)
+fetch8-spec = tie.close (tie.spec returns (λ c. search needs) returns-2 (λ c κs. search needs) returns-3)

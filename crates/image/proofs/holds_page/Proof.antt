@@ -12,11 +12,8 @@ use Rattle.image.proofs.holds_page.Tie as tie
 returns : tie.Need-returns
 returns c = let a = c .before .args in sym (lt-leb (a .table + 4096) (length (a .image .now)) (omega arith))
 
-sub-result : tie.Need-sub-result
-sub-result c = search needs
-
 returns-2 : tie.Need-returns-2
 returns-2 c = let a = c .before .args in room 4096 (a .table) (length (a .image .now)) (omega arith)
 
 pub holds-page-spec : {M : Type 1} → statement M
-holds-page-spec = tie.close (tie.spec returns sub-result returns-2)
+holds-page-spec = tie.close (tie.spec returns (λ c. search needs) returns-2)

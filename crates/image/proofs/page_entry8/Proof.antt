@@ -7,25 +7,13 @@ use borrow.Author.Needs.{needs}
 use Rattle.image.proofs.page_entry8.Statement.{statement}
 use Rattle.image.proofs.page_entry8.Tie as tie
 
-holds-page-requires : tie.Need-holds-page-requires
-holds-page-requires c κs = search needs
-
 whole-page-requires : tie.Need-whole-page-requires
 whole-page-requires c κs =
     let a = c .before .before .before .args in
     leb-true (a .table + 4096) (length (a .image .now)) cc
 
-fetch8-requires : tie.Need-fetch8-requires
-fetch8-requires c κs = search needs
-
 returns : tie.Need-returns
 returns c = handed 1 _ (c .fetch8 .ensures) (c .before .whole-page .ensures)
-
-table-page-requires : tie.Need-table-page-requires
-table-page-requires c κs = search needs
-
-fetch8-requires-2 : tie.Need-fetch8-requires-2
-fetch8-requires-2 c κs = search needs
 
 returns-2 : tie.Need-returns-2
 returns-2 c = handed 1 _ (c .fetch82 .ensures) (c .before .table-page .ensures)
@@ -34,10 +22,10 @@ pub page-entry8-spec : {M : Type 1} → statement M
 page-entry8-spec =
     tie.close
     (tie.spec
-    holds-page-requires
+    (λ c κs. search needs)
     whole-page-requires
-    fetch8-requires
+    (λ c κs. search needs)
     returns
-    table-page-requires
-    fetch8-requires-2
+    (λ c κs. search needs)
+    (λ c κs. search needs)
     returns-2)

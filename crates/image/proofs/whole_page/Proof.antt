@@ -6,18 +6,6 @@ use borrow.Author.Needs.{needs}
 use Rattle.image.proofs.whole_page.Statement.{statement}
 use Rattle.image.proofs.whole_page.Tie as tie
 
-add-result : tie.Need-add-result
-add-result c = search needs
-
-sub-result : tie.Need-sub-result
-sub-result c = search needs
-
-part-result-start : tie.Need-part-result-start
-part-result-start c = search needs
-
-part-result-end : tie.Need-part-result-end
-part-result-end c = search needs
-
 returns : tie.Need-returns
 returns c =
     let a = c .before .args in
@@ -26,4 +14,4 @@ returns c =
 
 pub whole-page-spec : {M : Type 1} → statement M
 whole-page-spec =
-    tie.close (tie.spec add-result sub-result part-result-start part-result-end returns)
+    tie.close (tie.spec (λ c. search needs) (λ c. search needs) (λ c. search needs) (λ c. search needs) returns)
