@@ -2,6 +2,7 @@
 use Rattle.faults.proofs.Totals.{total}
 use Rattle.dma.proofs.Access.{locality}
 use Rattle.dma.proofs.Nine.{at-most-nine, none-untaken}
+use Rattle.dma.proofs.Reached.{granted-by-own-walk}
 use Rattle.dma.proofs.Rights.{rights-on, rights-off, unshared}
 use Rattle.dma.proofs.Unfetched.{access-means-unfetched}
 use Rattle.interrupts.proofs.Exact.{sets-exactly, leaves-all, stays-inside}
@@ -39,6 +40,7 @@ everything =
       rights-off = rights-off;
       unshared = unshared;
       more-memory = more-memory;
+      granted-by-own-walk = granted-by-own-walk;
       premises-met = premises-met;
       at-most-nine = at-most-nine;
       none-untaken = none-untaken;

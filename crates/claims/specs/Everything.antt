@@ -4,6 +4,7 @@
 use Rattle.faults.specs.Total.{Total}
 use Rattle.dma.specs.Isolation.{Locality, AccessMeansUnfetched, RightsOn, RightsOff, Unshared}
 use Rattle.dma.specs.Named.{AtMostNine, NoneUntaken}
+use Rattle.dma.specs.Reached.{GrantedByOwnWalk}
 use Rattle.interrupts.specs.Claims.{SetsExactly, NoticeExactly, LeavesAll, StaysInside, IndexBound, EntryOfIndex, NoWrap, AtMostTen, NoneBeforeTable, InterruptAccessMeansUnfetched, Isolated}
 use Rattle.unit.specs.Isolation.{Isolation, MoreMemory}
 use Rattle.cases.specs.Bench.{TwelveCases}
@@ -35,6 +36,7 @@ pub record Everything : Type 0 where
   pub rights-off : RightsOff
   pub unshared : Unshared
   pub more-memory : MoreMemory
+  pub granted-by-own-walk : GrantedByOwnWalk
   pub premises-met : PremisesMet
   pub at-most-nine : AtMostNine
   pub none-untaken : NoneUntaken

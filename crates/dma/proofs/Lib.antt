@@ -8,6 +8,7 @@ pub mod Injective
 pub mod Lookups
 pub mod Nine
 pub mod Raised
+pub mod Reached
 pub mod Reserved
 pub mod Rights
 pub mod Stages

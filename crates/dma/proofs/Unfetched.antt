@@ -6,14 +6,14 @@ use native.Mathlib.Omega.{arith}
 use lib.Dec.{eqb, leb}
 use Rattle.image.specs.Bits.{bit, anySet}
 use Rattle.image.specs.Check.{Check, stop, go, onCheck}
-use Rattle.image.specs.Choice.{if_then_else_, _or_}
+use Rattle.image.specs.Choice.{if_then_else_}
 use Rattle.image.specs.Rules.{Rules, answer, mapRules}
 use Rattle.image.proofs.Unfetched.{Inside, inside-map, ended-outside}
 use Rattle.registers.specs.Admission.{Admitted, refusal, pass, take, admission, onAdmission, inInterruptRange}
 use Rattle.registers.specs.declared.Registers.{Registers}
 use Rattle.faults.specs.Record.{memoryFault}
 use Rattle.dma.specs.Context.{contextReserved, contextInvalid, contextCheck, faultProcessingDisabled}
-use Rattle.dma.specs.Isolation.{accessFault, AccessMeansUnfetched}
+use Rattle.dma.specs.Isolation.{accessReason, accessFault, AccessMeansUnfetched}
 use Rattle.dma.specs.Lookup.{contextRules, rootRules}
 use Rattle.dma.specs.Page.{denied, ownRight, leafAt, pageReserved, pageCheck, hostAddress}
 use Rattle.dma.specs.Requests.{MemoryOutcome, granted, refused, outcome, memoryRules}
@@ -25,15 +25,12 @@ use Rattle.dma.specs.declared.MemoryRequest.{MemoryRequest}
 use Rattle.dma.proofs.Stages.{usable}
 use Rattle.dma.proofs.Stepped.{leads}
 
-abbrev access : (reason : ℕ) → Bool
-access reason = eqb reason 0x07 or eqb reason 0x08 or eqb reason 0x09
-
 -- a check that stops stops with another reason
 abbrev Otherwise : {A : Type 0} → Check A → Type 0
-Otherwise (stop reason) = access reason ≡ false
+Otherwise (stop reason) = accessReason reason ≡ false
 Otherwise (go a) = Unit {0}
 
-tested : {A : Type 0} (t : Bool) (reason : ℕ) (rest : Check A) → access reason ≡ false → Otherwise rest → Otherwise (if t then stop reason else rest)
+tested : {A : Type 0} (t : Bool) (reason : ℕ) (rest : Check A) → accessReason reason ≡ false → Otherwise rest → Otherwise (if t then stop reason else rest)
 tested true reason rest h r = h
 tested false reason rest h r = r
 
@@ -47,7 +44,7 @@ context-otherwise registers e =
     tested (not (bit e 0)) 0x02 _ refl
     (tested (contextReserved (registers .haw) e) 0x0B _ refl (tested (contextInvalid registers e) 0x03 _ refl tt))
 
-denied-otherwise : (write : Bool) → access (denied write) ≡ false
+denied-otherwise : (write : Bool) → accessReason (denied write) ≡ false
 denied-otherwise true = refl
 denied-otherwise false = refl
 
@@ -71,7 +68,7 @@ module _ (registers : Registers) (request : MemoryRequest) where
   abbrev Access : Translation → Type 0
   Access t = accessFault (outcome request t) ≡ true
 
-  no-fault : (reason : ℕ) (fpd : Bool) → access reason ≡ false → Access (fault reason fpd) → ⊥
+  no-fault : (reason : ℕ) (fpd : Bool) → accessReason reason ≡ false → Access (fault reason fpd) → ⊥
   unfolding memoryFault
   no-fault reason fpd other is =
       let z : _≡_ {A = Bool} true false = sym is ∙ other in

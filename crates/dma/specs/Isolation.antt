@@ -22,9 +22,12 @@ abbrev pub answerOver : Registers → MemoryRequest → List ℕ → MemoryOutco
 answerOver registers request image = run (memoryRules registers request) (ofImage image)
 
 -- 07h, 08h and 09h
+abbrev pub accessReason : (reason : ℕ) → Bool
+accessReason reason = eqb reason 0x07 or eqb reason 0x08 or eqb reason 0x09
+
 abbrev pub accessFault : MemoryOutcome → Bool
 accessFault (granted address) = false
-accessFault (blocked fault) = eqb (fault .reason) 0x07 or eqb (fault .reason) 0x08 or eqb (fault .reason) 0x09
+accessFault (blocked fault) = accessReason (fault .reason)
 accessFault (refused number) = false
 
 -- 1. Over a second image alike in the words that a request names, the same request under the same registers gets the same

@@ -5,6 +5,7 @@ pub mod Isolation
 pub mod Lookup
 pub mod Named
 pub mod Page
+pub mod Reached
 pub mod Requests
 pub mod Root
 pub mod Translation

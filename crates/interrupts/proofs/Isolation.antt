@@ -1,7 +1,6 @@
 -- The customer's demand 3 for interrupts: what a request is answered, and what it writes, is settled by its named words.
 use Prim.Native.Nat.{ℕ, _+_, _^_}
 use mathlib.Core.Bool.{Bool, false, not, _||_}
-use mathlib.Core.Logic.{inl, inr}
 use mathlib.Core.Path.{refl, ap, sym, _∙_}
 use lib.Dec.{leb}
 use Rattle.image.specs.Check.{Check, stop, go, onCheck}
@@ -32,12 +31,12 @@ module _ (source index : ℕ) where
       by : (k : Check Irte) → Outside Access (onCheck k (λ reason. answer (fault reason fpd)) (onIrte (registers .eime) fpd))
       by (stop reason) = tt
       by (go (remaps r)) = tt
-      by (go (posts descriptor vector)) = (inr refl, λ d. tt)
+      by (go (posts descriptor vector)) = (refl, λ d. tt)
 
   index-outside : (registers : Registers) → Outside Access (indexRules registers source index)
   unfolding indexRules Outside interruptFault
   index-outside registers =
-      outside-if Access (leb (2 ^ (registers .s + 1)) index) _ _ tt (inl refl, entry-outside registers)
+      outside-if Access (leb (2 ^ (registers .s + 1)) index) _ _ tt (refl, entry-outside registers)
 
 -- every answer to an entry that couldn't be fetched is an access fault
 pub access-outside : (registers : Registers) (request : InterruptRequest) → Outside AccessFault (interruptRules registers request)

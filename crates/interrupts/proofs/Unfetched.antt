@@ -1,8 +1,7 @@
 -- An interrupt ends in an access fault only where an entry or a descriptor couldn't be fetched: no check stops with 23h or 27h.
 use Prim.Native.Nat.{ℕ, _+_, _^_}
 use mathlib.Core.Bool.{Bool, true, false, not, _||_}
-use mathlib.Core.Logic.{_⊎_, inl, inr, ⊎-elim}
-use mathlib.Core.Path.{_≡_, refl}
+use mathlib.Core.Path.{_≡_, refl, sym, _∙_}
 use native.Mathlib.Omega.{arith}
 use lib.Dec.{leb}
 use Rattle.image.specs.Bits.{bit, anySet}
@@ -13,7 +12,7 @@ use Rattle.image.proofs.Unfetched.{Inside, inside-map, ended-outside}
 use Rattle.registers.specs.Admission.{Admitted, refusal, pass, take, admission, onAdmission, inInterruptRange}
 use Rattle.registers.specs.declared.Registers.{Registers}
 use Rattle.faults.specs.Record.{interruptFault}
-use Rattle.interrupts.specs.Claims.{AccessFault, InterruptAccessMeansUnfetched}
+use Rattle.interrupts.specs.Claims.{accessReason, AccessFault, InterruptAccessMeansUnfetched}
 use Rattle.interrupts.specs.Descriptor.{Notice, reservedDescriptor, descriptorCheck}
 use Rattle.interrupts.specs.Interrupts.{Delivery, fault, post, onIrte, descriptorRules, entryRules, indexRules, InterruptOutcome, passed, refused, blocked, delivered, onFormat, requestRules, interruptRules}
 use Rattle.interrupts.specs.Irte.{Irte, remaps, posts, reservedIrte, irteCheck, faultProcessingDisabled}
@@ -21,15 +20,12 @@ use Rattle.interrupts.specs.Request.{Format, compatibility, remappable, 
 use Rattle.interrupts.specs.Source.{sourceAllowed}
 use Rattle.interrupts.specs.declared.InterruptRequest.{InterruptRequest}
 
-abbrev access : (reason : ℕ) → Type 0
-access reason = (reason ≡ 0x23) ⊎ (reason ≡ 0x27)
-
 -- a check that stops stops with another reason
 abbrev Otherwise : {A : Type 0} → Check A → Type 0
-Otherwise (stop reason) = access reason → ⊥
+Otherwise (stop reason) = accessReason reason ≡ false
 Otherwise (go a) = Unit {0}
 
-tested : {A : Type 0} (t : Bool) (reason : ℕ) (rest : Check A) → (access reason → ⊥) → Otherwise rest → Otherwise (if t then stop reason else rest)
+tested : {A : Type 0} (t : Bool) (reason : ℕ) (rest : Check A) → accessReason reason ≡ false → Otherwise rest → Otherwise (if t then stop reason else rest)
 tested true reason rest h r = h
 tested false reason rest h r = r
 
@@ -40,30 +36,33 @@ chosen P false x y = y
 irte-otherwise : (registers : Registers) (source e : ℕ) → Otherwise (irteCheck registers source e)
 unfolding irteCheck
 irte-otherwise registers source e =
-    tested (not (bit e 0)) 0x22 _ (⊎-elim (λ z. omega arith) (λ z. omega arith))
-    (tested (reservedIrte registers e) 0x24 _ (⊎-elim (λ z. omega arith) (λ z. omega arith))
-    (tested (not (sourceAllowed source e)) 0x26 _ (⊎-elim (λ z. omega arith) (λ z. omega arith)) tt))
+    tested (not (bit e 0)) 0x22 _ refl
+    (tested (reservedIrte registers e) 0x24 _ refl
+    (tested (not (sourceAllowed source e)) 0x26 _ refl tt))
 
 descriptor-otherwise : (eime : Bool) (d : ℕ) → Otherwise (descriptorCheck eime d)
 unfolding descriptorCheck
 descriptor-otherwise eime d =
-    tested (reservedDescriptor eime d) 0x28 _ (⊎-elim (λ z. omega arith) (λ z. omega arith)) tt
+    tested (reservedDescriptor eime d) 0x28 _ refl tt
 
 request-otherwise : (registers : Registers) (address message : ℕ) → Otherwise (requestCheck registers address message)
 unfolding requestCheck
 request-otherwise registers address message =
     chosen Otherwise (not (bit address 4))
-    (tested (registers .eime || not (registers .cfis)) 0x25 _ (⊎-elim (λ z. omega arith) (λ z. omega arith)) tt)
+    (tested (registers .eime || not (registers .cfis)) 0x25 _ refl tt)
     (chosen Otherwise (not (bit address 3)) tt
-    (tested (anySet message 31 16) 0x20 _ (⊎-elim (λ z. omega arith) (λ z. omega arith)) tt))
+    (tested (anySet message 31 16) 0x20 _ refl tt))
 
 module _ (source index : ℕ) where
   abbrev Access : Delivery → Type 0
   Access d = AccessFault (delivered source index d)
 
-  no-fault : (reason : ℕ) (fpd : Bool) → (access reason → ⊥) → Access (fault reason fpd) → ⊥
+  no-fault : (reason : ℕ) (fpd : Bool) → accessReason reason ≡ false → Access (fault reason fpd) → ⊥
   unfolding interruptFault
-  no-fault reason fpd other = other
+  no-fault reason fpd other is =
+      let z : _≡_ {A = Bool} true false = sym is ∙ other in
+      let y : _≡_ {A = ℕ} 0 1 = cc in
+      omega arith
 
   descriptor-inside : (eime fpd : Bool) (vector at : ℕ) → Inside Access (descriptorRules eime fpd at vector)
   unfolding descriptorRules Inside
@@ -88,7 +87,7 @@ module _ (source index : ℕ) where
   index-inside : (registers : Registers) → Inside Access (indexRules registers source index)
   unfolding indexRules Inside
   index-inside registers =
-      chosen (Inside Access) (leb (2 ^ (registers .s + 1)) index) (no-fault 0x21 false (⊎-elim (λ z. omega arith) (λ z. omega arith)))
+      chosen (Inside Access) (leb (2 ^ (registers .s + 1)) index) (no-fault 0x21 false refl)
       (entry-inside registers)
 
 inside : (registers : Registers) (request : InterruptRequest) → Inside AccessFault (interruptRules registers request)
@@ -100,7 +99,10 @@ inside registers request = admitted (admission registers (not (inInterruptRange 
 
     formatted : (k : Check Format) → Otherwise k
         → Inside AccessFault (onCheck k (λ reason. answer (blocked (interruptFault reason false source 0))) (onFormat registers source))
-    formatted (stop reason) other = other
+    formatted (stop reason) other = λ is.
+        let z : _≡_ {A = Bool} true false = sym is ∙ other in
+        let y : _≡_ {A = ℕ} 0 1 = cc in
+        omega arith
     formatted (go compatibility) other = λ is. is
     formatted (go (remappable index)) other =
         inside-map (delivered source index) AccessFault (indexRules registers source index) (index-inside source index registers)

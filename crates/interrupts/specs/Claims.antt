@@ -3,7 +3,6 @@
 use Prim.Native.Nat.{ℕ, _+_, _*_, _/_, _%_, _≤_, _<_}
 use mathlib.Core.Bool.{Bool, true, false, not, _&&_, _||_}
 use mathlib.Core.List.{List, [], _∷_}
-use mathlib.Core.Logic.{_⊎_}
 use mathlib.Core.Path.{_≡_}
 use lib.Dec.{eqb}
 use lib.ListN.{length, getD}
@@ -104,8 +103,11 @@ NoneBeforeTable = (registers : Registers) (request : InterruptRequest) (image : 
     beforeTable (outcome registers request image) ≡ true → namedWords registers request image ≡ []
 
 -- an access fault: 23h or 27h
+abbrev pub accessReason : (reason : ℕ) → Bool
+accessReason reason = eqb reason 0x23 || eqb reason 0x27
+
 abbrev pub AccessFault : InterruptOutcome → Type 0
-AccessFault (blocked f) = (f .reason ≡ 0x23) ⊎ (f .reason ≡ 0x27)
+AccessFault (blocked f) = accessReason (f .reason) ≡ true
 AccessFault passed = ⊥
 AccessFault (remapped r) = ⊥
 AccessFault (posted descriptor vector n) = ⊥
