@@ -17,11 +17,11 @@ use Rattle.dma.specs.Lookup.{contextRules, rootRules}
 use Rattle.dma.specs.Translation.{widthRules}
 use Rattle.dma.specs.Walk.{walkRules}
 use Rattle.interrupts.specs.Descriptor.{descriptorCheck}
-use Rattle.interrupts.specs.Interrupts.{descriptorRules, entryRules, indexRules, requestRules, interruptRules}
-use Rattle.interrupts.specs.Irte.{reservedIrte, irteCheck}
+use Rattle.interrupts.specs.Interrupts.{descriptorRules, indexRules, requestRules, interruptRules}
+use Rattle.irte.specs.Irte.{reservedIrte, irteCheck}
 use Rattle.interrupts.specs.Post.{setBit}
 use Rattle.interrupts.specs.Request.{requestCheck}
-use Rattle.interrupts.specs.Source.{sourceAllowed}
+use Rattle.irte.specs.Source.{sourceAllowed}
 use Rattle.cases.specs.Bench.{layout, bench, changed, resultOf, rows, answers, said, numbers, TwelveCases}
 
 whole : length bench ≡ 32768
@@ -29,7 +29,7 @@ unfolding bench layout bytesOf
 whole = refl
 
 answered : answers (rows bench) ≡ said (rows bench)
-unfolding answers said resultOf changed bench layout bytesOf littleEndian bits spell wordAt ofImage entry run mapRules admission badRegisters silenced memoryRecord fromBit64 memoryFault indexField interruptRecord interruptFault contextReserved contextInvalid contextCheck pageReserved pageCheck memoryRules rootReserved rootCheck widthRules contextRules rootRules walkRules descriptorCheck descriptorRules entryRules indexRules requestRules interruptRules reservedIrte irteCheck setBit requestCheck sourceAllowed
+unfolding answers said resultOf changed bench layout bytesOf littleEndian bits spell wordAt ofImage entry run mapRules admission badRegisters silenced memoryRecord fromBit64 memoryFault indexField interruptRecord interruptFault contextReserved contextInvalid contextCheck pageReserved pageCheck memoryRules rootReserved rootCheck widthRules contextRules rootRules walkRules descriptorCheck descriptorRules indexRules requestRules interruptRules reservedIrte irteCheck setBit requestCheck sourceAllowed
 answered = refl
 
 pub twelve-cases : TwelveCases

@@ -28,10 +28,10 @@ use Rattle.dma.specs.Translation.{widthRules}
 use Rattle.dma.specs.Walk.{walkRules}
 use Rattle.interrupts.specs.Claims.{outcome, namedWords, AccessFault}
 use Rattle.interrupts.specs.Descriptor.{notice, descriptorCheck}
-use Rattle.interrupts.specs.Interrupts.{posted, descriptorRules, entryRules, indexRules, requestRules, interruptRules}
-use Rattle.interrupts.specs.Irte.{reservedIrte, irteCheck}
+use Rattle.interrupts.specs.Interrupts.{posted, descriptorRules, indexRules, requestRules, interruptRules}
+use Rattle.irte.specs.Irte.{reservedIrte, irteCheck}
 use Rattle.interrupts.specs.Request.{requestCheck}
-use Rattle.interrupts.specs.Source.{sourceAllowed}
+use Rattle.irte.specs.Source.{sourceAllowed}
 use Rattle.cases.specs.Bench.{layout, bench, benchRegisters}
 use Rattle.cases.specs.Instances.{reads, writes, beyond, readable, remaps, posts, PremisesMet}
 
@@ -171,18 +171,18 @@ memory-alike = (
 )
 
 interrupt-alike : SameWords bench (take 0x6030 bench) (namedWords benchRegisters remaps bench)
-unfolding bench layout bytesOf littleEndian bits wordAt ofImage entry named wordsFrom SameWords mapRules admission badRegisters entryRules indexRules requestRules interruptRules reservedIrte irteCheck requestCheck sourceAllowed
+unfolding bench layout bytesOf littleEndian bits wordAt ofImage entry named wordsFrom SameWords mapRules admission badRegisters indexRules requestRules interruptRules reservedIrte irteCheck requestCheck sourceAllowed
 interrupt-alike = (
   record { whole = lit≤ tt; whole′ = lit≤ tt; bytes = refl },
   (record { whole = lit≤ tt; whole′ = lit≤ tt; bytes = refl }, tt),
 )
 
 interrupt-answered : AccessFault (outcome benchRegisters remaps bench) → ⊥
-unfolding bench layout bytesOf littleEndian bits wordAt ofImage entry run mapRules admission badRegisters entryRules indexRules requestRules interruptRules reservedIrte irteCheck requestCheck sourceAllowed
+unfolding bench layout bytesOf littleEndian bits wordAt ofImage entry run mapRules admission badRegisters indexRules requestRules interruptRules reservedIrte irteCheck requestCheck sourceAllowed
 interrupt-answered fault = fault
 
 post-answered : outcome benchRegisters posts (take 0x6440 bench) ≡ posted 0x6400 0x31 (notice 0xF2 7)
-unfolding bench layout bytesOf littleEndian bits wordAt ofImage entry run mapRules admission badRegisters descriptorRules entryRules indexRules requestRules interruptRules reservedIrte irteCheck requestCheck sourceAllowed descriptorCheck
+unfolding bench layout bytesOf littleEndian bits wordAt ofImage entry run mapRules admission badRegisters descriptorRules indexRules requestRules interruptRules reservedIrte irteCheck requestCheck sourceAllowed descriptorCheck
 post-answered = refl
 
 post-alike : SameWords (take 0x6440 bench) bench (namedWords benchRegisters posts (take 0x6440 bench))

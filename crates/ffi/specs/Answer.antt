@@ -8,7 +8,7 @@ use Rattle.faults.specs.Slots.{one-if}
 use Rattle.dma.specs.Requests as dma
 use Rattle.interrupts.specs.Descriptor.{Notice, silent, notice}
 use Rattle.interrupts.specs.Interrupts as interrupts
-use Rattle.interrupts.specs.Irte.{Remapped}
+use Rattle.irte.specs.Irte.{Remapped}
 use Rattle.ffi.specs.declared.answer.Packed.{Packed}
 
 -- byte 0 the kind, bytes 1, 2 and 3, and bytes 7:4 and 23:8 as numbers; what a kind doesn't name is 0

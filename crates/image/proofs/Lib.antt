@@ -1,4 +1,5 @@
 pub mod Bytes
+pub mod Choices
 pub mod Fields
 pub mod Forks
 pub mod Isolated

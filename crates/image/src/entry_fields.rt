@@ -1,9 +1,10 @@
 // Fields of entries by their bit numbers in the whole entry, as VT-d writes them: 83:82 of an entry of 16 bytes. Each field
-// that the rules read lies in one word; one that doesn't is answered 0.
+// that the rules read lies in one word; one that doesn't is answered 0, or not set.
+ghost use mathlib.Core.Bool.{false};
 ghost use mathlib.Core.List.{[], _∷_};
 ghost use mathlib.Core.Path.{_≡_};
 ghost use lib.ListN.{getD};
-ghost use Rattle.image.specs.Bits.{bits, bit, inOneWord};
+ghost use Rattle.image.specs.Bits.{bits, bit, anySet, inOneWord};
 ghost use Rattle.image.specs.Choice.{if_then_else_};
 ghost use Rattle.image.specs.Entries.{words16, words64, number16, number64};
 use crate::Entry16;
@@ -35,6 +36,13 @@ pub fn bit16(e: Entry16, place: u32) -> bool
     bits16(e, place, place) == 1
 }
 
+// Some bit of the field is set.
+pub fn any_set16(e: Entry16, high: u32, low: u32) -> bool
+    ensures { λ r. ⌜ r ≡ (if inOneWord high low then anySet (number16 e) high low else false) ⌝ }
+{
+    bits16(e, high, low) != 0
+}
+
 fn word64(e: Entry64, n: u32) -> u64
     ensures { λ r. ⌜ r ≡ getD (words64 e) n 0 ⌝ }
 {
@@ -58,4 +66,10 @@ pub fn bits64(e: Entry64, high: u32, low: u32) -> u64
         return 0;
     }
     field(word64(e, low / 64), high % 64, low % 64)
+}
+
+pub fn any_set64(e: Entry64, high: u32, low: u32) -> bool
+    ensures { λ r. ⌜ r ≡ (if inOneWord high low then anySet (number64 e) high low else false) ⌝ }
+{
+    bits64(e, high, low) != 0
 }

@@ -12,6 +12,8 @@ ghost use Rattle.image.specs.Entries.{fetched8, fetched16, fetched64};
 
 mod entry_fields;
 
+pub use entry_fields::any_set16;
+pub use entry_fields::any_set64;
 pub use entry_fields::bit16;
 pub use entry_fields::bits16;
 pub use entry_fields::bits64;

@@ -13,12 +13,13 @@ use lib.ListN.{length, getD, set, length-set}
 use lib.Pow.{pow-lt, pow-add, shl-shr}
 use lib.Seq.{getD-set-same, getD-set-other}
 use Rattle.image.specs.Bits.{bits, bit}
+use Rattle.image.proofs.Choices.{or-false, or-assoc}
 use Rattle.interrupts.specs.Claims.{bitAt, due, sets, outcome, SetsExactly, LeavesAll, StaysInside}
 use Rattle.interrupts.specs.Descriptor.{Notice, silent, notice}
 use Rattle.interrupts.specs.Interrupts.{InterruptOutcome, passed, remapped, posted, blocked, refused}
 use Rattle.interrupts.specs.Post.{withBit, setBit, notified, written}
-use Rattle.interrupts.proofs.Inside.{Within, within}
 use Rattle.interrupts.proofs.Posts.{one-bit, or-power}
+use Rattle.interrupts.proofs.Raised.{Within, within}
 
 -- bits of `|`, one by one
 or-bit : (a b place : ℕ) → bits (bitOr a b) place place ≡ bitOr (bits a place place) (bits b place place)
@@ -45,14 +46,6 @@ power-other place other h = one-bit (2 ^ place) other ∙ go (decLe other place)
         ∙ ap (λ (n : ℕ). n % 2) (shl-shr (2 ^ (k + 1)) other ∙ pow-add 2 k 1)
         ∙ mul-mod-left (2 ^ k) 2
     go (no above) = ap (λ (n : ℕ). n % 2) (div-eq-of-lt (pow-lt {i = place} {j = other} (omega arith)))
-
-or-false : (a : Bool) → (a || false) ≡ a
-or-false true = refl
-or-false false = refl
-
-or-assoc : (a b c : Bool) → ((a || b) || c) ≡ (a || (b || c))
-or-assoc true b c = refl
-or-assoc false b c = refl
 
 -- a byte with a bit set, bit by bit
 bit-with : (byte place other : ℕ) → bit (withBit place byte) other ≡ (bit byte other || eqb other place)

@@ -1,13 +1,12 @@
 pub mod Admissions
-pub mod Checks
+pub mod EntryBits
 pub mod Exact
 pub mod Injective
-pub mod Inside
 pub mod Isolation
 pub mod Named
 pub mod Notices
 pub mod Posts
-pub mod SourceId
+pub mod Raised
+pub mod Requests
 pub mod Stages
 pub mod Unfetched
-pub mod Words

@@ -1,30 +1,28 @@
 -- The named words of a request: none, its entry's two, or these and a descriptor's eight.
 use Prim.Native.Nat.{ℕ, _+_, _*_, _^_, _≤_, _<_}
-use mathlib.Core.Bool.{Bool, true, false, not, _||_}
+use mathlib.Core.Bool.{Bool, true, false, not}
 use mathlib.Core.List.{List, [], _∷_, _++_}
-use mathlib.Core.Path.{_≡_, refl, sym}
-use native.Mathlib.Nat.{add-zero}
+use mathlib.Core.Path.{_≡_, refl}
 use native.Mathlib.Omega.{arith}
-use borrow.Author.Tests.{not-true, not-false}
-use lib.Dec.{eqb, leb}
+use lib.Dec.{leb}
 use lib.ListN.{length}
-use Rattle.image.specs.Bits.{bit, anySet}
+use Rattle.image.specs.Bits.{bit}
 use Rattle.image.specs.Check.{Check, stop, go, onCheck}
 use Rattle.image.specs.Choice.{if_then_else_}
 use Rattle.image.specs.Memory.{Memory, Fetched, missing, found, onFetch, entry, ofImage}
 use Rattle.image.specs.Rules.{Rules, answer, run, named, wordsFrom}
+use Rattle.image.proofs.Choices.{chosen}
 use Rattle.image.proofs.Fields.{fits}
 use Rattle.image.proofs.Trees.{run-map, named-map}
-use Rattle.registers.specs.Admission.{Admitted, refusal, pass, take, admission, onAdmission, inInterruptRange}
 use Rattle.registers.specs.declared.Registers.{Registers}
 use Rattle.faults.specs.Record.{interruptFault}
+use Rattle.irte.specs.Irte.{Irte, remaps, posts, reservedIrte, irteCheck, faultProcessingDisabled}
+use Rattle.irte.specs.Source.{sourceAllowed}
 use Rattle.interrupts.specs.Claims.{wholeIndex, beforeTable, IndexBound, EntryOfIndex, NoWrap, AtMostTen, NoneBeforeTable}
 use Rattle.interrupts.specs.Descriptor.{Notice, reservedDescriptor, descriptorCheck}
-use Rattle.interrupts.specs.Interrupts.{Delivery, fault, remap, post, onIrte, descriptorRules, entryRules, indexRules, InterruptOutcome, passed, refused, blocked, delivered, onFormat, requestRules, interruptRules}
-use Rattle.interrupts.specs.Irte.{Irte, remaps, posts, reservedIrte, irteCheck, faultProcessingDisabled}
-use Rattle.interrupts.specs.Request.{Format, compatibility, remappable, handleOf, requestCheck}
-use Rattle.interrupts.specs.Source.{sourceAllowed}
+use Rattle.interrupts.specs.Interrupts.{Delivery, fault, remap, post, onIrte, descriptorRules, indexRules, InterruptOutcome, passed, refused, delivered, interruptRules}
 use Rattle.interrupts.specs.declared.InterruptRequest.{InterruptRequest}
+use Rattle.interrupts.proofs.Requests.{early, entryAt, request-cases}
 
 -- what follows the entry's words, and the words of a request whose entry is at an address
 data Follows : List ℕ → Type 0 where
@@ -34,14 +32,6 @@ data Follows : List ℕ → Type 0 where
 data Words (at : ℕ) : List ℕ → Type 0 where
   none : Words at []
   entry-and : {rest : List ℕ} → Follows rest → Words at (at ∷ (at + 8) ∷ rest)
-
-chosen : {A : Type 0} (P : A → Type 0) (t : Bool) {a b : A} → (t ≡ true → P a) → (t ≡ false → P b) → P (if t then a else b)
-chosen P true x y = x refl
-chosen P false x y = y refl
-
--- the reasons of faults before the table
-abbrev early : ℕ → Bool
-early reason = eqb reason 0x20 || eqb reason 0x21 || eqb reason 0x25
 
 abbrev Late : {A : Type 0} → Check A → Type 0
 Late (stop reason) = early reason ≡ false
@@ -69,31 +59,23 @@ module _ (m : Memory) where
   unfolding descriptorRules run named wordsFrom
   descriptor-words eime fpd vector at = by (entry 8 m at)
     where
-      checked : (k : Check Notice) → Late k → earlyD (onCheck k (λ reason. fault reason fpd) (post at vector)) ≡ false
-      checked (stop reason) h = h
-      checked (go n) h = refl
+      after : Check Notice → Rules Delivery
+      after k = onCheck k (λ reason. answer (fault reason fpd)) (λ n. answer (post at vector n))
+
+      checked : (k : Check Notice) → Late k → Follows (wordsFrom 8 at ++ named (after k) m) × (earlyD (run (after k) m) ≡ false)
+      checked (stop reason) h = (descriptor at, h)
+      checked (go n) h = (descriptor at, refl)
 
       by : (f : Fetched)
-          → Follows (onFetch f [] (λ d. wordsFrom 8 at ++ []))
-          × (earlyD (onFetch f (fault 0x27 fpd) (λ d. onCheck (descriptorCheck eime d) (λ reason. fault reason fpd) (post at vector))) ≡ false)
+          → Follows (onFetch f [] (λ d. wordsFrom 8 at ++ named (after (descriptorCheck eime d)) m))
+          × (earlyD (onFetch f (fault 0x27 fpd) (λ d. run (after (descriptorCheck eime d)) m)) ≡ false)
       by missing = (nothing, refl)
-      by (found d) = (descriptor at, checked (descriptorCheck eime d) (descriptor-late eime d))
+      by (found d) = checked (descriptorCheck eime d) (descriptor-late eime d)
 
-  entry-words : (registers : Registers) (source e : ℕ)
-      → Follows (named (entryRules registers source e) m) × (earlyD (run (entryRules registers source e) m) ≡ false)
-  unfolding entryRules run named
-  entry-words registers source e = by (irteCheck registers source e) (irte-late registers source e)
-    where
-      fpd : Bool
-      fpd = faultProcessingDisabled e
-
-      rules : Check Irte → Rules Delivery
-      rules k = onCheck k (λ reason. answer (fault reason fpd)) (onIrte (registers .eime) fpd)
-
-      by : (k : Check Irte) → Late k → Follows (named (rules k) m) × (earlyD (run (rules k) m) ≡ false)
-      by (stop reason) h = (nothing, h)
-      by (go (remaps r)) h = (nothing, refl)
-      by (go (posts d vector)) h = descriptor-words (registers .eime) fpd vector d
+  irte-words : (eime : Bool) (i : Irte) → Follows (named (onIrte eime i) m) × (earlyD (run (onIrte eime i) m) ≡ false)
+  unfolding run named
+  irte-words eime (remaps r) = (nothing, refl)
+  irte-words eime (posts at vector fpd) = descriptor-words eime fpd vector at
 
   index-words : (registers : Registers) (source index : ℕ)
       → Words (registers .«interrupt_table» + 16 * index) (named (indexRules registers source index) m)
@@ -106,38 +88,23 @@ module _ (m : Memory) where
       at : ℕ
       at = registers .«interrupt_table» + 16 * index
 
+      after : (e : ℕ) → Rules Delivery
+      after e = onCheck (irteCheck registers source e) (λ reason. answer (fault reason (faultProcessingDisabled e))) (onIrte (registers .eime))
+
+      checked : (e : ℕ) (k : Check Irte) → Late k
+          → let q = onCheck k (λ reason. answer (fault reason (faultProcessingDisabled e))) (onIrte (registers .eime)) in
+          Follows (named q m) × (earlyD (run q m) ≡ false)
+      checked e (stop reason) h = (nothing, h)
+      checked e (go i) h = irte-words (registers .eime) i
+
       by : (f : Fetched)
-          → Words at (onFetch f [] (λ e. at ∷ (at + 8) ∷ named (entryRules registers source e) m))
-          × (earlyD (onFetch f (fault 0x23 false) (λ e. run (entryRules registers source e) m)) ≡ true
-          → onFetch f [] (λ e. at ∷ (at + 8) ∷ named (entryRules registers source e) m) ≡ [])
+          → Words at (onFetch f [] (λ e. at ∷ (at + 8) ∷ named (after e) m))
+          × (earlyD (onFetch f (fault 0x23 false) (λ e. run (after e) m)) ≡ true
+          → onFetch f [] (λ e. at ∷ (at + 8) ∷ named (after e) m) ≡ [])
       by missing = (none, λ h. refl)
       by (found e) =
-          let w = entry-words registers source e in
+          let w = checked e (irteCheck registers source e) (irte-late registers source e) in
           (entry-and (w .0), λ h. let z : _≡_ {A = ℕ} 0 1 = cc (w .1) in absurd (omega arith))
-
--- the index that a request's check lets through is the whole one
-abbrev Whole : InterruptRequest → Check Format → Type 0
-Whole request (stop reason) = Unit {0}
-Whole request (go compatibility) = Unit {0}
-Whole request (go (remappable index)) = index ≡ wholeIndex request
-
-index-whole : (registers : Registers) (request : InterruptRequest)
-    → Whole request (requestCheck registers (request .address) (request .«data»))
-unfolding requestCheck
-index-whole registers request =
-    chosen W (not (bit address 4))
-    (λ h. chosen W (registers .eime || not (registers .cfis)) (λ h. tt) (λ h. tt))
-    (λ h. chosen W (not (bit address 3)) (λ plain. rw (not-true (bit address 3) plain) (sym (add-zero (handleOf address))))
-    (λ shv. chosen W (anySet (request .«data») 31 16) (λ h. tt) (λ h. rw (not-false (bit address 3) shv))))
-  where
-    address : ℕ
-    address = request .address
-
-    W : Check Format → Type 0
-    W = Whole request
-
-abbrev entryAt : Registers → InterruptRequest → ℕ
-entryAt registers request = registers .«interrupt_table» + 16 * wholeIndex request
 
 module _ (registers : Registers) (request : InterruptRequest) (m : Memory) where
   abbrev Answered : Rules InterruptOutcome → Type 0
@@ -150,24 +117,13 @@ module _ (registers : Registers) (request : InterruptRequest) (m : Memory) where
   delivered-before source index (post at vector n) = refl
 
   answered : Answered (interruptRules registers request)
-  unfolding interruptRules requestRules run named
-  answered = admitted (admission registers (not (inInterruptRange (request .address))) (registers .ire))
-    where
-      source : ℕ
-      source = request .source .id
-
-      formatted : (k : Check Format) → Whole request k
-          → Answered (onCheck k (λ reason. answer (blocked (interruptFault reason false source 0))) (onFormat registers source))
-      formatted (stop reason) h = (none, λ h. refl)
-      formatted (go compatibility) h = (none, λ h. refl)
-      formatted (go (remappable index)) h =
-          let w = index-words m registers source index in
-          rw (named-map (delivered source index) (indexRules registers source index) m, run-map (delivered source index) (indexRules registers source index) m, delivered-before source index (run (indexRules registers source index) m), ← h) w
-
-      admitted : (k : Admitted) → Answered (onAdmission k refused passed (requestRules registers request))
-      admitted (refusal n) = (none, λ h. refl)
-      admitted pass = (none, λ h. refl)
-      admitted take = formatted (requestCheck registers (request .address) (request .«data»)) (index-whole registers request)
+  unfolding run named
+  answered =
+      request-cases registers request Answered (λ o h. (none, λ h. refl))
+      (let source = request .source .id in
+      let index = wholeIndex request in
+      rw (named-map (delivered source index) (indexRules registers source index) m, run-map (delivered source index) (indexRules registers source index) m, delivered-before source index (run (indexRules registers source index) m))
+      (index-words m registers source index))
 
 pub none-before-table : NoneBeforeTable
 none-before-table registers request image = answered registers request (ofImage image) .1

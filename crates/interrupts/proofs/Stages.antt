@@ -1,53 +1,40 @@
--- What each stage of the rules answers once its entry is known.
+-- The two stages of a request, the remapping entry and the descriptor, by what the code's fetches and checks said.
 use Prim.Native.Nat.{ℕ, _+_, _*_, _^_}
-use mathlib.Core.Bool.{Bool, true, false, not}
-use mathlib.Core.Path.{_≡_}
+use mathlib.Core.Bool.{Bool, true, false}
+use mathlib.Core.Path.{_≡_, refl, ap, sym, _∙_}
 use lib.Dec.{leb}
-use Rattle.image.specs.Bits.{bit}
 use Rattle.image.specs.Check.{Check, stop, go, onCheck}
-use Rattle.image.specs.Choice.{if_then_else_}
+use Rattle.image.specs.EntryKind.{remappingEntry, postedDescriptor}
 use Rattle.image.specs.Memory.{Memory, missing, found, entry}
-use Rattle.image.specs.Rules.{run}
+use Rattle.image.specs.Rules.{Rules, answer, run}
+use Rattle.image.proofs.Stages.{unfetched, checked, only}
 use Rattle.registers.specs.declared.Registers.{Registers}
+use Rattle.irte.specs.Irte.{Irte, Asked, asks, stops, asked, irteCheck, faultProcessingDisabled}
 use Rattle.interrupts.specs.Descriptor.{Notice, descriptorCheck}
-use Rattle.interrupts.specs.Irte.{Irte, reservedIrte, irteOf, irteCheck}
-use Rattle.interrupts.specs.Source.{sourceAllowed}
-use Rattle.interrupts.specs.Interrupts.{Delivery, fault, post, descriptorRules, onIrte, entryRules, indexRules}
-use Rattle.interrupts.proofs.Checks.{stopped, went}
+use Rattle.interrupts.specs.Interrupts.{Delivery, fault, post, descriptorRules, onIrte, indexRules}
 
 module _ (m : Memory) (eime fpd : Bool) (vector at : ℕ) where
-  pub no-descriptor : entry 8 m at ≡ missing → fault 0x27 fpd ≡ run (descriptorRules eime fpd at vector) m
-  unfolding descriptorRules run
-  no-descriptor h = rw h
+  pub no-descriptor : missing ≡ entry 8 m at → fault 0x27 fpd ≡ run (descriptorRules eime fpd at vector) m
+  unfolding descriptorRules
+  no-descriptor = unfetched postedDescriptor at (fault 0x27 fpd) (descriptorCheck eime) (λ d reason. fault reason fpd) (λ n. answer (post at vector n)) m
 
-  pub descriptor-checked : {d : ℕ} {k : Check Notice} → entry 8 m at ≡ found d → descriptorCheck eime d ≡ k
+  pub descriptor-checked : {d : ℕ} {k : Check Notice} → found d ≡ entry 8 m at → k ≡ descriptorCheck eime d
       → onCheck k (λ reason. fault reason fpd) (post at vector) ≡ run (descriptorRules eime fpd at vector) m
-  unfolding descriptorRules run
-  descriptor-checked h k = rw (h, k)
+  unfolding descriptorRules
+  descriptor-checked {d} {k} h told =
+      only m k (λ reason. fault reason fpd) (post at vector)
+      ∙ checked postedDescriptor at (fault 0x27 fpd) (descriptorCheck eime) (λ d reason. fault reason fpd) (λ n. answer (post at vector n)) m h
+      (ap (λ (k : Check Notice). onCheck k (λ reason. answer (fault reason fpd)) (λ n. answer (post at vector n))) told)
 
-module _ (m : Memory) (registers : Registers) (source e : ℕ) {fpd : Bool} (f : fpd ≡ bit e 1) where
-  pub absent : not (bit e 0) ≡ true → fault 0x22 fpd ≡ run (entryRules registers source e) m
-  unfolding entryRules irteCheck run
-  absent h = rw (f, h)
+-- what follows what an entry's check says
+abbrev pub onAsked : (eime : Bool) → Asked → Rules Delivery
+onAsked eime (asks i) = onIrte eime i
+onAsked eime (stops reason fpd) = answer (fault reason fpd)
 
-  module _ (present : not (bit e 0) ≡ false) {k : Check Irte}
-      (checked : k ≡ (if reservedIrte registers e then stop 0x24 else go (irteOf (registers .eime) e))) where
-    pub reserved : k ≡ stop 0x24 → fault 0x24 fpd ≡ run (entryRules registers source e) m
-    unfolding entryRules irteCheck run
-    reserved h = rw (f, present, stopped (reservedIrte registers e) 0x24 (irteOf (registers .eime) e) checked h)
-
-    module _ {i : Irte} (valid : k ≡ go i) where
-      pub rejected : not (sourceAllowed source e) ≡ true → fault 0x26 fpd ≡ run (entryRules registers source e) m
-      unfolding entryRules irteCheck run
-      rejected h = rw (f, present, went (reservedIrte registers e) 0x24 (irteOf (registers .eime) e) checked valid .0, h)
-
-      -- the entry asks for j, and d comes of it
-      pub accepted : not (sourceAllowed source e) ≡ false → {j : Irte} {d : Delivery} → i ≡ j
-          → d ≡ run (onIrte (registers .eime) fpd j) m → d ≡ run (entryRules registers source e) m
-      unfolding entryRules irteCheck
-      accepted h asked comes =
-          let k = went (reservedIrte registers e) 0x24 (irteOf (registers .eime) e) checked valid in
-          rw (present, k .0, h, k .1, asked, ← f) comes
+on-asked : (eime fpd : Bool) (k : Check Irte)
+    → onAsked eime (onCheck k (λ reason. stops reason fpd) asks) ≡ onCheck k (λ reason. answer (fault reason fpd)) (onIrte eime)
+on-asked eime fpd (stop reason) = refl
+on-asked eime fpd (go i) = refl
 
 module _ (m : Memory) (registers : Registers) (source index : ℕ) where
   pub out-of-range : leb (2 ^ (registers .s + 1)) index ≡ true → fault 0x21 false ≡ run (indexRules registers source index) m
@@ -55,12 +42,18 @@ module _ (m : Memory) (registers : Registers) (source index : ℕ) where
   out-of-range h = rw h
 
   module _ (inside : leb (2 ^ (registers .s + 1)) index ≡ false) where
-    pub no-entry : entry 2 m (registers .«interrupt_table» + 16 * index) ≡ missing
+    pub no-entry : missing ≡ entry 2 m (registers .«interrupt_table» + 16 * index)
         → fault 0x23 false ≡ run (indexRules registers source index) m
-    unfolding indexRules run
-    no-entry h = rw (inside, h)
+    unfolding indexRules
+    no-entry h =
+        rw inside
+        (unfetched remappingEntry (registers .«interrupt_table» + 16 * index) (fault 0x23 false) (irteCheck registers source) (λ e reason. fault reason (faultProcessingDisabled e)) (onIrte (registers .eime)) m h)
 
-    pub entry-found : {e : ℕ} {d : Delivery} → entry 2 m (registers .«interrupt_table» + 16 * index) ≡ found e
-        → d ≡ run (entryRules registers source e) m → d ≡ run (indexRules registers source index) m
-    unfolding indexRules run
-    entry-found h comes = rw (inside, h) comes
+    pub entry-checked : {e : ℕ} {r : Asked} {d : Delivery} → found e ≡ entry 2 m (registers .«interrupt_table» + 16 * index)
+        → r ≡ asked registers source e → d ≡ run (onAsked (registers .eime) r) m → d ≡ run (indexRules registers source index) m
+    unfolding indexRules
+    entry-checked {e} h told comes =
+        rw inside
+        (comes
+        ∙ checked remappingEntry (registers .«interrupt_table» + 16 * index) (fault 0x23 false) (irteCheck registers source) (λ e reason. fault reason (faultProcessingDisabled e)) (onIrte (registers .eime)) m h
+        (ap (onAsked (registers .eime)) told ∙ on-asked (registers .eime) (faultProcessingDisabled e) (irteCheck registers source e)))

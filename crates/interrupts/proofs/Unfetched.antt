@@ -3,22 +3,24 @@ use Prim.Native.Nat.{ℕ, _+_, _^_}
 use mathlib.Core.Bool.{Bool, true, false, not, _||_}
 use mathlib.Core.Path.{_≡_, refl, sym, _∙_}
 use native.Mathlib.Omega.{arith}
-use lib.Dec.{leb}
-use Rattle.image.specs.Bits.{bit, anySet}
-use Rattle.image.specs.Check.{Check, stop, go, onCheck}
+use borrow.Author.Tests.{eqb-true}
+use lib.Dec.{eqb, leb}
+use Rattle.image.specs.Bits.{bit}
+use Rattle.image.specs.Check.{Check, stop, go}
 use Rattle.image.specs.Choice.{if_then_else_}
-use Rattle.image.specs.Rules.{Rules, answer}
+use Rattle.image.specs.Rules.{answer}
+use Rattle.image.proofs.Choices.{either}
+use Rattle.image.proofs.Stages.{check-cases}
 use Rattle.image.proofs.Unfetched.{Inside, inside-map, ended-outside}
-use Rattle.registers.specs.Admission.{Admitted, refusal, pass, take, admission, onAdmission, inInterruptRange}
 use Rattle.registers.specs.declared.Registers.{Registers}
 use Rattle.faults.specs.Record.{interruptFault}
-use Rattle.interrupts.specs.Claims.{accessReason, AccessFault, InterruptAccessMeansUnfetched}
-use Rattle.interrupts.specs.Descriptor.{Notice, reservedDescriptor, descriptorCheck}
-use Rattle.interrupts.specs.Interrupts.{Delivery, fault, post, onIrte, descriptorRules, entryRules, indexRules, InterruptOutcome, passed, refused, blocked, delivered, onFormat, requestRules, interruptRules}
-use Rattle.interrupts.specs.Irte.{Irte, remaps, posts, reservedIrte, irteCheck, faultProcessingDisabled}
-use Rattle.interrupts.specs.Request.{Format, compatibility, remappable, requestCheck}
-use Rattle.interrupts.specs.Source.{sourceAllowed}
+use Rattle.irte.specs.Irte.{Irte, remaps, posts, reservedIrte, irteCheck, faultProcessingDisabled}
+use Rattle.irte.specs.Source.{sourceAllowed}
+use Rattle.interrupts.specs.Claims.{wholeIndex, beforeTable, accessReason, AccessFault, InterruptAccessMeansUnfetched}
+use Rattle.interrupts.specs.Descriptor.{reservedDescriptor, descriptorCheck}
+use Rattle.interrupts.specs.Interrupts.{Delivery, fault, post, onIrte, descriptorRules, indexRules, InterruptOutcome, passed, remapped, posted, refused, blocked, delivered, interruptRules}
 use Rattle.interrupts.specs.declared.InterruptRequest.{InterruptRequest}
+use Rattle.interrupts.proofs.Requests.{early, request-cases}
 
 -- a check that stops stops with another reason
 abbrev Otherwise : {A : Type 0} → Check A → Type 0
@@ -26,12 +28,7 @@ Otherwise (stop reason) = accessReason reason ≡ false
 Otherwise (go a) = Unit {0}
 
 tested : {A : Type 0} (t : Bool) (reason : ℕ) (rest : Check A) → accessReason reason ≡ false → Otherwise rest → Otherwise (if t then stop reason else rest)
-tested true reason rest h r = h
-tested false reason rest h r = r
-
-chosen : {A : Type 0} (P : A → Type 0) (t : Bool) {a b : A} → P a → P b → P (if t then a else b)
-chosen P true x y = x
-chosen P false x y = y
+tested t reason rest h r = either Otherwise t h r
 
 irte-otherwise : (registers : Registers) (source e : ℕ) → Otherwise (irteCheck registers source e)
 unfolding irteCheck
@@ -45,13 +42,8 @@ unfolding descriptorCheck
 descriptor-otherwise eime d =
     tested (reservedDescriptor eime d) 0x28 _ refl tt
 
-request-otherwise : (registers : Registers) (address message : ℕ) → Otherwise (requestCheck registers address message)
-unfolding requestCheck
-request-otherwise registers address message =
-    chosen Otherwise (not (bit address 4))
-    (tested (registers .eime || not (registers .cfis)) 0x25 _ refl tt)
-    (chosen Otherwise (not (bit address 3)) tt
-    (tested (anySet message 31 16) 0x20 _ refl tt))
+differ : _≡_ {A = Bool} true false → ⊥
+differ h = let z : _≡_ {A = ℕ} 0 1 = cc in omega arith
 
 module _ (source index : ℕ) where
   abbrev Access : Delivery → Type 0
@@ -59,59 +51,49 @@ module _ (source index : ℕ) where
 
   no-fault : (reason : ℕ) (fpd : Bool) → accessReason reason ≡ false → Access (fault reason fpd) → ⊥
   unfolding interruptFault
-  no-fault reason fpd other is =
-      let z : _≡_ {A = Bool} true false = sym is ∙ other in
-      let y : _≡_ {A = ℕ} 0 1 = cc in
-      omega arith
+  no-fault reason fpd other is = differ (sym is ∙ other)
 
-  descriptor-inside : (eime fpd : Bool) (vector at : ℕ) → Inside Access (descriptorRules eime fpd at vector)
+  irte-inside : (eime : Bool) (i : Irte) → Inside Access (onIrte eime i)
   unfolding descriptorRules Inside
-  descriptor-inside eime fpd vector at = λ d. by (descriptorCheck eime d) (descriptor-otherwise eime d)
-    where
-      by : (k : Check Notice) → Otherwise k → Access (onCheck k (λ reason. fault reason fpd) (post at vector)) → ⊥
-      by (stop reason) other = no-fault reason fpd other
-      by (go n) other = λ is. is
-
-  entry-inside : (registers : Registers) (e : ℕ) → Inside Access (entryRules registers source e)
-  unfolding entryRules Inside
-  entry-inside registers e = by (irteCheck registers source e) (irte-otherwise registers source e)
-    where
-      fpd : Bool
-      fpd = faultProcessingDisabled e
-
-      by : (k : Check Irte) → Otherwise k → Inside Access (onCheck k (λ reason. answer (fault reason fpd)) (onIrte (registers .eime) fpd))
-      by (stop reason) other = no-fault reason fpd other
-      by (go (remaps r)) other = λ is. is
-      by (go (posts at vector)) other = descriptor-inside (registers .eime) fpd vector at
+  irte-inside eime (remaps r) = λ is. is
+  irte-inside eime (posts at vector fpd) = λ d.
+      check-cases (Inside Access) (descriptorCheck eime d) (λ reason. fault reason fpd) (λ n. answer (post at vector n))
+      (λ reason told. no-fault reason fpd (rw told at (descriptor-otherwise eime d))) (λ n told is. is)
 
   index-inside : (registers : Registers) → Inside Access (indexRules registers source index)
   unfolding indexRules Inside
   index-inside registers =
-      chosen (Inside Access) (leb (2 ^ (registers .s + 1)) index) (no-fault 0x21 false refl)
-      (entry-inside registers)
+      either (Inside Access) (leb (2 ^ (registers .s + 1)) index) (no-fault 0x21 false refl)
+      (λ e. check-cases (Inside Access) (irteCheck registers source e) (λ reason. fault reason (faultProcessingDisabled e)) (onIrte (registers .eime))
+      (λ reason told. no-fault reason (faultProcessingDisabled e) (rw told at (irte-otherwise registers source e)))
+      (λ i told. irte-inside (registers .eime) i))
+
+-- the reasons of faults before the table are others
+not-early : (reason : ℕ) → early reason ≡ true → accessReason reason ≡ false
+not-early reason h = by (eqb reason 0x20) refl (eqb reason 0x21) refl h
+  where
+    is : (n : ℕ) → eqb reason n ≡ true → accessReason n ≡ false → accessReason reason ≡ false
+    is n e other = rw (eqb-true reason n e) other
+
+    by : (a : Bool) → eqb reason 0x20 ≡ a → (b : Bool) → eqb reason 0x21 ≡ b → (a || b || eqb reason 0x25) ≡ true → accessReason reason ≡ false
+    by true e b f h = is 0x20 e refl
+    by false e true f h = is 0x21 f refl
+    by false e false f h = is 0x25 h refl
+
+early-otherwise : (o : InterruptOutcome) → beforeTable o ≡ true → AccessFault o → ⊥
+early-otherwise (blocked f) h is = differ (sym is ∙ not-early (f .reason) h)
+early-otherwise passed h is = is
+early-otherwise (remapped r) h is = is
+early-otherwise (posted descriptor vector n) h is = is
+early-otherwise (refused number) h is = is
 
 inside : (registers : Registers) (request : InterruptRequest) → Inside AccessFault (interruptRules registers request)
-unfolding interruptRules requestRules Inside interruptFault
-inside registers request = admitted (admission registers (not (inInterruptRange (request .address))) (registers .ire))
-  where
-    source : ℕ
-    source = request .source .id
-
-    formatted : (k : Check Format) → Otherwise k
-        → Inside AccessFault (onCheck k (λ reason. answer (blocked (interruptFault reason false source 0))) (onFormat registers source))
-    formatted (stop reason) other = λ is.
-        let z : _≡_ {A = Bool} true false = sym is ∙ other in
-        let y : _≡_ {A = ℕ} 0 1 = cc in
-        omega arith
-    formatted (go compatibility) other = λ is. is
-    formatted (go (remappable index)) other =
-        inside-map (delivered source index) AccessFault (indexRules registers source index) (index-inside source index registers)
-
-    admitted : (k : Admitted) → Inside AccessFault (onAdmission k refused passed (requestRules registers request))
-    admitted (refusal n) = λ is. is
-    admitted pass = λ is. is
-    admitted take =
-        formatted (requestCheck registers (request .address) (request .«data»)) (request-otherwise registers (request .address) (request .«data»))
+unfolding Inside
+inside registers request =
+    let source = request .source .id in
+    let index = wholeIndex request in
+    request-cases registers request (Inside AccessFault) early-otherwise
+    (inside-map (delivered source index) AccessFault (indexRules registers source index) (index-inside source index registers))
 
 pub interrupt-access-means-unfetched : InterruptAccessMeansUnfetched
 interrupt-access-means-unfetched registers request image =

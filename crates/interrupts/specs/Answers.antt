@@ -1,7 +1,8 @@
 -- What the code's answers say, in document 01's numbers.
 use Rattle.faults.specs.Fault.{faultOf}
 use Rattle.faults.specs.Reason.{numberOf}
-use Rattle.interrupts.specs.Checked.{remappedOf, dueOf}
+use Rattle.irte.specs.Checked.{remappedOf}
+use Rattle.interrupts.specs.Checked.{dueOf}
 use Rattle.interrupts.specs.Interrupts as rules
 use Rattle.interrupts.specs.declared.answer.Delivery.{Delivery}
 use Rattle.interrupts.specs.declared.answer.Delivery.the-variants.{Fault, Remap, Post}

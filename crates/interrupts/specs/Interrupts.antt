@@ -6,13 +6,14 @@ use lib.Dec.{leb}
 use Rattle.image.specs.Check.{onCheck}
 use Rattle.image.specs.Choice.{if_then_else_}
 use Rattle.image.specs.EntryKind.{remappingEntry, postedDescriptor}
-use Rattle.image.specs.Rules.{Rules, answer, fetch, mapRules}
+use Rattle.image.specs.Rules.{Rules, answer, mapRules}
+use Rattle.image.specs.Stage.{stage}
 use Rattle.registers.specs.Admission.{admission, onAdmission, inInterruptRange}
 use Rattle.registers.specs.declared.Registers.{Registers}
 use Rattle.faults.specs.Record.{FaultAnswer, interruptFault}
 use Rattle.interrupts.specs.declared.InterruptRequest.{InterruptRequest}
 use Rattle.interrupts.specs.Request.{Format, compatibility, remappable, requestCheck}
-use Rattle.interrupts.specs.Irte.{Remapped, Irte, remaps, posts, irteCheck, faultProcessingDisabled}
+use Rattle.irte.specs.Irte.{Remapped, Irte, remaps, posts, irteCheck, faultProcessingDisabled}
 use Rattle.interrupts.specs.Descriptor.{Notice, descriptorCheck}
 
 -- what the table makes of a request: a fault with FPD as it was read by then, the remapped answer, or a post of a vector to the
@@ -24,22 +25,18 @@ pub data Delivery : Type 0 where
 
 unfoldable pub descriptorRules : (eime fpd : Bool) (at vector : ℕ) → Rules Delivery
 descriptorRules eime fpd at vector =
-    fetch postedDescriptor at (fault 0x27 fpd)
-    (λ d. answer (onCheck (descriptorCheck eime d) (λ reason. fault reason fpd) (post at vector)))
+    stage postedDescriptor at (fault 0x27 fpd) (descriptorCheck eime) (λ d reason. fault reason fpd) (λ n. answer (post at vector n))
 
-abbrev pub onIrte : (eime fpd : Bool) → Irte → Rules Delivery
-onIrte eime fpd (remaps r) = answer (remap r)
-onIrte eime fpd (posts descriptor vector) = descriptorRules eime fpd descriptor vector
-
-unfoldable pub entryRules : Registers → (source e : ℕ) → Rules Delivery
-entryRules registers source e =
-    onCheck (irteCheck registers source e) (λ reason. answer (fault reason (faultProcessingDisabled e)))
-    (onIrte (registers .eime) (faultProcessingDisabled e))
+abbrev pub onIrte : (eime : Bool) → Irte → Rules Delivery
+onIrte eime (remaps r) = answer (remap r)
+onIrte eime (posts descriptor vector fpd) = descriptorRules eime fpd descriptor vector
 
 unfoldable pub indexRules : Registers → (source index : ℕ) → Rules Delivery
 indexRules registers source index =
     if leb (2 ^ (registers .s + 1)) index then answer (fault 0x21 false)
-    else fetch remappingEntry (registers .«interrupt_table» + 16 * index) (fault 0x23 false) (entryRules registers source)
+    else
+    stage remappingEntry (registers .«interrupt_table» + 16 * index) (fault 0x23 false)
+    (irteCheck registers source) (λ e reason. fault reason (faultProcessingDisabled e)) (onIrte (registers .eime))
 
 pub data InterruptOutcome : Type 0 where
   -- the request goes on unchanged

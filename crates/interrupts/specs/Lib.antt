@@ -3,7 +3,5 @@ pub mod Checked
 pub mod Claims
 pub mod Descriptor
 pub mod Interrupts
-pub mod Irte
 pub mod Post
 pub mod Request
-pub mod Source

@@ -3,10 +3,10 @@ ghost use mathlib.Core.Path.{_≡_};
 ghost use Rattle.interrupts.specs.Answers.{deliveryOf, outcomeOf};
 ghost use Rattle.interrupts.specs.Interrupts.{delivered};
 use crate::descriptor::Notice;
-use crate::irte::Remapped;
 use faults::Fault;
 use faults::Reason;
 use faults::interrupt_fault;
+use irte::Remapped;
 use registers::SourceId;
 
 // Whether a notice is due, and the vector posted to the descriptor at an address. In this order no word

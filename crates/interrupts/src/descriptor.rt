@@ -4,9 +4,9 @@ ghost use Rattle.image.specs.Bits.{anySet};
 ghost use Rattle.image.specs.Entries.{number64};
 ghost use Rattle.interrupts.specs.Descriptor.{reservedDescriptor, noticeDestination, noticeOf, descriptorCheck};
 ghost use Rattle.interrupts.specs.Checked.{dueOf, descriptorChecked};
-use crate::fields::descriptor_any_set;
-use crate::fields::descriptor_bits;
 use image::Entry64;
+use image::any_set64;
+use image::bits64;
 
 pub enum Notice {
     Silent,
@@ -28,29 +28,29 @@ fn upper_set(d: Entry64) -> bool
 fn reserved_descriptor(eime: bool, d: Entry64) -> bool
     ensures { λ r. ⌜ r ≡ reservedDescriptor eime (number64 d) ⌝ }
 {
-    descriptor_any_set(d, 271, 258)
-        | descriptor_any_set(d, 287, 280)
+    any_set64(d, 271, 258)
+        | any_set64(d, 287, 280)
         | upper_set(d)
-        | (!eime & (descriptor_any_set(d, 295, 288) | descriptor_any_set(d, 319, 304)))
+        | (!eime & (any_set64(d, 295, 288) | any_set64(d, 319, 304)))
 }
 
 fn notice_destination(eime: bool, d: Entry64) -> u32
     ensures { λ r. ⌜ r ≡ noticeDestination eime (number64 d) ⌝ }
 {
     if eime {
-        return descriptor_bits(d, 319, 288) as u32;
+        return bits64(d, 319, 288) as u32;
     }
-    descriptor_bits(d, 303, 296) as u32
+    bits64(d, 303, 296) as u32
 }
 
 // ON or SN holds the notice back.
 fn notice_of(eime: bool, d: Entry64) -> Notice
     ensures { λ r. ⌜ dueOf r ≡ noticeOf eime (number64 d) ⌝ }
 {
-    if (descriptor_bits(d, 256, 256) == 1) | (descriptor_bits(d, 257, 257) == 1) {
+    if (bits64(d, 256, 256) == 1) | (bits64(d, 257, 257) == 1) {
         return Notice::Silent;
     }
-    let vector = descriptor_bits(d, 279, 272) as u8;
+    let vector = bits64(d, 279, 272) as u8;
     let destination = notice_destination(eime, d);
     Notice::Due {
         vector,

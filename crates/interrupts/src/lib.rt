@@ -9,12 +9,9 @@ ghost use Rattle.interrupts.specs.Post.{written};
 
 mod answer;
 mod descriptor;
-mod fields;
-mod irte;
 mod post;
 mod remapping;
 mod request;
-mod source;
 
 pub use answer::InterruptAnswer;
 pub use answer::Posted;

@@ -14,7 +14,7 @@ use Rattle.interrupts.specs.declared.InterruptRequest.{InterruptRequest}
 use Rattle.interrupts.specs.declared.answer.InterruptAnswer.{InterruptAnswer}
 use Rattle.interrupts.specs.declared.answer.InterruptAnswer.the-variants as answer
 use Rattle.interrupts.specs.declared.answer.Posted as posted
-use Rattle.interrupts.proofs.Inside.{Within, within}
+use Rattle.interrupts.proofs.Raised.{Within, within}
 use Rattle.interrupts.proofs.Posts.{unposted}
 use Rattle.interrupts.proofs.interrupt_request.Statement.{statement}
 use Rattle.interrupts.proofs.interrupt_request.Tie as tie

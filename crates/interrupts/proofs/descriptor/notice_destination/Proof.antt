@@ -8,31 +8,31 @@ use Rattle.image.proofs.Fields.{fits}
 use Rattle.interrupts.proofs.descriptor.notice_destination.Statement.{statement}
 use Rattle.interrupts.proofs.descriptor.notice_destination.Tie as tie
 
-descriptor-bits-requires : tie.Need-descriptor-bits-requires
-descriptor-bits-requires c κs = search needs
+bits64-requires : tie.Need-bits64-requires
+bits64-requires c κs = search needs
 
 cast-result : tie.Need-cast-result
-cast-result c = record { fits = rw (c .descriptor-bits .ensures) (fits (number64 (c .before .before .args .d)) 319 288) }
+cast-result c = record { fits = rw (c .bits64 .ensures) (fits (number64 (c .before .before .args .d)) 319 288) }
 
 returns : tie.Need-returns
-returns c = rw (c .before .if1 .taken) (c .descriptor-bits .ensures)
+returns c = rw (c .before .if1 .taken) (c .bits64 .ensures)
 
-descriptor-bits-requires-2 : tie.Need-descriptor-bits-requires-2
-descriptor-bits-requires-2 c κs = search needs
+bits64-requires-2 : tie.Need-bits64-requires-2
+bits64-requires-2 c κs = search needs
 
 cast-result-2 : tie.Need-cast-result-2
-cast-result-2 c = record { fits = lt-of-lt-of-le {m = 2 ^ 8} (rw (c .descriptor-bits2 .ensures) (fits (number64 (c .before .before .args .d)) 303 296)) (lit≤ tt) }
+cast-result-2 c = record { fits = lt-of-lt-of-le {m = 2 ^ 8} (rw (c .bits642 .ensures) (fits (number64 (c .before .before .args .d)) 303 296)) (lit≤ tt) }
 
 returns-2 : tie.Need-returns-2
-returns-2 c = rw (c .before .if1 .left) (c .descriptor-bits2 .ensures)
+returns-2 c = rw (c .before .if1 .left) (c .bits642 .ensures)
 
 pub notice-destination-spec : {M : Type 1} → statement M
 notice-destination-spec =
     tie.close
     (tie.spec
-    descriptor-bits-requires
+    bits64-requires
     cast-result
     returns
-    descriptor-bits-requires-2
+    bits64-requires-2
     cast-result-2
     returns-2)

@@ -22,7 +22,7 @@ returns c =
     let f = c .before .before in
     let a = f .before .before .args in
     no-descriptor (ofImage (a .image .now)) (a .eime) (a .fpd) (a .vector) (a .at)
-    (sym (f .fetch64 .ensures) ∙ ap fetched64 (c .enum-told .given .1))
+    (sym (ap fetched64 (c .enum-told .given .1)) ∙ f .fetch64 .ensures)
 
 descriptor-check-requires : tie.Need-descriptor-check-requires
 descriptor-check-requires c κs = search needs
@@ -40,8 +40,8 @@ returns-2 c =
     let f = found .before .before in
     let a = f .before .before .args in
     descriptor-checked (ofImage (a .image .now)) (a .eime) (a .fpd) (a .vector) (a .at)
-    (sym (f .fetch64 .ensures) ∙ ap fetched64 (found .d .given .1))
-    (sym (k .descriptor-check .ensures) ∙ ap descriptorChecked (c .enum-told2 .given .1))
+    (sym (ap fetched64 (found .d .given .1)) ∙ f .fetch64 .ensures)
+    (sym (ap descriptorChecked (c .enum-told2 .given .1)) ∙ k .descriptor-check .ensures)
 
 returns-3 : tie.Need-returns-3
 returns-3 c =
@@ -50,8 +50,8 @@ returns-3 c =
     let f = found .before .before in
     let a = f .before .before .args in
     descriptor-checked (ofImage (a .image .now)) (a .eime) (a .fpd) (a .vector) (a .at)
-    (sym (f .fetch64 .ensures) ∙ ap fetched64 (found .d .given .1))
-    (sym (k .descriptor-check .ensures) ∙ ap descriptorChecked (c .before .notice .given .1))
+    (sym (ap fetched64 (found .d .given .1)) ∙ f .fetch64 .ensures)
+    (sym (ap descriptorChecked (c .before .notice .given .1)) ∙ k .descriptor-check .ensures)
 
 pub follow-descriptor-spec : {M : Type 1} → statement M
 follow-descriptor-spec =

@@ -1,0 +1,118 @@
+-- Which interrupt is raised: a remapped or posted answer comes of the entry of the whole index, and a post of its descriptor too.
+use Prim.Native.Nat.{ℕ, _+_, _*_, _^_, _≤_, _<_}
+use mathlib.Core.Bool.{Bool, true, false, not}
+use mathlib.Core.List.{List}
+use mathlib.Core.Path.{_≡_, refl}
+use native.Mathlib.Omega.{arith}
+use borrow.Author.Tests.{leb-false}
+use lib.Dec.{leb}
+use lib.ListN.{length}
+use Rattle.image.specs.Bits.{bits, bit}
+use Rattle.image.specs.Check.{Check, stop, go}
+use Rattle.image.specs.Choice.{if_then_else_}
+use Rattle.image.specs.EntryKind.{remappingEntry, postedDescriptor}
+use Rattle.image.specs.Memory.{Memory, found, entry, ofImage}
+use Rattle.image.specs.Rules.{Rules, answer, run}
+use Rattle.image.proofs.Choices.{chosen, past, same-go}
+use Rattle.image.proofs.Fields.{fits}
+use Rattle.image.proofs.Stages.{run-cases}
+use Rattle.image.proofs.Trees.{run-map}
+use Rattle.image.proofs.Words.{whole-entry}
+use Rattle.registers.specs.declared.Registers.{Registers}
+use Rattle.irte.specs.Irte.{Irte, remaps, posts, remappedBy, descriptorAddress, reservedIrte, irteOf, irteCheck, faultProcessingDisabled}
+use Rattle.irte.specs.Source.{sourceAllowed}
+use Rattle.interrupts.specs.Claims.{wholeIndex, beforeTable, outcome}
+use Rattle.interrupts.specs.Descriptor.{Notice, descriptorCheck}
+use Rattle.interrupts.specs.Interrupts.{Delivery, fault, remap, post, descriptorRules, onIrte, indexRules, InterruptOutcome, passed, remapped, posted, blocked, refused, delivered, interruptRules}
+use Rattle.interrupts.specs.declared.InterruptRequest.{InterruptRequest}
+use Rattle.interrupts.proofs.Requests.{entryAt, atTable, request-cases}
+
+module _ (registers : Registers) (request : InterruptRequest) (m : Memory) where
+  -- the entry of the request's whole index lies in the table, can be fetched, and its check lets it ask for i
+  pub record Told (i : Irte) : Type 0 where
+    pub e : ℕ
+    pub in-table : wholeIndex request < 2 ^ (registers .s + 1)
+    pub fetched : entry 2 m (entryAt registers request) ≡ found e
+    pub checked : irteCheck registers (request .source .id) e ≡ go i
+
+  -- it asks for a post to a descriptor that can be fetched, and whose check gives the notice
+  pub record Posting (descriptor vector : ℕ) (n : Notice) : Type 0 where
+    pub fpd : Bool
+    pub told : Told (posts descriptor vector fpd)
+    pub d : ℕ
+    pub fetched : entry 8 m descriptor ≡ found d
+    pub checked : descriptorCheck (registers .eime) d ≡ go n
+
+  abbrev pub Raised : InterruptOutcome → Type 0
+  Raised (remapped r) = Told (remaps r)
+  Raised (posted descriptor vector n) = Posting descriptor vector n
+  Raised passed = Unit {0}
+  Raised (blocked f) = Unit {0}
+  Raised (refused number) = Unit {0}
+
+  abbrev From : Delivery → Type 0
+  From d = Raised (delivered (request .source .id) (wholeIndex request) d)
+
+  descriptor-raised : (i : Irte) → Told i → From (run (onIrte (registers .eime) i) m)
+  unfolding descriptorRules run
+  descriptor-raised (remaps r) told = told
+  descriptor-raised (posts at vector fpd) told =
+      run-cases postedDescriptor at (fault 0x27 fpd) (descriptorCheck (registers .eime)) (λ d reason. fault reason fpd) (λ n. answer (post at vector n)) m From tt
+      (λ d reason there stops. tt)
+      (λ d n there goes. record { fpd = fpd; told = told; d = d; fetched = there; checked = goes })
+
+  index-raised : From (run (indexRules registers (request .source .id) (wholeIndex request)) m)
+  unfolding indexRules run
+  index-raised =
+      chosen (λ q. From (run q m)) (leb (2 ^ (registers .s + 1)) (wholeIndex request)) (λ h. tt)
+      (λ h. run-cases remappingEntry (entryAt registers request) (fault 0x23 false) (irteCheck registers (request .source .id))
+      (λ e reason. fault reason (faultProcessingDisabled e)) (onIrte (registers .eime)) m From tt (λ e reason there stops. tt)
+      (λ e i there goes. descriptor-raised i (record { e = e; in-table = leb-false _ _ h; fetched = there; checked = goes })))
+
+  pub raised : Raised (run (interruptRules registers request) m)
+  unfolding run
+  raised =
+      request-cases registers request (λ q. Raised (run q m)) early-answer
+      (rw (run-map (delivered (request .source .id) (wholeIndex request)) (indexRules registers (request .source .id) (wholeIndex request)) m) index-raised)
+    where
+      early-answer : (o : InterruptOutcome) → beforeTable o ≡ true → Raised o
+      early-answer passed h = tt
+      early-answer (blocked f) h = tt
+      early-answer (refused number) h = tt
+      early-answer (remapped r) h = let z : _≡_ {A = ℕ} 0 1 = cc in absurd (omega arith)
+      early-answer (posted descriptor vector n) h = let z : _≡_ {A = ℕ} 0 1 = cc in absurd (omega arith)
+
+-- what an entry that is let pass asks for
+pub asked-for : (registers : Registers) (source e : ℕ) {i : Irte} → irteCheck registers source e ≡ go i → irteOf (registers .eime) e ≡ i
+unfolding irteCheck
+asked-for registers source e {i} h =
+    let present = past (not (bit e 0)) 0x22 _ i h in
+    let valid = past (reservedIrte registers e) 0x24 _ i (present .1) in
+    same-go (past (not (sourceAllowed source e)) 0x26 (go (irteOf (registers .eime) e)) i (valid .1) .1)
+
+vector-small : (eime : Bool) (e : ℕ) {d v : ℕ} {fpd : Bool} → irteOf eime e ≡ posts d v fpd → v < 256
+vector-small eime e {d} {v} {fpd} asked = by (bit e 15) asked
+  where
+    by : (t : Bool) → (if t then posts (descriptorAddress e) (bits e 23 16) (faultProcessingDisabled e) else remaps (remappedBy eime e)) ≡ posts d v fpd
+        → v < 256
+    by true h = let same : bits e 23 16 ≡ v = cc in omega (arith, fits e 23 16)
+    by false h = let z : _≡_ {A = ℕ} 0 1 = cc in absurd (omega arith)
+
+-- document 01's post stays in the image, 64 bytes from the descriptor's address, and its vector is one of 256
+abbrev pub Within : List ℕ → InterruptOutcome → Type 0
+Within image (posted descriptor vector n) = (descriptor + 64 ≤ length image) × (vector < 256)
+Within image passed = Unit {0}
+Within image (remapped r) = Unit {0}
+Within image (blocked f) = Unit {0}
+Within image (refused number) = Unit {0}
+
+pub within : (image : List ℕ) (registers : Registers) (request : InterruptRequest) → Within image (outcome registers request image)
+within image registers request = by (outcome registers request image) (raised registers request (ofImage image))
+  where
+    by : (o : InterruptOutcome) → Raised registers request (ofImage image) o → Within image o
+    by (posted at vector n) p =
+        (whole-entry image 7 at (p .fetched), vector-small (registers .eime) (p .told .e) (asked-for registers (request .source .id) (p .told .e) (p .told .checked)))
+    by passed p = tt
+    by (remapped r) p = tt
+    by (blocked f) p = tt
+    by (refused number) p = tt

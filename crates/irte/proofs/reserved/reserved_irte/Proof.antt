@@ -1,0 +1,36 @@
+-- By bit 15, the entry's kind.
+use borrow.Author.Needs.{needs}
+use Rattle.irte.specs.Irte.{reservedIrte}
+use Rattle.irte.proofs.reserved.reserved_irte.Statement.{statement}
+use Rattle.irte.proofs.reserved.reserved_irte.Tie as tie
+
+reserved-in-all-requires : tie.Need-reserved-in-all-requires
+reserved-in-all-requires c κs = search needs
+
+bit16-requires : tie.Need-bit16-requires
+bit16-requires c κs = search needs
+
+reserved-in-posted-requires : tie.Need-reserved-in-posted-requires
+reserved-in-posted-requires c κs = search needs
+
+returns : tie.Need-returns
+unfolding reservedIrte
+returns c = rw (← c .before .before .bit16 .ensures, c .before .if1 .taken) (cc)
+
+reserved-in-remapped-requires : tie.Need-reserved-in-remapped-requires
+reserved-in-remapped-requires c κs = search needs
+
+returns-2 : tie.Need-returns-2
+unfolding reservedIrte
+returns-2 c = rw (← c .before .before .bit16 .ensures, c .before .if1 .left) (cc)
+
+pub reserved-irte-spec : {M : Type 1} → statement M
+reserved-irte-spec =
+    tie.close
+    (tie.spec
+    reserved-in-all-requires
+    bit16-requires
+    reserved-in-posted-requires
+    returns
+    reserved-in-remapped-requires
+    returns-2)
