@@ -168,7 +168,7 @@ module _ (ms : List Meter) (cs bs : List ℕ) where
   abbrev bads : Bool
   bads = some badCount cs || some badMeter ms
 
-  outcome : (g h : Bool) → even ≡ g → (g && allFit (cond g (length ms) 0) ms cs) ≡ h
+  pub outcome : (g h : Bool) → even ≡ g → (g && allFit (cond g (length ms) 0) ms cs) ≡ h
       → (h, steps (cond h (length ms) 0) ms cs, marks (cond h (length ms) 0) ms cs bs) ≡ tickRow ms cs bs
   unfolding steps marks
   outcome false true e f = never (sym f)

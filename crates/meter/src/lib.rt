@@ -5,6 +5,8 @@ ghost use Rattle.meter.specs.Meter.{tickLoad, ticked, tripsOf, byteOf, c
 mod check;
 mod row;
 
+pub use check::fits;
+pub use check::one_per_meter;
 pub use row::reset_row;
 pub use row::tick_row;
 
