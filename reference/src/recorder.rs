@@ -1,11 +1,11 @@
-//! "... and its recorder": eight records in a lent 128-byte buffer.
+//! "... and its recorder": records in a lent buffer of 8 to 256 slots.
 
 use crate::bits::{bit, put};
 
 /// The recorder's small state.
 #[derive(Clone, Copy, Debug, PartialEq, Eq)]
 pub struct Recorder {
-    /// Next slot, 0 to 7.
+    /// Next slot, 0 to the last one.
     pub next: u8,
     /// Overflow flag.
     pub overflow: bool,
@@ -34,10 +34,25 @@ pub enum Call {
     Refused,
 }
 
-/// Number 3, the part every recorder call checks: the record buffer isn't 128
-/// bytes, or the recorder's next slot is above 7.
-fn number_3(buffer: &[u8], recorder: &Recorder) -> bool {
-    buffer.len() != 128 || recorder.next > 7
+/// The number of slots: any power of two from 8 to 256, chosen by the lent
+/// buffer's length, 16 bytes a slot. Other lengths are refusal 3.
+fn slots(buffer: &[u8]) -> Option<usize> {
+    [8, 16, 32, 64, 128, 256]
+        .into_iter()
+        .find(|slots| buffer.len() == 16 * slots)
+}
+
+/// Number 3, the part every recorder call checks: the record buffer has none
+/// of these lengths, or the recorder's next slot is above the last one. (Slot
+/// limits in document 01 follow the length.)
+///
+/// Otherwise the last slot's number, which is 7 where there are eight.
+fn last_slot(buffer: &[u8], recorder: &Recorder) -> Option<usize> {
+    let last = slots(buffer)? - 1;
+    if usize::from(recorder.next) > last {
+        return None;
+    }
+    Some(last)
 }
 
 /// Records a fault.
@@ -48,9 +63,9 @@ pub fn record(
     record: [u8; 16],
 ) -> Call {
     // Every recorder call checks number 3 first.
-    if number_3(buffer, recorder) {
+    let Some(last) = last_slot(buffer, recorder) else {
         return Call::Refused;
-    }
+    };
     // A fault not recordable then changes nothing.
     if !recordable {
         return Call::NotRecordable;
@@ -68,10 +83,10 @@ pub fn record(
         return Call::Overflowed;
     }
     // Else it is written, with bit 127 set whatever was handed in, and the
-    // next slot advances, 7 to 0.
+    // next slot advances, the last one to 0.
     slot.copy_from_slice(&record);
     put(slot, 127, 127, 1);
-    recorder.next = if recorder.next == 7 {
+    recorder.next = if usize::from(recorder.next) == last {
         0
     } else {
         recorder.next + 1
@@ -81,8 +96,11 @@ pub fn record(
 
 /// Clears a slot: its bit 127 only.
 pub fn clear_slot(buffer: &mut [u8], recorder: &Recorder, slot: u8) -> Call {
-    // Number 3, here with "a slot to clear is above 7".
-    if number_3(buffer, recorder) || slot > 7 {
+    // Number 3, here with "a slot to clear is above" the last one.
+    let Some(last) = last_slot(buffer, recorder) else {
+        return Call::Refused;
+    };
+    if usize::from(slot) > last {
         return Call::Refused;
     }
     let start = 16 * usize::from(slot);
@@ -98,7 +116,7 @@ pub fn clear_slot(buffer: &mut [u8], recorder: &Recorder, slot: u8) -> Call {
 
 /// Clears overflow, which is separate from clearing a slot.
 pub fn clear_overflow(buffer: &[u8], recorder: &mut Recorder) -> Call {
-    if number_3(buffer, recorder) {
+    if last_slot(buffer, recorder).is_none() {
         return Call::Refused;
     }
     let found = recorder.overflow;

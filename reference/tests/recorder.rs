@@ -18,7 +18,7 @@ fn numbered(n: u8) -> [u8; 16] {
 /// recorder as they came".
 #[test]
 fn number_3() {
-    for (length, next) in [(0, 0), (127, 0), (129, 0), (256, 7), (128, 8), (128, 255)] {
+    for (length, next) in [(0, 0), (127, 0), (129, 0), (384, 7), (128, 8), (128, 255)] {
         for overflow in [false, true] {
             for recordable in [false, true] {
                 let mut buffer = vec![0xFF; length];
