@@ -52,8 +52,10 @@ extern "C" {
 #define GALITZAF_REMAPPED 4
 #define GALITZAF_POSTED 5
 
-/* Fault records: 8 of 16 bytes. The recorder's state: byte 0 the next slot, byte 1 overflow (0 or 1). */
-#define GALITZAF_RECORDS_SIZE 128
+/* Fault records: 8, 16, 32, 64, 128 or 256 slots of 16 bytes; the buffer's length says how many. The
+ * recorder's state: byte 0 the next slot, byte 1 overflow (0 or 1). */
+#define GALITZAF_RECORDS_SIZE 128      /* 8 slots, the fewest */
+#define GALITZAF_RECORDS_MAX_SIZE 4096 /* 256 slots, the most */
 #define GALITZAF_RECORDER_SIZE 2
 
 /* What a call answers. */

@@ -21,7 +21,8 @@ pub enum Refusal {
     BadRegisters,
     /// 2: a memory request in FEE00000h to FEEFFFFFh, or an interrupt outside of it.
     WrongAddress,
-    /// 3: the record buffer isn't 128 bytes, or the next slot or a slot to clear is above 7.
+    /// 3: the record buffer isn't 8, 16, .. 256 slots, or the next slot or a slot to clear is above
+    /// the last.
     BadRecorder,
     /// A number that this version doesn't name. Number 0 is for an archive that doesn't keep to the
     /// header this crate was written for, so that even then nothing is granted or delivered.

@@ -21,17 +21,17 @@ pub enum Recorded {
 /// The recorder's own state, beside the records.
 #[derive(Clone, Copy, Debug, Default, PartialEq, Eq, Hash)]
 pub struct RecorderState {
-    /// The slot that the next fault goes to, 0 to 7.
+    /// The slot that the next fault goes to.
     pub next_slot: u8,
     /// A fault was dropped since overflow was last cleared (PFO).
     pub overflow: bool,
 }
 
-/// The records of faults: eight slots of 16 bytes, filled in turn.
+/// The records of faults: slots of 16 bytes, filled in turn. The buffer's length gives their number,
+/// any power of two from 8 to 256.
 ///
-/// The buffer is its own, 128 bytes, or lent: `Recorder<&mut [u8]>` keeps its records wherever a
-/// hypervisor shows them to its guest. Any buffer and state may be given; where they don't fit,
-/// each call is refused and changes nothing.
+/// The buffer is its own, of eight slots, or lent: `Recorder<&mut [u8]>` keeps its records wherever
+/// a hypervisor shows them to its guest.
 ///
 /// ```
 /// use galitzaf::{MemoryRequest, Reason, Recorded, Recorder, SourceId, Unit};
@@ -79,23 +79,40 @@ impl Default for Recorder {
     }
 }
 
-impl<B> Recorder<B> {
+impl<B: AsRef<[u8]>> Recorder<B> {
     /// A recorder over a given buffer and state, as saved or lent.
     ///
     /// ```
     /// use galitzaf::{Recorder, RecorderState, Refusal};
     ///
     /// let mut page = [0; 4096];
-    /// let lent = Recorder::with(&mut page[0x100..0x180], RecorderState::default());
-    /// assert_eq!(lent.standing().count(), 0);
+    /// let lent = Recorder::with(&mut page[..], RecorderState::default())?;
+    /// assert_eq!((lent.slots(), lent.standing().count()), (256, 0));
     ///
-    /// let mut short = Recorder::with([0; 127], RecorderState::default());
-    /// assert_eq!(short.clear_overflow(), Err(Refusal::BadRecorder));
+    /// let short = Recorder::with(&mut page[..127], RecorderState::default());
+    /// assert_eq!(short, Err(Refusal::BadRecorder));
+    /// # Ok::<(), Refusal>(())
     /// ```
-    pub const fn with(records: B, state: RecorderState) -> Self {
-        Self { records, state }
+    ///
+    /// # Errors
+    ///
+    /// [`Refusal::BadRecorder`] where the buffer isn't 8, 16, 32, 64, 128 or 256 slots of 16 bytes,
+    /// or the next slot is above the last. Nothing but the buffer's length is looked at.
+    pub fn with(records: B, state: RecorderState) -> Result<Self, Refusal> {
+        if usize::from(state.next_slot) < slots_of(records.as_ref().len()) {
+            Ok(Self { records, state })
+        } else {
+            Err(Refusal::BadRecorder)
+        }
     }
 
+    /// The number of slots.
+    pub fn slots(&self) -> usize {
+        slots_of(self.records.as_ref().len())
+    }
+}
+
+impl<B> Recorder<B> {
     /// The state, to be saved with the buffer.
     pub const fn state(&self) -> RecorderState {
         self.state
@@ -115,8 +132,8 @@ impl<B: AsRef<[u8]>> Recorder<B> {
 
     /// The records that stand (bit 127 set), each with its slot, by slot.
     pub fn standing(&self) -> impl Iterator<Item = (u8, FaultRecord)> + '_ {
-        let slots = self.records.as_ref().chunks_exact(16);
-        (0u8..8).zip(slots).filter_map(|(slot, bytes)| {
+        let slots = self.records.as_ref().chunks_exact(16).take(self.slots());
+        (0..=u8::MAX).zip(slots).filter_map(|(slot, bytes)| {
             let record = FaultRecord::from_bytes(bytes.try_into().ok()?);
             record.is_standing().then_some((slot, record))
         })
@@ -126,7 +143,7 @@ impl<B: AsRef<[u8]>> Recorder<B> {
     ///
     /// # Errors
     ///
-    /// [`Refusal::BadRecorder`] where the buffer isn't 128 bytes or the next slot is above 7.
+    /// None that a caller could meet: length and next slot were checked when it was made.
     pub fn clear_overflow(&mut self) -> Result<bool, Refusal> {
         let mut state = pack(self.state);
         let said = ffi::clear_overflow(self.records.as_ref(), &mut state);
@@ -144,7 +161,7 @@ impl<B: AsMut<[u8]>> Recorder<B> {
     ///
     /// # Errors
     ///
-    /// [`Refusal::BadRecorder`] where the buffer isn't 128 bytes or the next slot is above 7.
+    /// None that a caller could meet: length and next slot were checked when it was made.
     pub fn record<'a>(&mut self, fault: impl Into<Option<&'a Fault>>) -> Result<Recorded, Refusal> {
         // All zeros is an answer without a fault. It goes to the library too, which looks at the
         // buffer and the state before it looks at the answer.
@@ -166,8 +183,7 @@ impl<B: AsMut<[u8]>> Recorder<B> {
     ///
     /// # Errors
     ///
-    /// [`Refusal::BadRecorder`] where the buffer isn't 128 bytes or the slot or the next slot is
-    /// above 7.
+    /// [`Refusal::BadRecorder`] where the slot is above the last.
     pub fn clear_slot(&mut self, slot: u8) -> Result<bool, Refusal> {
         let said = ffi::clear_slot(self.records.as_mut(), &pack(self.state), slot);
         match said {
@@ -175,6 +191,19 @@ impl<B: AsMut<[u8]>> Recorder<B> {
             ffi::SLOT_CLEAR => Ok(false),
             _ => Err(refusal(said)),
         }
+    }
+}
+
+/// The slots that a length gives: a power of two from 8 to 256, or none.
+const fn slots_of(len: usize) -> usize {
+    match len {
+        128 => 8,
+        256 => 16,
+        512 => 32,
+        1024 => 64,
+        2048 => 128,
+        4096 => 256,
+        _ => 0,
     }
 }
 

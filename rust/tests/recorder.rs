@@ -22,31 +22,40 @@ fn silent() -> Fault {
     *answer.fault().expect("a fault")
 }
 
+/// Every good length.
+const LENGTHS: [usize; 6] = [128, 256, 512, 1024, 2048, 4096];
+
 #[test]
-fn eight_slots_then_overflow() {
-    let mut recorder = Recorder::new();
-    for page in 1..=8 {
-        assert_eq!(recorder.record(&fault(page)), Ok(Recorded::Written));
+fn each_slot_then_overflow() {
+    for length in LENGTHS {
+        let mut buffer = vec![0; length];
+        let state = RecorderState::default();
+        let mut recorder = Recorder::with(&mut buffer[..], state).expect("a good length");
+        let slots = recorder.slots() as u64;
+        assert_eq!(slots, length as u64 / 16);
+        for page in 1..=slots {
+            assert_eq!(recorder.record(&fault(page)), Ok(Recorded::Written));
+        }
+        let pages: Vec<(u8, u64)> = recorder
+            .standing()
+            .map(|(slot, record)| (slot, record.page_address() >> 12))
+            .collect();
+        assert_eq!(pages, (0..=255).zip(1..=slots).collect::<Vec<_>>());
+
+        assert_eq!(recorder.record(&fault(9)), Ok(Recorded::Overflowed));
+        assert_eq!(recorder.record(&fault(9)), Ok(Recorded::Dropped));
+        assert!(recorder.state().overflow);
+
+        assert_eq!(recorder.clear_slot(0), Ok(true));
+        assert_eq!(recorder.clear_slot(0), Ok(false));
+        assert_eq!(recorder.record(&fault(9)), Ok(Recorded::Dropped));
+        assert_eq!(recorder.clear_overflow(), Ok(true));
+        assert_eq!(recorder.clear_overflow(), Ok(false));
+        assert_eq!(recorder.record(&fault(9)), Ok(Recorded::Written));
+        let (slot, record) = recorder.standing().next().expect("a record");
+        assert_eq!((slot, record.page_address()), (0, 0x9000));
+        assert_eq!(recorder.state().next_slot, 1);
     }
-    let pages: Vec<(u8, u64)> = recorder
-        .standing()
-        .map(|(slot, record)| (slot, record.page_address() >> 12))
-        .collect();
-    assert_eq!(pages, (0..8).zip(1..=8).collect::<Vec<_>>());
-
-    assert_eq!(recorder.record(&fault(9)), Ok(Recorded::Overflowed));
-    assert_eq!(recorder.record(&fault(9)), Ok(Recorded::Dropped));
-    assert!(recorder.state().overflow);
-
-    assert_eq!(recorder.clear_slot(0), Ok(true));
-    assert_eq!(recorder.clear_slot(0), Ok(false));
-    assert_eq!(recorder.record(&fault(9)), Ok(Recorded::Dropped));
-    assert_eq!(recorder.clear_overflow(), Ok(true));
-    assert_eq!(recorder.clear_overflow(), Ok(false));
-    assert_eq!(recorder.record(&fault(9)), Ok(Recorded::Written));
-    let (slot, record) = recorder.standing().next().expect("a record");
-    assert_eq!((slot, record.page_address()), (0, 0x9000));
-    assert_eq!(recorder.state().next_slot, 1);
 }
 
 #[test]
@@ -68,42 +77,60 @@ fn what_holds_no_fault_or_a_silent_one_changes_nothing() {
 #[test]
 fn a_lent_buffer_is_written_in_place() {
     let mut page = [0; 4096];
-    let mut recorder = Recorder::with(&mut page[0x200..0x280], RecorderState::default());
+    let lent = Recorder::with(&mut page[0x200..0x280], RecorderState::default());
+    let mut recorder = lent.expect("a good length");
     assert_eq!(recorder.record(&fault(5)), Ok(Recorded::Written));
     assert_eq!(page[0x200..0x210], fault(5).record().bytes());
     assert!(page[..0x200].iter().chain(&page[0x210..]).all(|&b| b == 0));
 }
 
+/// Only the good lengths are taken, and no next slot or slot above the last. What a refused buffer
+/// holds isn't looked at.
 #[test]
 fn bad_buffers_states_and_slots_are_refused() {
-    let refused = Err(Refusal::BadRecorder);
-    let good = RecorderState::default();
-    let bad = RecorderState {
-        next_slot: 8,
-        overflow: true,
-    };
-    for (length, state) in [(0, good), (127, good), (129, good), (256, good), (128, bad)] {
-        let before = vec![0xFF; length];
-        let mut recorder = Recorder::with(before.clone(), state);
-        assert_eq!(recorder.record(&fault(1)).map(|_| true), refused);
-        assert_eq!(recorder.record(&silent()).map(|_| true), refused);
-        assert_eq!(recorder.record(None).map(|_| true), refused);
-        assert_eq!(recorder.clear_slot(0), refused);
-        assert_eq!(recorder.clear_overflow(), refused);
-        assert_eq!(recorder.into_parts(), (before, state));
+    let refused = Refusal::BadRecorder;
+    let mut buffer = [0xFF; 8193];
+    for length in 0..=buffer.len() {
+        let slots = if LENGTHS.contains(&length) {
+            length / 16
+        } else {
+            0
+        };
+        for next_slot in 0..=u8::MAX {
+            let state = RecorderState {
+                next_slot,
+                overflow: true,
+            };
+            let recorder = Recorder::with(&mut buffer[..length], state);
+            let good = usize::from(next_slot) < slots;
+            assert_eq!(recorder.as_ref().err().copied(), (!good).then_some(refused));
+            assert_eq!(
+                recorder.map_or(0, |r| r.standing().count()),
+                if good { slots } else { 0 }
+            );
+        }
     }
-    let mut recorder = Recorder::with([0xFF; 128], good);
-    for slot in 8..=u8::MAX {
-        assert_eq!(recorder.clear_slot(slot), refused);
+    for length in LENGTHS {
+        let mut recorder = Recorder::with(&mut buffer[..length], RecorderState::default());
+        let recorder = recorder.as_mut().expect("a good length");
+        for slot in (0..=u8::MAX).filter(|&slot| usize::from(slot) >= length / 16) {
+            assert_eq!(recorder.clear_slot(slot), Err(refused));
+        }
     }
-    assert_eq!(recorder.into_parts(), ([0xFF; 128], good));
+    assert_eq!(buffer, [0xFF; 8193]);
 }
 
 /// Over any calls, written equals cleared plus standing.
 #[test]
 fn nothing_is_lost_or_made_up() {
+    LENGTHS.into_iter().for_each(one_run);
+}
+
+fn one_run(length: usize) {
     let mut random = Random(1);
-    let mut recorder = Recorder::new();
+    let mut recorder =
+        Recorder::with(vec![0; length], RecorderState::default()).expect("a good length");
+    let slots = recorder.slots() as u64;
     let (mut written, mut cleared, mut dropped) = (0, 0, 0);
     for _ in 0..10_000 {
         match random.below(8) {
@@ -114,7 +141,7 @@ fn nothing_is_lost_or_made_up() {
             },
             4 => assert_eq!(recorder.record(&silent()), Ok(Recorded::NotRecordable)),
             5 | 6 => {
-                let slot = random.below(9) as u8;
+                let slot = random.below(slots + 1) as u8;
                 cleared += usize::from(recorder.clear_slot(slot) == Ok(true));
             }
             _ => assert!(recorder.clear_overflow().is_ok()),

@@ -1,5 +1,6 @@
 -- Every claim holds.
-use Rattle.faults.proofs.Totals.{total}
+use Rattle.faults.proofs.Recording.{slot-counts}
+use Rattle.faults.proofs.Totals.{one-length, total}
 use Rattle.dma.proofs.Access.{locality}
 use Rattle.dma.proofs.Nine.{at-most-nine, none-untaken}
 use Rattle.dma.proofs.Reached.{granted-by-own-walk}
@@ -29,6 +30,8 @@ everything =
       index-bound = index-bound;
       entry-of-index = entry-of-index;
       no-wrap = no-wrap;
+      slot-counts = slot-counts;
+      one-length = one-length;
       total = total;
       twelve-cases = twelve-cases;
       isolation = isolation;

@@ -1,7 +1,8 @@
 -- Every claim that docs/PROOF.md names, as one type. Its term is `everything` in proofs/Everything.antt, so a claim whose proof is lost
 -- is refused here, and tests/run-claims holds the page to this list and this list to the page. What a function promises is its contract,
 -- and isn't repeated here.
-use Rattle.faults.specs.Total.{Total}
+use Rattle.faults.specs.Slots.{SlotCounts}
+use Rattle.faults.specs.Total.{OneLength, Total}
 use Rattle.dma.specs.Isolation.{Locality, AccessMeansUnfetched, RightsOn, RightsOff, Unshared}
 use Rattle.dma.specs.Named.{AtMostNine, NoneUntaken}
 use Rattle.dma.specs.Reached.{GrantedByOwnWalk}
@@ -24,6 +25,8 @@ pub record Everything : Type 0 where
   pub index-bound : IndexBound
   pub entry-of-index : EntryOfIndex
   pub no-wrap : NoWrap
+  pub slot-counts : SlotCounts
+  pub one-length : OneLength
   pub total : Total
   pub twelve-cases : TwelveCases
   -- demand 3: memory, rights, and the words that are named

@@ -1,9 +1,8 @@
 -- Document 01, "The fault slip and its recorder", over the number of slots: what each call answers and leaves.
-use Prim.Native.Nat.{ℕ, _+_, _*_, _%_}
+use Prim.Native.Nat.{ℕ, _+_, _%_}
 use mathlib.Core.Bool.{Bool, true, false, not, _||_}
 use mathlib.Core.List.{List}
-use lib.Dec.{eqb, leb}
-use lib.ListN.{length}
+use lib.Dec.{leb}
 use Rattle.image.specs.Choice.{if_then_else_}
 use Rattle.faults.specs.Slots.{recordAt, withRecord, standing, clear127, set127}
 
@@ -50,16 +49,16 @@ abbrev pub leaves : ℕ → List ℕ → ℕ → Bool → After
 leaves answer buffer next overflow =
     record { answer = answer; state = record { buffer = buffer; next = next; overflow = overflow } }
 
--- number 3, checked first by every call: the buffer isn't 16 bytes a slot, or the next slot is above the last
-abbrev pub outOfPlace : ℕ → ℕ → ℕ → Bool
-outOfPlace slots len next = not (eqb len (16 * slots)) || leb slots next
+-- number 3, checked first by every call: the buffer's length gives no slots, or the next slot is above the last
+abbrev pub outOfPlace : (slots next : ℕ) → Bool
+outOfPlace slots next = leb slots next
 
 module _ (slots : ℕ) (buffer : List ℕ) (next : ℕ) (overflow : Bool) where
   -- a fault that is not recordable changes nothing; with overflow set it is dropped; where the next slot's bit 127 is set,
   -- overflow is set and it is dropped; else it is written, with bit 127 set whatever was handed in, and the next slot advances
   unfoldable pub recording : Bool → ℕ → After
   recording recordable contents =
-      if outOfPlace slots (length buffer) next then leaves refused buffer next overflow
+      if outOfPlace slots next then leaves refused buffer next overflow
       else if not recordable then leaves notRecordable buffer next overflow
       else if overflow then leaves dropped buffer next overflow
       else if standing buffer next then leaves overflowed buffer next true
@@ -68,13 +67,13 @@ module _ (slots : ℕ) (buffer : List ℕ) (next : ℕ) (overflow : Bool) where
   -- clearing a slot clears its bit 127 only; number 3 too where the slot is above the last
   unfoldable pub clearing : ℕ → After
   clearing slot =
-      if outOfPlace slots (length buffer) next || leb slots slot then leaves refused buffer next overflow
+      if outOfPlace slots next || leb slots slot then leaves refused buffer next overflow
       else if standing buffer slot
       then leaves slotCleared (withRecord buffer slot (clear127 (recordAt buffer slot))) next overflow
       else leaves slotClear buffer next overflow
 
   unfoldable pub clearingOverflow : After
   clearingOverflow =
-      if outOfPlace slots (length buffer) next then leaves refused buffer next overflow
+      if outOfPlace slots next then leaves refused buffer next overflow
       else if overflow then leaves overflowCleared buffer next false
       else leaves overflowClear buffer next overflow

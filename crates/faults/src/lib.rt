@@ -1,5 +1,5 @@
-// What a blocked request leaves: its reason, whether it may be recorded, and its record; and the recorder that keeps eight
-// of them in a lent buffer.
+// What a blocked request leaves: its reason, whether it may be recorded, and its record; and the recorder that keeps
+// 8 to 256 of them in a lent buffer.
 mod fault;
 mod lent;
 mod reason;
@@ -21,4 +21,4 @@ pub use recorder::after_clear;
 pub use recorder::after_clear_overflow;
 pub use recorder::after_record;
 pub use recorder::after_words;
-pub use recorder::out_of_place;
+pub use recorder::slot_count;

@@ -1,11 +1,12 @@
-// The recorder: eight records in a lent buffer, and its small state.
+// The recorder: records in a lent buffer, whose length gives the number of slots, and its small state.
 ghost use mathlib.Core.Path.{_≡_};
-ghost use Prim.Native.Nat.{_%_, _+_, _<_};
+ghost use Prim.Native.Nat.{_%_, _+_, _<_, _≤_};
 ghost use mathlib.Core.List.{[], _∷_};
 ghost use Rattle.image.specs.Entries.{spell};
 ghost use Rattle.faults.specs.Answers.{afterOf, answerOf};
 ghost use Rattle.faults.specs.Fault.{faultOf};
-ghost use Rattle.faults.specs.Recorder.{recording, clearing, clearingOverflow, outOfPlace};
+ghost use Rattle.faults.specs.Recorder.{recording, clearing, clearingOverflow};
+ghost use Rattle.faults.specs.Slots.{slotsOf, slotsIn};
 use crate::fault::Fault;
 use crate::slots::clear_record;
 use crate::slots::is_standing;
@@ -56,11 +57,27 @@ pub struct RecorderStep {
     pub recorder: Recorder,
 }
 
-// Refusal 3, as far as every call checks it.
-pub fn out_of_place(len: usize, next: u8) -> bool
-    ensures { λ r. ⌜ r ≡ outOfPlace 8 len next ⌝ }
+// The slots of a buffer by its length: none where it isn't one of these.
+pub fn slot_count(len: usize) -> usize
+    ensures { λ r. ⌜ r ≡ slotsOf len ⌝ }
 {
-    (len != 128) | (8 <= next)
+    match len {
+        128 => 8,
+        256 => 16,
+        512 => 32,
+        1024 => 64,
+        2048 => 128,
+        4096 => 256,
+        _ => 0,
+    }
+}
+
+// The slot after one; the first after the last.
+fn slot_after(next: u8, slots: usize) -> u8
+    requires { ⌜ (next < slots) × (slots ≤ 256) ⌝ }
+    ensures { λ r. ⌜ r ≡ (next + 1) % slots ⌝ }
+{
+    ((next as usize + 1) % slots) as u8
 }
 
 // The recorder after a record was handed to it, as two words.
@@ -71,11 +88,12 @@ pub fn after_words(
     low: u64,
     high: u64,
 ) -> RecorderStep
-    ensures { λ r. ⌜ afterOf r (now (buffer .exit)) ≡ recording 8 (now (buffer .entry)) (recorder .next) (recorder .overflow) recordable (spell (low ∷ high ∷ [])) ⌝ }
+    ensures { λ r. ⌜ afterOf r (now (buffer .exit)) ≡ recording (slotsIn (now (buffer .entry))) (now (buffer .entry)) (recorder .next) (recorder .overflow) recordable (spell (low ∷ high ∷ [])) ⌝ }
 {
+    let slots = slot_count(buffer.len());
     let next = recorder.next;
     let overflow = recorder.overflow;
-    if out_of_place(buffer.len(), next) {
+    if slots <= next as usize {
         return RecorderStep {
             answer: RecorderAnswer::Refused,
             recorder,
@@ -108,7 +126,7 @@ pub fn after_words(
     RecorderStep {
         answer: RecorderAnswer::Written,
         recorder: Recorder {
-            next: (next + 1) % 8,
+            next: slot_after(next, slots),
             overflow,
         },
     }
@@ -116,16 +134,17 @@ pub fn after_words(
 
 // The recorder after a fault was handed to it.
 pub fn after_record(buffer: &mut [u8], recorder: Recorder, fault: Fault) -> RecorderStep
-    ensures { λ r. ⌜ afterOf r (now (buffer .exit)) ≡ recording 8 (now (buffer .entry)) (recorder .next) (recorder .overflow) (fault .recordable) (faultOf fault .contents) ⌝ }
+    ensures { λ r. ⌜ afterOf r (now (buffer .exit)) ≡ recording (slotsIn (now (buffer .entry))) (now (buffer .entry)) (recorder .next) (recorder .overflow) (fault .recordable) (faultOf fault .contents) ⌝ }
 {
     after_words(buffer, recorder, fault.recordable, fault.low, fault.high)
 }
 
 // The recorder after a slot's bit 127 was cleared.
 pub fn after_clear(buffer: &mut [u8], recorder: Recorder, slot: u8) -> RecorderStep
-    ensures { λ r. ⌜ afterOf r (now (buffer .exit)) ≡ clearing 8 (now (buffer .entry)) (recorder .next) (recorder .overflow) slot ⌝ }
+    ensures { λ r. ⌜ afterOf r (now (buffer .exit)) ≡ clearing (slotsIn (now (buffer .entry))) (now (buffer .entry)) (recorder .next) (recorder .overflow) slot ⌝ }
 {
-    if out_of_place(buffer.len(), recorder.next) | (8 <= slot) {
+    let slots = slot_count(buffer.len());
+    if (slots <= recorder.next as usize) | (slots <= slot as usize) {
         return RecorderStep {
             answer: RecorderAnswer::Refused,
             recorder,
@@ -146,9 +165,10 @@ pub fn after_clear(buffer: &mut [u8], recorder: Recorder, slot: u8) -> RecorderS
 
 // The recorder after its overflow flag was cleared.
 pub fn after_clear_overflow(buffer: &[u8], recorder: Recorder) -> RecorderStep
-    ensures { λ r. ⌜ afterOf r (now (buffer .entry)) ≡ clearingOverflow 8 (now (buffer .entry)) (recorder .next) (recorder .overflow) ⌝ }
+    ensures { λ r. ⌜ afterOf r (now (buffer .entry)) ≡ clearingOverflow (slotsIn (now (buffer .entry))) (now (buffer .entry)) (recorder .next) (recorder .overflow) ⌝ }
 {
-    if out_of_place(buffer.len(), recorder.next) {
+    let slots = slot_count(buffer.len());
+    if slots <= recorder.next as usize {
         return RecorderStep {
             answer: RecorderAnswer::Refused,
             recorder,

@@ -17,18 +17,18 @@ use Rattle.ffi.specs.Recording.{unfit, badFault}
 sized : (n m : ℕ) (test : Bool) → not (eqb n m) || test ≡ false → n ≡ m
 sized n m test h = eqb-true n m (not-false (eqb n m) (neither (not (eqb n m)) test h .0))
 
-module _ (len : ℕ) (recorder : List ℕ) where
-  pub wrong-length : (length recorder ≡ 2 → ⊥) → true ≡ unfit len recorder
+module _ (slots : ℕ) (recorder : List ℕ) where
+  pub wrong-length : (length recorder ≡ 2 → ⊥) → true ≡ unfit slots recorder
   unfolding unfit
   wrong-length h = rw (ne-eqb _ _ h)
 
-  pub by-place : length recorder ≡ 2 → outOfPlace 8 len (byte recorder 0) ≡ unfit len recorder
+  pub by-place : length recorder ≡ 2 → outOfPlace slots (byte recorder 0) ≡ unfit slots recorder
   unfolding unfit
   by-place h = rw (eq-eqb _ _ h)
 
-  pub two-bytes : unfit len recorder ≡ false → length recorder ≡ 2
+  pub two-bytes : unfit slots recorder ≡ false → length recorder ≡ 2
   unfolding unfit
-  two-bytes = sized (length recorder) 2 (outOfPlace 8 len (byte recorder 0))
+  two-bytes = sized (length recorder) 2 (outOfPlace slots (byte recorder 0))
 
 pub both-set : (recorder : List ℕ) (a b : ℕ) → length recorder ≡ 2 → set (set recorder 0 a) 1 b ≡ a ∷ b ∷ []
 both-set [] a b h = absurd (omega arith)

@@ -7,13 +7,13 @@ use lib.ListN.{length}
 use Rattle.image.specs.Choice.{if_then_else_}
 use Rattle.image.specs.Entries.{spell}
 use Rattle.faults.specs.Recorder.{After, refused, outOfPlace, recording, clearing, clearingOverflow}
-use Rattle.faults.specs.Slots.{one-if}
+use Rattle.faults.specs.Slots.{slotsIn, one-if}
 use Rattle.ffi.specs.Buffer.{byte, bytes}
 use Rattle.ffi.specs.Status.{badAnswer, badRecorder, noFault}
 
 -- number 3, checked first by every call: the state isn't 2 bytes, or the records or the next slot are out of place
-unfoldable pub unfit : (len : ℕ) (recorder : List ℕ) → Bool
-unfit len recorder = not (eqb (length recorder) 2) || outOfPlace 8 len (byte recorder 0)
+unfoldable pub unfit : (slots : ℕ) (recorder : List ℕ) → Bool
+unfit slots recorder = not (eqb (length recorder) 2) || outOfPlace slots (byte recorder 0)
 
 -- overflow is neither 0 nor 1
 abbrev pub badState : List ℕ → Bool
@@ -35,15 +35,15 @@ withState a = (a .answer, stateBytes (a .state .next) (a .state .overflow))
 
 unfoldable pub clearSlotCall : (records recorder : List ℕ) (slot : ℕ) → ℕ × List ℕ
 clearSlotCall records recorder slot =
-    if unfit (length records) recorder || leb 8 slot then (refused, records)
+    if unfit (slotsIn records) recorder || leb (slotsIn records) slot then (refused, records)
     else if badState recorder then (badRecorder, records)
-    else withRecords (clearing 8 records (byte recorder 0) (overflowIn recorder) slot)
+    else withRecords (clearing (slotsIn records) records (byte recorder 0) (overflowIn recorder) slot)
 
 unfoldable pub clearOverflowCall : (records recorder : List ℕ) → ℕ × List ℕ
 clearOverflowCall records recorder =
-    if unfit (length records) recorder then (refused, recorder)
+    if unfit (slotsIn records) recorder then (refused, recorder)
     else if badState recorder then (badRecorder, recorder)
-    else withState (clearingOverflow 8 records (byte recorder 0) (overflowIn recorder))
+    else withState (clearingOverflow (slotsIn records) records (byte recorder 0) (overflowIn recorder))
 
 -- not 24 bytes, or of no kind that a request answers
 unfoldable pub badFault : List ℕ → Bool
@@ -60,8 +60,8 @@ withBoth a = (a .answer, a .state .buffer, stateBytes (a .state .next) (a .state
 -- byte 0 of a fault's answer is 1, and byte 2 is 1 where it may be recorded
 unfoldable pub recordCall : (answer records recorder : List ℕ) → ℕ × List ℕ × List ℕ
 recordCall answer records recorder =
-    if unfit (length records) recorder then (refused, records, recorder)
+    if unfit (slotsIn records) recorder then (refused, records, recorder)
     else if badFault answer then (badAnswer, records, recorder)
     else if badState recorder then (badRecorder, records, recorder)
     else if not (eqb (byte answer 0) 1) then (noFault, records, recorder)
-    else withBoth (recording 8 records (byte recorder 0) (overflowIn recorder) (eqb (byte answer 2) 1) (recordIn answer))
+    else withBoth (recording (slotsIn records) records (byte recorder 0) (overflowIn recorder) (eqb (byte answer 2) 1) (recordIn answer))

@@ -14,16 +14,16 @@ use faults::Recorder;
 use faults::after_clear;
 use faults::after_clear_overflow;
 use faults::after_words;
-use faults::out_of_place;
+use faults::slot_count;
 
 // Refusal 3, as far as every call checks it: a state that isn't 2 bytes, or records or a next slot out of place.
-fn is_unfit(len: usize, recorder: &[u8]) -> bool
-    ensures { λ r. ⌜ r ≡ unfit len (now (recorder .entry)) ⌝ }
+fn is_unfit(slots: usize, recorder: &[u8]) -> bool
+    ensures { λ r. ⌜ r ≡ unfit slots (now (recorder .entry)) ⌝ }
 {
     if recorder.len() != 2 {
         return true;
     }
-    out_of_place(len, recorder[0])
+    slots <= recorder[0] as usize
 }
 
 fn read_state(recorder: &[u8]) -> Recorder
@@ -48,7 +48,8 @@ fn write_state(recorder: &mut [u8], state: Recorder)
 pub extern "C" fn galitzaf_clear_slot(records: &mut [u8], recorder: &[u8], slot: u8) -> u32
     ensures { λ r. ⌜ (r, now (records .exit)) ≡ clearSlotCall (now (records .entry)) (now (recorder .entry)) slot ⌝ }
 {
-    if is_unfit(records.len(), recorder) | (8 <= slot) {
+    let slots = slot_count(records.len());
+    if is_unfit(slots, recorder) | (slots <= slot as usize) {
         return REFUSED_3;
     }
     if 1 < recorder[1] {
@@ -63,7 +64,7 @@ pub extern "C" fn galitzaf_clear_slot(records: &mut [u8], recorder: &[u8], slot:
 pub extern "C" fn galitzaf_clear_overflow(records: &[u8], recorder: &mut [u8]) -> u32
     ensures { λ r. ⌜ (r, now (recorder .exit)) ≡ clearOverflowCall (now (records .entry)) (now (recorder .entry)) ⌝ }
 {
-    if is_unfit(records.len(), recorder) {
+    if is_unfit(slot_count(records.len()), recorder) {
         return REFUSED_3;
     }
     if 1 < recorder[1] {
@@ -90,7 +91,7 @@ fn bad_answer(answer: &[u8]) -> bool
 pub extern "C" fn galitzaf_record(answer: &[u8], records: &mut [u8], recorder: &mut [u8]) -> u32
     ensures { λ r. ⌜ (r, now (records .exit), now (recorder .exit)) ≡ recordCall (now (answer .entry)) (now (records .entry)) (now (recorder .entry)) ⌝ }
 {
-    if is_unfit(records.len(), recorder) {
+    if is_unfit(slot_count(records.len()), recorder) {
         return REFUSED_3;
     }
     if bad_answer(answer) {

@@ -1,5 +1,5 @@
-// Many recorder calls, made by a small generator: faults of many kinds, clears, and calls that are refused.
-// What the calls answered is counted and printed, with the records that stand in the buffer at the end.
+// Many recorder calls over 8 and over 256 slots, made by a small generator: faults of many kinds, clears, and calls that are
+// refused. What the calls answered is counted and printed, with the records that stand in the buffer at the end.
 use faults::Fault;
 use faults::Reason;
 use faults::Recorder;
@@ -84,14 +84,19 @@ fn fault_of(x: u64) -> Fault {
     }
 }
 
-// One call, as the number says: a fault, a clear of a slot that may be above the last, a clear of overflow, or a fault
-// for a buffer that is too short.
+// A slot, which may be the one above the last.
+fn slot_of(x: u64, len: usize) -> u8 {
+    let slots = len as u64 / 16;
+    (x % (slots + 1) % 256) as u8
+}
+
+// One call, as the number says: a fault, a clear of a slot, a clear of overflow, or a fault for a buffer that is too short.
 fn one_call(buffer: &mut [u8], recorder: Recorder, x: u64) -> RecorderStep {
     let kind = x % 16;
     let rest = x / 16;
     match kind {
         0..=8 => faults::after_record(buffer, recorder, fault_of(rest)),
-        9..=13 => faults::after_clear(buffer, recorder, (rest % 9) as u8),
+        9..=13 => faults::after_clear(buffer, recorder, slot_of(rest, buffer.len())),
         14 => faults::after_clear_overflow(buffer, recorder),
         _ => {
             let mut short = [0u8; 112];
@@ -128,12 +133,14 @@ fn run_calls(buffer: &mut [u8]) -> Tally {
 }
 
 // How many records have bit 127 set.
-fn standing(buffer: &[u8; 128]) -> u64 {
+fn standing(buffer: &[u8]) -> u64 {
     let mut n = 0;
-    for slot in 0..8usize {
-        if 128 <= buffer[16 * slot + 15] {
+    let mut last = 15usize;
+    while last < buffer.len() {
+        if 128 <= buffer[last] {
             n = wrapping_add_u64(n, 1);
         }
+        last = last + 16;
     }
     n
 }
@@ -144,9 +151,7 @@ fn line(name: &[u8], n: u64) {
     io::write_all(STDOUT_FILENO, b"\n");
 }
 
-fn main() {
-    let mut buffer = [0u8; 128];
-    let tally = run_calls(&mut buffer);
+fn print(tally: Tally) {
     line(b"calls ", CALLS as u64);
     line(b"written ", tally.written);
     line(b"overflowed ", tally.overflowed);
@@ -157,5 +162,17 @@ fn main() {
     line(b"overflow cleared ", tally.overflow_cleared);
     line(b"overflow cleared in vain ", tally.overflow_cleared_in_vain);
     line(b"refused ", tally.refused);
-    line(b"standing ", standing(&buffer));
+}
+
+fn report(buffer: &mut [u8]) {
+    line(b"slots ", faults::slot_count(buffer.len()) as u64);
+    print(run_calls(buffer));
+    line(b"standing ", standing(buffer));
+}
+
+fn main() {
+    let mut few = [0u8; 128];
+    report(&mut few);
+    let mut many = [0u8; 4096];
+    report(&mut many);
 }

@@ -14,8 +14,10 @@ pub enum Flaw {
     Known(Slip),
     /// A blocked interrupt leaves a bit in the image's last byte.
     StrayBit,
-    /// The next slot goes on after 7.
-    NextAfterSeven,
+    /// The next slot goes on after the last.
+    NextAfterLast,
+    /// The next slot goes from 7 to 0, however many there are.
+    WrapAtEight,
     /// A silenced fault is recorded.
     SilencedRecorded,
     /// Clearing a slot clears the whole record.
@@ -28,14 +30,15 @@ pub enum Flaw {
 
 impl Flaw {
     /// Each of them.
-    pub const ALL: [Flaw; 11] = [
+    pub const ALL: [Flaw; 12] = [
         Flaw::Known(Slip::Index16),
         Flaw::Known(Slip::LastEntryRights),
         Flaw::Known(Slip::MaskLargeFrame),
         Flaw::Known(Slip::FpdIgnoredWhenAbsent),
         Flaw::Known(Slip::OnDespiteSn),
         Flaw::StrayBit,
-        Flaw::NextAfterSeven,
+        Flaw::NextAfterLast,
+        Flaw::WrapAtEight,
         Flaw::SilencedRecorded,
         Flaw::RecordWiped,
         Flaw::OverflowWithSlot,

@@ -3,6 +3,7 @@
 
 use crate::bytes;
 use crate::met::{Call, Met};
+use crate::recorder::wrong_length;
 use crate::tally::Tally;
 use cases::{bench, Random, World};
 use interface::{ANSWER_SIZE, RECORDER_SIZE, RECORDS_SIZE, REGISTERS_SIZE};
@@ -66,7 +67,7 @@ fn spoil_place(random: &mut Random, arguments: &mut Arguments) {
         spoil_recorded(random, &mut arguments.answer);
     }
     match random.below(3) {
-        0 => resized(random, &mut arguments.records),
+        0 => arguments.records.resize(wrong_length(random), 0),
         1 => resized(random, &mut arguments.recorder),
         _ => arguments.recorder[0] = 8 + random.below(248) as u8,
     }

@@ -29,8 +29,13 @@ pub enum Met {
     Posted { on: bool, sn: bool },
     /// An interrupt blocked.
     InterruptBlocked { reason: u8, recordable: bool },
-    /// A recorder call, by what it answered.
-    Recorder { call: Call, status: u32 },
+    /// A recorder call, by the slots of its buffer, none where the length is wrong, and by what it
+    /// answered.
+    Recorder {
+        slots: usize,
+        call: Call,
+        status: u32,
+    },
     /// A malformed call, by what it answered.
     Malformed { call: Call, status: u32 },
     /// A context entry with this AW was read.
@@ -123,7 +128,16 @@ impl fmt::Display for Met {
             Met::InterruptBlocked { reason, recordable } => {
                 write!(f, "interrupt: {reason:02X}h, {}", recorded(recordable))
             }
-            Met::Recorder { call, status } => write!(f, "recorder: {call}, {}", said(status)),
+            Met::Recorder {
+                slots: 0,
+                call,
+                status,
+            } => write!(f, "recorder, wrong length: {call}, {}", said(status)),
+            Met::Recorder {
+                slots,
+                call,
+                status,
+            } => write!(f, "recorder, {slots} slots: {call}, {}", said(status)),
             Met::Malformed { call, status } => write!(f, "malformed: {call}, {}", said(status)),
             Met::Width(aw) => write!(f, "context entry read: AW {aw}"),
             Met::Type(tt) => write!(f, "context entry read: TT {tt}"),

@@ -7,7 +7,7 @@ use crate::pool::Pool;
 use crate::print::hex;
 use crate::tally::Tally;
 use cases::Random;
-use interface::{ANSWER_SIZE, RECORDER_SIZE, RECORDS_SIZE};
+use interface::{ANSWER_SIZE, RECORDER_SIZE};
 use reference::Recorder;
 use std::fmt;
 
@@ -32,13 +32,35 @@ pub struct Sequence {
     steps: Vec<Step>,
 }
 
-/// Mostly 128 bytes; zero, full or with no record standing.
+/// The slot counts that a length may give, at 16 bytes a slot.
+pub const SLOTS: [usize; 6] = [8, 16, 32, 64, 128, 256];
+
+/// The slots of a buffer; none where its length isn't one of those.
+fn slots_in(records: &[u8]) -> usize {
+    let mut slots = SLOTS.into_iter();
+    slots.find(|n| 16 * n == records.len()).unwrap_or(0)
+}
+
+/// A length beside a good one, or far from all.
+pub fn wrong_length(random: &mut Random) -> usize {
+    let right = 16 * random.pick(&SLOTS);
+    match random.below(7) {
+        0 => right - 1,
+        1 => right + 1,
+        2 => right - 16,
+        3 => right + 16,
+        4 => right + 8,
+        5 => right + right / 2,
+        _ => random.pick(&[0, 1, 15, 16, 32, 64, 8192]),
+    }
+}
+
+/// Mostly of a good length; zero, full or with no record standing.
 fn buffer(random: &mut Random) -> Vec<u8> {
-    let wrong = random.pick(&[0, 1, 16, 112, 127, 129, 136, 144, 256, 4096]);
     let length = if random.one_in(12) {
-        wrong
+        wrong_length(random)
     } else {
-        RECORDS_SIZE
+        16 * random.pick(&SLOTS)
     };
     let mut records = vec![0; length];
     let kind = random.below(4);
@@ -52,14 +74,39 @@ fn buffer(random: &mut Random) -> Vec<u8> {
     records
 }
 
-fn step(random: &mut Random, pool: &Pool) -> Step {
-    let slot = random.pick(&[0, 1, 2, 3, 4, 5, 6, 7]);
+/// A slot, the last one often.
+fn slot_below(random: &mut Random, slots: usize) -> u8 {
+    if random.one_in(4) {
+        return (slots - 1) as u8;
+    }
+    random.below(slots as u64) as u8
+}
+
+/// A slot above the last, where a byte can name one.
+fn slot_above(random: &mut Random, slots: usize) -> u8 {
+    random
+        .pick(&[slots, slots + 1, 2 * slots - 1, 2 * slots, 255])
+        .min(255) as u8
+}
+
+fn step(random: &mut Random, pool: &Pool, slots: usize) -> Step {
     match random.below(40) {
-        0 => Step::ClearSlot(random.pick(&[8, 9, 16, 128, 255])),
-        1..=11 => Step::ClearSlot(slot),
+        0 => Step::ClearSlot(slot_above(random, slots)),
+        1..=11 => Step::ClearSlot(slot_below(random, slots)),
         12..=15 => Step::ClearOverflow,
         _ => Step::Record(pool.pick(random)),
     }
+}
+
+/// Faults until the buffer is full and more, then each slot cleared and overflow too, then faults again.
+fn filling(random: &mut Random, pool: &Pool, slots: usize) -> Vec<Step> {
+    let mut steps = Vec::new();
+    for _ in 0..2 {
+        steps.extend((0..slots + slots / 2 + 4).map(|_| Step::Record(pool.pick(random))));
+        steps.extend((0..slots).map(|slot| Step::ClearSlot(slot as u8)));
+        steps.push(Step::ClearOverflow);
+    }
+    steps
 }
 
 impl Sequence {
@@ -67,18 +114,23 @@ impl Sequence {
     pub fn build(number: u64, pool: &Pool) -> Self {
         let mut random = Random::of(NAME, number);
         let records = buffer(&mut random);
+        let slots = slots_in(&records).max(SLOTS[0]);
         let next = if random.one_in(16) {
-            random.pick(&[8, 9, 15, 16, 128, 255])
+            slot_above(&mut random, slots)
         } else {
-            random.below(8) as u8
+            slot_below(&mut random, slots)
         };
         let mut state = [next, random.below(2) as u8];
         if random.one_in(3) {
             state = [0, 0];
         }
-        let refused = records.len() != RECORDS_SIZE || state[0] > 7;
-        let steps = if refused { 6 } else { 30 };
-        let steps = (0..steps).map(|_| step(&mut random, pool)).collect();
+        let steps = if usize::from(state[0]) >= slots_in(&records) {
+            (0..6).map(|_| step(&mut random, pool, slots)).collect()
+        } else if random.one_in(40) {
+            filling(&mut random, pool, slots)
+        } else {
+            (0..30).map(|_| step(&mut random, pool, slots)).collect()
+        };
         Self {
             records,
             state,
@@ -121,8 +173,12 @@ impl Sequence {
             };
             if let Some(tally) = tally.as_deref_mut() {
                 tally.cases += 1;
-                let call = step.call();
-                tally.meet(Met::Recorder { call, status });
+                let (slots, call) = (slots_in(&ours.0), step.call());
+                tally.meet(Met::Recorder {
+                    slots,
+                    call,
+                    status,
+                });
             }
         }
         let last = ours.0.iter().skip(15).step_by(16);
@@ -200,8 +256,8 @@ fn record(
     match reference::record(records, recorder, recordable, bytes) {
         reference::Call::NotRecordable if !is_fault => 0x10,
         call => {
-            if flaw == Flaw::NextAfterSeven && call == reference::Call::Written {
-                recorder.next = from + 1;
+            if call == reference::Call::Written {
+                flaw.after_write(recorder, from);
             }
             bytes::status(call)
         }
@@ -209,6 +265,15 @@ fn record(
 }
 
 impl Flaw {
+    /// Where a flawed recorder goes on after it wrote.
+    fn after_write(self, recorder: &mut Recorder, from: u8) {
+        match self {
+            Flaw::NextAfterLast => recorder.next = from.wrapping_add(1),
+            Flaw::WrapAtEight => recorder.next = from.wrapping_add(1) % 8,
+            _ => {}
+        }
+    }
+
     /// What a flawed clearing of a slot does beside.
     fn after_clear(self, records: &mut [u8], recorder: &mut Recorder, slot: u8) {
         let from = 16 * usize::from(slot);

@@ -1,6 +1,7 @@
 //! All that has to be met: document 01's outcomes, and its entries in each form.
 
 use crate::met::{Call, Kind, Met};
+use crate::recorder::SLOTS;
 
 /// The fault reasons of memory requests that FPD silences.
 const SILENCED_MEMORY: [u8; 8] = [0x02, 0x03, 0x04, 0x05, 0x06, 0x07, 0x0B, 0x0C];
@@ -44,17 +45,26 @@ fn interrupts(wanted: &mut Vec<Met>) {
 }
 
 fn recorder(wanted: &mut Vec<Met>) {
-    for status in [0x03, 0x10, 0x11, 0x12, 0x13, 0x14] {
-        let call = Call::Record;
-        wanted.push(Met::Recorder { call, status });
-    }
-    for status in [0x03, 0x20, 0x21] {
-        let call = Call::ClearSlot;
-        wanted.push(Met::Recorder { call, status });
-    }
-    for status in [0x03, 0x30, 0x31] {
-        let call = Call::ClearOverflow;
-        wanted.push(Met::Recorder { call, status });
+    let calls = [
+        (Call::Record, [0x10, 0x11, 0x12, 0x13, 0x14].as_slice()),
+        (Call::ClearSlot, &[0x20, 0x21]),
+        (Call::ClearOverflow, &[0x30, 0x31]),
+    ];
+    for (call, statuses) in calls {
+        for slots in SLOTS {
+            wanted.extend(statuses.iter().map(|&status| Met::Recorder {
+                slots,
+                call,
+                status,
+            }));
+        }
+        // A byte names no slot above the last of 256.
+        let refused = [0].into_iter().chain(SLOTS).filter(|&slots| slots < 256);
+        wanted.extend(refused.map(|slots| Met::Recorder {
+            slots,
+            call,
+            status: 0x03,
+        }));
     }
 }
 

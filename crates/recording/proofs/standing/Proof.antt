@@ -1,15 +1,16 @@
--- `standing` is safe and ends: the slot is below eight in every turn.
-use Prim.Native.Nat.{_-_, _≤_}
+-- `standing` is safe and ends: each turn is 16 bytes further.
+use Prim.Native.Nat.{_-_}
 use native.Mathlib.Omega.{arith}
 use borrow.Author.Needs.{needs}
+use lib.ListN.{length}
 use Rattle.recording.proofs.standing.Statement.{statement}
 use Rattle.recording.proofs.standing.Tie as tie
 
 abbrev Inv-loop : tie.InvT-loop
-Inv-loop buffer n₀ slot₀ n slot = slot ≤ 8
+Inv-loop buffer n₀ last₀ n last = Unit {0}
 
 abbrev μ-loop : tie.MeasureT-loop
-μ-loop buffer n₀ slot₀ n slot = 8 - slot
+μ-loop buffer n₀ last₀ n last = length buffer - last
 
 pub standing-spec : {M : Type 1} → statement M
 standing-spec =
@@ -17,12 +18,10 @@ standing-spec =
     (tie.spec
     Inv-loop
     μ-loop
-    (λ c. omega arith)
-    (λ c. omega arith)
-    (λ c. omega arith)
-    (λ c. omega arith)
+    (λ c. tt)
+    (λ c. search needs)
     (λ c κs. search needs)
+    (λ c. search needs)
     (λ c. omega arith)
-    (λ c. omega arith)
-    (λ c. omega arith)
+    (λ c. tt)
     (λ c. search needs))

@@ -53,6 +53,7 @@ use Rattle.faults.specs.declared.recorder.Recorder.{Recorder}
 use Rattle.faults.specs.declared.recorder.RecorderStep.{RecorderStep}
 use Rattle.faults.specs.Answers.{afterOf}
 use Rattle.faults.specs.Recorder.{clearing}
+use Rattle.faults.specs.Slots.{slotsIn}
 use Rattle.faults.proofs.InPlace.{t-vals, e-val, Left, walk}
 use Rattle.faults.proofs.recorder.Recorder as T
 use Rattle.faults.proofs.recorder.Recorder.Laws as T′
@@ -93,7 +94,7 @@ module _ {M : Type 1} (𝓤 : URA M) (H : Heap 𝓤) (A : Atoms 𝓤) (W : Given
 
   -- what the call by value says, and what its triple binds outside
   abbrev Said : RecorderStep → List ℕ → Type 0
-  Said r zs = afterOf r zs ≡ clearing 8 ys (h .next) (h .overflow) p
+  Said r zs = afterOf r zs ≡ clearing (slotsIn ys) ys (h .next) (h .overflow) p
 
   abbrev to-after : After 𝓤 H A at-mem run .Ghost
   to-after = (((κ′, tt), (q′, tt), tt, (x, (h, (p, tt))), (s ∷ [], (t-vals h, (vint w8 p ∷ [], tt)))), tt)

@@ -113,6 +113,7 @@ use Rattle.faults.specs.declared.recorder.Recorder.{Recorder}
 use Rattle.faults.specs.declared.recorder.RecorderStep.{RecorderStep}
 use Rattle.faults.specs.Answers.{afterOf}
 use Rattle.faults.specs.Recorder.{clearingOverflow}
+use Rattle.faults.specs.Slots.{slotsIn}
 use Rattle.faults.proofs.InPlace.{t-vals, e-val, state-is, answer-is}
 use Rattle.faults.proofs.recorder.Recorder as T
 use Rattle.faults.proofs.recorder.Recorder.Laws as T′
@@ -155,7 +156,7 @@ module _ {M : Type 1} (𝓤 : URA M) (H : Heap 𝓤) (A : Atoms 𝓤) (W : Given
 
   -- what the call by value says, and what its triple binds outside
   abbrev Said : RecorderStep → Type 0
-  Said r = afterOf r (x .now) ≡ clearingOverflow 8 (x .now) (h .next) (h .overflow)
+  Said r = afterOf r (x .now) ≡ clearingOverflow (slotsIn (x .now)) (x .now) (h .next) (h .overflow)
 
   said : (r : RecorderStep) → ent 𝓤 (ensured 𝓤 H A after.ended (after.clauses 𝓤 H A at-mem run) (κ′, tt) (x, (h, tt)) tt r) (fact 𝓤 (Said r))
   said r = exE 𝓤 _ (λ ws. snd∗ 𝓤 (sem 𝓤 H A (lasts after.ended (κ′, tt) (x, (h, tt)) ws)) (fact 𝓤 (Said r)))

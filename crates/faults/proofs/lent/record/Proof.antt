@@ -54,6 +54,7 @@ use Rattle.faults.specs.declared.recorder.RecorderStep.{RecorderStep}
 use Rattle.faults.specs.Answers.{afterOf}
 use Rattle.faults.specs.Fault.{faultOf}
 use Rattle.faults.specs.Recorder.{recording}
+use Rattle.faults.specs.Slots.{slotsIn}
 use Rattle.faults.proofs.InPlace.{t-vals, e-val, Left, walk}
 use Rattle.faults.proofs.fault.Fault as F
 use Rattle.faults.proofs.fault.Fault.Laws as F′
@@ -99,7 +100,7 @@ module _ {M : Type 1} (𝓤 : URA M) (H : Heap 𝓤) (A : Atoms 𝓤) (W : Given
 
   -- what the call by value says, and what its triple binds outside
   abbrev Said : RecorderStep → List ℕ → Type 0
-  Said r zs = afterOf r zs ≡ recording 8 ys (h .next) (h .overflow) (p .recordable) (faultOf p .contents)
+  Said r zs = afterOf r zs ≡ recording (slotsIn ys) ys (h .next) (h .overflow) (p .recordable) (faultOf p .contents)
 
   abbrev to-after : After 𝓤 H A at-mem run .Ghost
   to-after = (((κ′, tt), (q′, tt), tt, (x, (h, (p, tt))), (s ∷ [], (t-vals h, (f-vals p, tt)))), tt)

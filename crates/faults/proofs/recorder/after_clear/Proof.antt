@@ -1,35 +1,32 @@
 -- Each way out is a case of the definition. Past the refusal the slot lies in the buffer.
 use Prim.Native.Nat.{_+_, _*_, _≤_}
 use mathlib.Core.Path.{sym, _∙_}
-use native.Mathlib.Omega.{arith}
 use borrow.Author.Needs.{needs}
-use borrow.Author.Tests.{leb-false}
 use denote.Ref.{now}
 use lib.Dec.{leb}
 use lib.ListN.{length}
 use Rattle.faults.specs.Recorder.{clearing}
-use Rattle.faults.proofs.Recording.{neither, in-place}
+use Rattle.faults.proofs.Recording.{neither, in-reach}
 use Rattle.faults.proofs.recorder.after_clear.Statement.{statement}
 use Rattle.faults.proofs.recorder.after_clear.Tie as tie
 
 returns : tie.Need-returns
 unfolding clearing
-returns c = rw (← c .before .out-of-place .ensures, c .if1 .taken)
+returns c = rw (← c .before .before .slot-count .ensures, c .if1 .taken)
 
-in-reach : (c : tie.Else1)
-    → 16 * (c .before .before .before .args .slot) + 16 ≤ length (now (c .before .before .before .args .buffer))
-in-reach c =
-    let a = c .before .before .before .args in
-    let both = neither (c .before .out-of-place .result) (leb 8 (a .slot)) (c .if1 .left) in
-    let placed = in-place 8 (length (now (a .buffer))) (a .recorder .next) (sym (c .before .out-of-place .ensures) ∙ both .0) in
-    let below = leb-false 8 (a .slot) (both .1) in
-    omega arith
+reached : (c : tie.Else1)
+    → let a = c .before .before .before .before .args in 16 * (a .slot) + 16 ≤ length (now (a .buffer))
+reached c =
+    let a = c .before .before .before .before .args in
+    let n = c .before .before .slot-count in
+    in-reach (length (now (a .buffer))) (a .slot)
+    (rw (← n .ensures) (neither (leb (n .result) (a .recorder .next)) (leb (n .result) (a .slot)) (c .if1 .left) .1))
 
 is-standing-requires : tie.Need-is-standing-requires
-is-standing-requires c κs = in-reach (c .before)
+is-standing-requires c κs = reached (c .before)
 
 clear-record-requires : tie.Need-clear-record-requires
-clear-record-requires c κs = in-reach (c .before .before .before .before)
+clear-record-requires c κs = reached (c .before .before .before .before)
 
 returns-2 : tie.Need-returns-2
 unfolding clearing
@@ -38,7 +35,7 @@ returns-2 c =
     let stood = cleared .before .before in
     let kept = stood .before .before .before in
     rw (
-      ← kept .before .out-of-place .ensures,
+      ← kept .before .before .slot-count .ensures,
       kept .if1 .left,
       ← stood .before .is-standing .ensures,
       stood .if2 .taken,
@@ -49,11 +46,11 @@ returns-3 : tie.Need-returns-3
 unfolding clearing
 returns-3 c =
     let kept = c .before .before .before in
-    rw (← kept .before .out-of-place .ensures, kept .if1 .left, ← c .before .is-standing .ensures, c .if2 .left)
+    rw (← kept .before .before .slot-count .ensures, kept .if1 .left, ← c .before .is-standing .ensures, c .if2 .left)
 
 pub after-clear-spec : {M : Type 1} → statement M
 after-clear-spec =
     tie.close
     (tie.spec
-    (λ c κs. search needs) returns is-standing-requires clear-record-requires (λ c. search needs) returns-2
+    (λ c κs. search needs) (λ c. search needs) returns is-standing-requires clear-record-requires (λ c. search needs) returns-2
     (λ c. search needs) returns-3)

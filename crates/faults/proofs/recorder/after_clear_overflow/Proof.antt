@@ -1,20 +1,21 @@
 -- Each way out is a case of the definition.
 use borrow.Author.Needs.{needs}
+use borrow.Author.Tests.{le-leb, lt-leb}
 use Rattle.faults.specs.Recorder.{clearingOverflow}
 use Rattle.faults.proofs.recorder.after_clear_overflow.Statement.{statement}
 use Rattle.faults.proofs.recorder.after_clear_overflow.Tie as tie
 
 returns : tie.Need-returns
 unfolding clearingOverflow
-returns c = rw (← c .before .out-of-place .ensures, c .if1 .taken)
+returns c = rw (← c .before .before .slot-count .ensures, le-leb _ _ (c .if1 .taken))
 
 returns-2 : tie.Need-returns-2
 unfolding clearingOverflow
-returns-2 c = rw (← c .before .before .out-of-place .ensures, c .before .if1 .left, c .if2 .taken)
+returns-2 c = rw (← c .before .before .before .slot-count .ensures, lt-leb _ _ (c .before .if1 .left), c .if2 .taken)
 
 returns-3 : tie.Need-returns-3
 unfolding clearingOverflow
-returns-3 c = rw (← c .before .before .out-of-place .ensures, c .before .if1 .left, c .if2 .left)
+returns-3 c = rw (← c .before .before .before .slot-count .ensures, lt-leb _ _ (c .before .if1 .left), c .if2 .left)
 
 pub after-clear-overflow-spec : {M : Type 1} → statement M
-after-clear-overflow-spec = tie.close (tie.spec (λ c κs. search needs) returns returns-2 returns-3)
+after-clear-overflow-spec = tie.close (tie.spec (λ c κs. search needs) (λ c. search needs) returns returns-2 returns-3)

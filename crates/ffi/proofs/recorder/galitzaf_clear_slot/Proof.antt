@@ -14,13 +14,15 @@ use Rattle.ffi.proofs.recorder.galitzaf_clear_slot.Tie as tie
 
 returns : tie.Need-returns
 unfolding clearSlotCall
-returns c = rw (← c .before .is-unfit .ensures, c .if1 .taken)
+returns c = rw (← c .before .before .slot-count .ensures, ← c .before .is-unfit .ensures, c .if1 .taken)
 
-two : (c : tie.Else1) → length (c .before .before .before .before .args .recorder .now) ≡ 2
+two : (c : tie.Else1) → length (c .before .before .before .before .before .args .recorder .now) ≡ 2
 two c =
-    let a = c .before .before .before .before .args in
-    let fit = neither (c .before .is-unfit .result) (leb 8 (a .slot)) (c .if1 .left) .0 in
-    two-bytes (length (a .records .now)) (a .recorder .now) (sym (c .before .is-unfit .ensures) ∙ fit)
+    let counted = c .before .before in
+    let a = counted .before .before .before .args in
+    let slots = counted .slot-count .result in
+    let fit = neither (c .before .is-unfit .result) (leb slots (a .slot)) (c .if1 .left) .0 in
+    two-bytes slots (a .recorder .now) (sym (c .before .is-unfit .ensures) ∙ fit)
 
 shared-slice-read-if2 : tie.Need-shared-slice-read-if2
 shared-slice-read-if2 c = omega (arith, two (c .before))
@@ -29,7 +31,7 @@ returns-2 : tie.Need-returns-2
 unfolding clearSlotCall
 returns-2 c =
     let past = c .before .before in
-    rw (← past .before .is-unfit .ensures, past .if1 .left, lt-ltb _ _ (c .if2 .taken))
+    rw (← past .before .before .slot-count .ensures, ← past .before .is-unfit .ensures, past .if1 .left, lt-ltb _ _ (c .if2 .taken))
 
 read-state-requires : tie.Need-read-state-requires
 read-state-requires c κs = two (c .before .before .before)
@@ -43,17 +45,18 @@ returns-3 c =
     let first = second .before .before in
     rw (
       c .number .ensures,
+      ← first .before .before .slot-count .ensures,
       ← first .before .is-unfit .ensures,
       first .if1 .left,
       le-ltb _ _ (second .if2 .left),
       ← read .read-state .ensures .0,
       ← read .read-state .ensures .1,
     )
-    (ap withRecords (cleared .after-clear .ensures))
+    (ap withRecords (rw (← first .before .before .slot-count .ensures) at (cleared .after-clear .ensures)))
 
 pub galitzaf-clear-slot-spec : {M : Type 1} → statement M
 galitzaf-clear-slot-spec =
     tie.close
     (tie.spec
-    (λ c κs. search needs) returns shared-slice-read-if2 returns-2 read-state-requires (λ c κs. search needs)
+    (λ c κs. search needs) (λ c κs. search needs) returns shared-slice-read-if2 returns-2 read-state-requires (λ c κs. search needs)
     (λ c κs. search needs) (λ c. search needs) returns-3)

@@ -14,22 +14,24 @@ use Rattle.ffi.proofs.recorder.galitzaf_record.Tie as tie
 
 returns : tie.Need-returns
 unfolding recordCall
-returns c = rw (← c .before .is-unfit .ensures, c .if1 .taken)
+returns c = rw (← c .before .before .before .slot-count .ensures, ← c .before .is-unfit .ensures, c .if1 .taken)
 
 returns-2 : tie.Need-returns-2
 unfolding recordCall
 returns-2 c =
     let first = c .before .before in
-    rw (← first .before .is-unfit .ensures, first .if1 .left, ← c .before .bad-answer .ensures, c .if2 .taken)
+    rw (← first .before .before .before .slot-count .ensures, ← first .before .is-unfit .ensures, first .if1 .left, ← c .before .bad-answer .ensures, c .if2 .taken)
 
-two : (c : tie.Else1) → length (c .before .before .before .before .before .before .args .recorder .now) ≡ 2
+two : (c : tie.Else1) → length (c .before .before .before .before .before .before .before .args .recorder .now) ≡ 2
 two c =
-    let a = c .before .before .before .before .before .before .args in
-    two-bytes (length (a .records .now)) (a .recorder .now) (sym (c .before .is-unfit .ensures) ∙ c .if1 .left)
+    let counted = c .before .before .before in
+    two-bytes (counted .slot-count .result) (counted .before .before .before .before .args .recorder .now)
+    (sym (c .before .is-unfit .ensures) ∙ c .if1 .left)
 
-whole : (c : tie.Else2) → length (c .before .before .before .before .before .before .before .before .args .answer .now) ≡ 24
+whole : (c : tie.Else2)
+    → length (c .before .before .before .before .before .before .before .before .before .args .answer .now) ≡ 24
 whole c =
-    answer-length (c .before .before .before .before .before .before .before .before .args .answer .now)
+    answer-length (c .before .before .before .before .before .before .before .before .before .args .answer .now)
     (sym (c .before .bad-answer .ensures) ∙ c .if2 .left)
 
 slice-read-if3 : tie.Need-slice-read-if3
@@ -41,6 +43,7 @@ returns-3 c =
     let second = c .before .before in
     let first = second .before .before in
     rw (
+      ← first .before .before .before .slot-count .ensures,
       ← first .before .is-unfit .ensures,
       first .if1 .left,
       ← second .before .bad-answer .ensures,
@@ -58,6 +61,7 @@ returns-4 c =
     let second = third .before .before in
     let first = second .before .before in
     rw (
+      ← first .before .before .before .slot-count .ensures,
       ← first .before .is-unfit .ensures,
       first .if1 .left,
       ← second .before .bad-answer .ensures,
@@ -93,11 +97,12 @@ returns-5 c =
     let third = fourth .before .before in
     let second = third .before .before in
     let first = second .before .before in
-    let answer = first .before .before .before .before .before .before .args .answer .now in
+    let answer = first .before .before .before .before .before .before .before .args .answer .now in
     let fine = sym (second .before .bad-answer .ensures) ∙ second .if2 .left in
     rw (
       c .number .ensures,
       wrote .write-state .ensures,
+      ← first .before .before .before .slot-count .ensures,
       ← first .before .is-unfit .ensures,
       first .if1 .left,
       ← second .before .bad-answer .ensures,
@@ -111,13 +116,13 @@ returns-5 c =
       ← read .read-state .ensures .0,
       ← read .read-state .ensures .1,
     )
-    (ap withBoth (made .after-words .ensures))
+    (ap withBoth (rw (← first .before .before .before .slot-count .ensures) at (made .after-words .ensures)))
 
 pub galitzaf-record-spec : {M : Type 1} → statement M
 galitzaf-record-spec =
     tie.close
     (tie.spec
-    (λ c κs. search needs) (λ c. search needs) returns (λ c κs. search needs) (λ c. search needs) returns-2
+    (λ c κs. search needs) (λ c κs. search needs) (λ c. search needs) returns (λ c κs. search needs) (λ c. search needs) returns-2
     slice-read-if3 (λ c. search needs) returns-3 shared-slice-read-if4 (λ c. search needs) returns-4
     (λ c κs. search needs) (λ c κs. search needs) read-state-requires shared-slice-read-after-words
     (λ c κs. search needs) write-state-requires (λ c κs. search needs) (λ c. search needs) (λ c. search needs) returns-5)

@@ -1,5 +1,5 @@
 -- The state's length, then what the recorder itself looks at.
-use mathlib.Core.Path.{_∙_}
+use native.Mathlib.Omega.{arith}
 use borrow.Author.Needs.{needs}
 use Rattle.ffi.proofs.States.{wrong-length, by-place}
 use Rattle.ffi.proofs.recorder.is_unfit.Statement.{statement}
@@ -7,13 +7,16 @@ use Rattle.ffi.proofs.recorder.is_unfit.Tie as tie
 
 returns : tie.Need-returns
 returns c =
-    let a = c .before .before .args in
-    wrong-length (a .len) (a .recorder .now) (c .if1 .taken)
+    let a = c .before .args in
+    wrong-length (a .slots) (a .recorder .now) (c .if1 .taken)
+
+cast-result : tie.Need-cast-result
+cast-result c = omega (arith, c .shared-slice-known .given 0)
 
 returns-2 : tie.Need-returns-2
 returns-2 c =
-    let a = c .before .before .before .before .args in
-    c .out-of-place .ensures ∙ by-place (a .len) (a .recorder .now) (c .before .before .if1 .left)
+    let a = c .before .before .args in
+    by-place (a .slots) (a .recorder .now) (c .before .if1 .left)
 
 pub is-unfit-spec : {M : Type 1} → statement M
-is-unfit-spec = tie.close (tie.spec returns (λ c. search needs) (λ c κs. search needs) returns-2)
+is-unfit-spec = tie.close (tie.spec returns (λ c. search needs) cast-result returns-2)
