@@ -2,6 +2,7 @@ pub mod Buffer
 pub mod Contents
 pub mod Examples
 pub mod InPlace
+pub mod Lending
 pub mod Numbers
 pub mod Recording
 pub mod Standing

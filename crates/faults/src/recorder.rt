@@ -51,6 +51,23 @@ impl RecorderAnswer {
     }
 }
 
+// What the recorder is handed of a fault: whether it may be recorded, and its record.
+pub struct FaultRecord {
+    pub recordable: bool,
+    pub low: u64,
+    pub high: u64,
+}
+
+pub fn record_of(fault: Fault) -> FaultRecord
+    ensures { λ r. ⌜ (r .recordable ≡ fault .recordable) × (spell (r .low ∷ r .high ∷ []) ≡ faultOf fault .contents) ⌝ }
+{
+    FaultRecord {
+        recordable: fault.recordable,
+        low: fault.low,
+        high: fault.high,
+    }
+}
+
 // A call's answer, with the recorder that it leaves.
 pub struct RecorderStep {
     pub answer: RecorderAnswer,
@@ -133,8 +150,8 @@ pub fn after_words(
 }
 
 // The recorder after a fault was handed to it.
-pub fn after_record(buffer: &mut [u8], recorder: Recorder, fault: Fault) -> RecorderStep
-    ensures { λ r. ⌜ afterOf r (now (buffer .exit)) ≡ recording (slotsIn (now (buffer .entry))) (now (buffer .entry)) (recorder .next) (recorder .overflow) (fault .recordable) (faultOf fault .contents) ⌝ }
+pub fn after_record(buffer: &mut [u8], recorder: Recorder, fault: FaultRecord) -> RecorderStep
+    ensures { λ r. ⌜ afterOf r (now (buffer .exit)) ≡ recording (slotsIn (now (buffer .entry))) (now (buffer .entry)) (recorder .next) (recorder .overflow) (fault .recordable) (spell (fault .low ∷ fault .high ∷ [])) ⌝ }
 {
     after_words(buffer, recorder, fault.recordable, fault.low, fault.high)
 }

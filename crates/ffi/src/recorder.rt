@@ -10,10 +10,11 @@ use crate::status::BAD_ANSWER;
 use crate::status::BAD_RECORDER;
 use crate::status::NO_FAULT;
 use crate::status::REFUSED_3;
+use faults::FaultRecord;
 use faults::Recorder;
-use faults::after_clear;
 use faults::after_clear_overflow;
-use faults::after_words;
+use faults::cleared;
+use faults::recorded;
 use faults::slot_count;
 
 // Refusal 3, as far as every call checks it: a state that isn't 2 bytes, or records or a next slot out of place.
@@ -55,7 +56,7 @@ pub extern "C" fn galitzaf_clear_slot(records: &mut [u8], recorder: &[u8], slot:
     if 1 < recorder[1] {
         return BAD_RECORDER;
     }
-    let step = after_clear(records, read_state(recorder), slot);
+    let step = cleared(records, read_state(recorder), slot);
     let answer = step.answer;
     answer.number()
 }
@@ -105,7 +106,12 @@ pub extern "C" fn galitzaf_record(answer: &[u8], records: &mut [u8], recorder: &
     }
     let low = word(answer, 8);
     let high = word(answer, 16);
-    let step = after_words(records, read_state(recorder), answer[2] == 1, low, high);
+    let fault = FaultRecord {
+        recordable: answer[2] == 1,
+        low,
+        high,
+    };
+    let step = recorded(records, read_state(recorder), fault);
     let said = step.answer;
     let left = step.recorder;
     write_state(recorder, left);

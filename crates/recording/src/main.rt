@@ -95,12 +95,12 @@ fn one_call(buffer: &mut [u8], recorder: Recorder, x: u64) -> RecorderStep {
     let kind = x % 16;
     let rest = x / 16;
     match kind {
-        0..=8 => faults::after_record(buffer, recorder, fault_of(rest)),
-        9..=13 => faults::after_clear(buffer, recorder, slot_of(rest, buffer.len())),
+        0..=8 => faults::recorded(buffer, recorder, faults::record_of(fault_of(rest))),
+        9..=13 => faults::cleared(buffer, recorder, slot_of(rest, buffer.len())),
         14 => faults::after_clear_overflow(buffer, recorder),
         _ => {
             let mut short = [0u8; 112];
-            faults::after_record(&mut short, recorder, fault_of(rest))
+            faults::recorded(&mut short, recorder, faults::record_of(fault_of(rest)))
         }
     }
 }

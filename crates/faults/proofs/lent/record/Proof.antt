@@ -48,16 +48,16 @@ use denote.Triple.Walked.{
 }
 use denote.Exit.{yes}
 use denote.Signature.{plain}
-use Rattle.faults.specs.declared.fault.Fault.{Fault}
+use Rattle.faults.specs.declared.recorder.FaultRecord.{FaultRecord}
 use Rattle.faults.specs.declared.recorder.Recorder.{Recorder}
 use Rattle.faults.specs.declared.recorder.RecorderStep.{RecorderStep}
 use Rattle.faults.specs.Answers.{afterOf}
-use Rattle.faults.specs.Fault.{faultOf}
+use Rattle.image.specs.Entries.{spell}
 use Rattle.faults.specs.Recorder.{recording}
 use Rattle.faults.specs.Slots.{slotsIn}
 use Rattle.faults.proofs.InPlace.{t-vals, e-val, Left, walk}
-use Rattle.faults.proofs.fault.Fault as F
-use Rattle.faults.proofs.fault.Fault.Laws as F′
+use Rattle.faults.proofs.recorder.FaultRecord as F
+use Rattle.faults.proofs.recorder.FaultRecord.Laws as F′
 use Rattle.faults.proofs.recorder.Recorder as T
 use Rattle.faults.proofs.recorder.Recorder.Laws as T′
 use Rattle.faults.proofs.recorder.RecorderAnswer as E
@@ -79,14 +79,14 @@ stayed =
 abbrev After : {M : Type 1} (𝓤 : URA M) (H : Heap 𝓤) (A : Atoms 𝓤) (mem : Memory → SProp 𝓤) (run : Routine → Fun 𝓤) → Contract 𝓤
 After 𝓤 H A mem run = tripleOf 𝓤 H A after.signature (after.spec 𝓤 H A mem run)
 
-abbrev f-vals : Fault → List Val
+abbrev f-vals : FaultRecord → List Val
 f-vals = LL.vals F.the-type F′.the-laws
 
-module _ {M : Type 1} (𝓤 : URA M) (H : Heap 𝓤) (A : Atoms 𝓤) (W : Given 𝓤 H A) (at-mem : Memory → SProp 𝓤) (run : Routine → Fun 𝓤) (κ κ′ : Lft) (bounds : AllOutlive 2 (lent.signature .outlives) (κ, (κ′, tt))) (q q′ : Share) (b o : ℕ) (γ : GName) (h : Recorder) (b′ o′ : ℕ) (γ′ : GName) (ys : List ℕ) (p : Fault) (is : Is F.the-row p (f-vals p)) where
+module _ {M : Type 1} (𝓤 : URA M) (H : Heap 𝓤) (A : Atoms 𝓤) (W : Given 𝓤 H A) (at-mem : Memory → SProp 𝓤) (run : Routine → Fun 𝓤) (κ κ′ : Lft) (bounds : AllOutlive 2 (lent.signature .outlives) (κ, (κ′, tt))) (q q′ : Share) (b o : ℕ) (γ : GName) (h : Recorder) (b′ o′ : ℕ) (γ′ : GName) (ys : List ℕ) (p : FaultRecord) (is : Is F.the-row p (f-vals p)) where
   abbrev x : RefT (List ℕ)
   x = record { ptr = (b′, o′); name = γ′; now = ys }
 
-  abbrev a : RefT Recorder × (RefT (List ℕ) × (Fault × Unit {0}))
+  abbrev a : RefT Recorder × (RefT (List ℕ) × (FaultRecord × Unit {0}))
   a = (record { ptr = (b, o); name = γ; now = h }, (x, (p, tt)))
 
   abbrev s : Val
@@ -100,7 +100,7 @@ module _ {M : Type 1} (𝓤 : URA M) (H : Heap 𝓤) (A : Atoms 𝓤) (W : Given
 
   -- what the call by value says, and what its triple binds outside
   abbrev Said : RecorderStep → List ℕ → Type 0
-  Said r zs = afterOf r zs ≡ recording (slotsIn ys) ys (h .next) (h .overflow) (p .recordable) (faultOf p .contents)
+  Said r zs = afterOf r zs ≡ recording (slotsIn ys) ys (h .next) (h .overflow) (p .recordable) (spell (p .low ∷ p .high ∷ []))
 
   abbrev to-after : After 𝓤 H A at-mem run .Ghost
   to-after = (((κ′, tt), (q′, tt), tt, (x, (h, (p, tt))), (s ∷ [], (t-vals h, (f-vals p, tt)))), tt)

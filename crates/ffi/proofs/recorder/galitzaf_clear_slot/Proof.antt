@@ -52,7 +52,7 @@ returns-3 c =
       ← read .read-state .ensures .0,
       ← read .read-state .ensures .1,
     )
-    (ap withRecords (rw (← first .before .before .slot-count .ensures) at (cleared .after-clear .ensures)))
+    (ap withRecords (rw (← first .before .before .slot-count .ensures) at (cleared .cleared .ensures)))
 
 pub galitzaf-clear-slot-spec : {M : Type 1} → statement M
 galitzaf-clear-slot-spec =

@@ -72,18 +72,13 @@ returns-4 c =
 
 read-state-requires : tie.Need-read-state-requires
 read-state-requires c κs =
-    let fourth = c .before .before .before .before in
+    let fourth = c .before .before .before .before .before in
     two (fourth .before .before .before .before .before .before)
-
-shared-slice-read-after-words : tie.Need-shared-slice-read-after-words
-shared-slice-read-after-words c =
-    let fourth = c .before .before .before .before .before .before in
-    omega (arith, whole (fourth .before .before .before .before))
 
 write-state-requires : tie.Need-write-state-requires
 write-state-requires c κs =
-    let read = c .before .before .before .before .before .before in
-    let fourth = read .before .before .before .before .before in
+    let read = c .before .before .before .before .before in
+    let fourth = read .before .before .before .before .before .before in
     two (fourth .before .before .before .before .before .before)
 
 returns-5 : tie.Need-returns-5
@@ -91,8 +86,8 @@ unfolding recordCall wordAt
 returns-5 c =
     let wrote = c .before .before .before in
     let made = wrote .before .before .before .before .before in
-    let read = made .before .before in
-    let words = read .before .before .before in
+    let read = made .before in
+    let words = read .before .before .before .before in
     let fourth = words .before .before in
     let third = fourth .before .before in
     let second = third .before .before in
@@ -116,7 +111,7 @@ returns-5 c =
       ← read .read-state .ensures .0,
       ← read .read-state .ensures .1,
     )
-    (ap withBoth (rw (← first .before .before .before .slot-count .ensures) at (made .after-words .ensures)))
+    (ap withBoth (rw (← first .before .before .before .slot-count .ensures) at (made .recorded .ensures)))
 
 pub galitzaf-record-spec : {M : Type 1} → statement M
 galitzaf-record-spec =
@@ -124,5 +119,6 @@ galitzaf-record-spec =
     (tie.spec
     (λ c κs. search needs) (λ c κs. search needs) (λ c. search needs) returns (λ c κs. search needs) (λ c. search needs) returns-2
     slice-read-if3 (λ c. search needs) returns-3 shared-slice-read-if4 (λ c. search needs) returns-4
-    (λ c κs. search needs) (λ c κs. search needs) read-state-requires shared-slice-read-after-words
+    (λ c κs. search needs) (λ c κs. search needs)
+    (λ c. omega (arith, whole (c .before .before .before .before .before .before .before))) read-state-requires
     (λ c κs. search needs) write-state-requires (λ c κs. search needs) (λ c. search needs) (λ c. search needs) returns-5)
