@@ -88,9 +88,9 @@ fn print_refusal(number: u8) {
     text(b"\n");
 }
 
-fn memory(image: &[u8], source: u16, address: u64, write: bool) {
+fn memory(image: &[u8], source: SourceId, address: u64, write: bool) {
     let request = MemoryRequest {
-        source: SourceId::from_number(source),
+        source,
         address,
         write,
     };
@@ -101,7 +101,7 @@ fn memory(image: &[u8], source: u16, address: u64, write: bool) {
     }
     hex(address);
     text(b" from ");
-    hex(source as u64);
+    hex(source.id as u64);
     text(b": ");
     match unit::memory_request(registers(), image, request) {
         MemoryAnswer::Granted(host) => {
@@ -141,9 +141,9 @@ fn print_posted(posted: Posted) {
     }
 }
 
-fn interrupt(image: &mut [u8], source: u16, address: u64, data: u32) {
+fn interrupt(image: &mut [u8], source: SourceId, address: u64, data: u32) {
     let request = InterruptRequest {
-        source: SourceId::from_number(source),
+        source,
         address,
         data,
     };
@@ -152,7 +152,7 @@ fn interrupt(image: &mut [u8], source: u16, address: u64, data: u32) {
     text(b" data ");
     hex(data as u64);
     text(b" from ");
-    hex(source as u64);
+    hex(source.id as u64);
     text(b": ");
     match unit::interrupt_request(registers(), image, request) {
         InterruptAnswer::Passed => text(b"passed\n"),
@@ -175,49 +175,49 @@ fn print_post(image: &[u8; 32768]) {
 fn shorter_case(image: &[u8]) {
     if 0 < image.len() {
         let end = image.len() - 1;
-        memory(&image[..end], 0x0310, 0x40BF_F000, false);
+        memory(&image[..end], SourceId::new(0x03, 0x10), 0x40BF_F000, false);
     }
 }
 
 fn memory_cases(image: &[u8]) {
     text(b"1. ");
-    memory(image, 0x0310, 0x4020_1ABC, false);
+    memory(image, SourceId::new(0x03, 0x10), 0x4020_1ABC, false);
     text(b"2. ");
-    memory(image, 0x0310, 0x4020_1ABC, true);
+    memory(image, SourceId::new(0x03, 0x10), 0x4020_1ABC, true);
     text(b"3. ");
-    memory(image, 0x0310, 0x4020_2000, false);
+    memory(image, SourceId::new(0x03, 0x10), 0x4020_2000, false);
     text(b"4. ");
-    memory(image, 0x0310, 0x4041_2345, false);
+    memory(image, SourceId::new(0x03, 0x10), 0x4041_2345, false);
     text(b"5. ");
-    memory(image, 0x0310, 0x4060_0000, false);
+    memory(image, SourceId::new(0x03, 0x10), 0x4060_0000, false);
     text(b"6. ");
-    memory(image, 0x0310, 0x4080_0000, false);
+    memory(image, SourceId::new(0x03, 0x10), 0x4080_0000, false);
     text(b"7. ");
-    memory(image, 0x0310, 0x40BF_F000, false);
+    memory(image, SourceId::new(0x03, 0x10), 0x40BF_F000, false);
     text(b"   one byte shorter: ");
     shorter_case(image);
     text(b"8. ");
-    memory(image, 0x0310, 0x7F_FFFF_FFFF, false);
+    memory(image, SourceId::new(0x03, 0x10), 0x7F_FFFF_FFFF, false);
     text(b"   ");
-    memory(image, 0x0310, 0x80_0000_0000, false);
+    memory(image, SourceId::new(0x03, 0x10), 0x80_0000_0000, false);
     text(b"9. ");
-    memory(image, 0x0410, 0x4020_1ABC, false);
+    memory(image, SourceId::new(0x04, 0x10), 0x4020_1ABC, false);
     text(b"   ");
-    memory(image, 0x0311, 0x4020_1ABC, false);
+    memory(image, SourceId::new(0x03, 0x11), 0x4020_1ABC, false);
 }
 
 fn interrupt_cases(image: &mut [u8; 32768]) {
     text(b"10. ");
-    interrupt(image, 0x0310, 0xFEE0_0050, 0);
+    interrupt(image, SourceId::new(0x03, 0x10), 0xFEE0_0050, 0);
     text(b"    ");
-    interrupt(image, 0x0311, 0xFEE0_0050, 0);
+    interrupt(image, SourceId::new(0x03, 0x11), 0xFEE0_0050, 0);
     text(b"11. ");
-    interrupt(image, 0x0310, 0xFEEF_FFFC, 3);
+    interrupt(image, SourceId::new(0x03, 0x10), 0xFEEF_FFFC, 3);
     text(b"12. ");
-    interrupt(image, 0x0310, 0xFEE0_0090, 0);
+    interrupt(image, SourceId::new(0x03, 0x10), 0xFEE0_0090, 0);
     print_post(image);
     text(b"    again: ");
-    interrupt(image, 0x0310, 0xFEE0_0090, 0);
+    interrupt(image, SourceId::new(0x03, 0x10), 0xFEE0_0090, 0);
     print_post(image);
 }
 

@@ -7,7 +7,7 @@ use Rattle.image.specs.Entries.{spell}
 use Rattle.image.specs.Memory.{wordAt, ofImage, entry}
 use Rattle.image.specs.Rules.{run, mapRules}
 use Rattle.registers.specs.Admission.{admission}
-use Rattle.registers.specs.Registers.{badRegisters}
+use Rattle.registers.specs.Registers.{registersBad}
 use Rattle.faults.specs.Record.{silenced, memoryRecord, fromBit64, memoryFault, indexField, interruptRecord, interruptFault}
 use Rattle.dma.specs.Context.{contextReserved, contextInvalid, contextCheck}
 use Rattle.dma.specs.Page.{pageReserved, pageCheck}
@@ -29,7 +29,7 @@ unfolding bench layout bytesOf
 whole = refl
 
 answered : answers (rows bench) ≡ said (rows bench)
-unfolding answers said resultOf changed bench layout bytesOf littleEndian bits spell wordAt ofImage entry run mapRules admission badRegisters silenced memoryRecord fromBit64 memoryFault indexField interruptRecord interruptFault contextReserved contextInvalid contextCheck pageReserved pageCheck memoryRules rootReserved rootCheck widthRules contextRules rootRules walkRules descriptorCheck descriptorRules indexRules requestRules interruptRules reservedIrte irteCheck setBit requestCheck sourceAllowed
+unfolding answers said resultOf changed bench layout bytesOf littleEndian bits spell wordAt ofImage entry run mapRules admission registersBad silenced memoryRecord fromBit64 memoryFault indexField interruptRecord interruptFault contextReserved contextInvalid contextCheck pageReserved pageCheck memoryRules rootReserved rootCheck widthRules contextRules rootRules walkRules descriptorCheck descriptorRules indexRules requestRules interruptRules reservedIrte irteCheck setBit requestCheck sourceAllowed
 answered = refl
 
 pub twelve-cases : TwelveCases

@@ -16,7 +16,7 @@ use Rattle.image.specs.Memory.{wordAt, ofImage, entry}
 use Rattle.image.specs.Rules.{run, mapRules, named, entriesOf, wordsFrom}
 use Rattle.image.proofs.Longer.{longer}
 use Rattle.registers.specs.Admission.{admission}
-use Rattle.registers.specs.Registers.{badRegisters}
+use Rattle.registers.specs.Registers.{registersBad}
 use Rattle.faults.specs.Record.{silenced, memoryRecord, fromBit64, memoryFault}
 use Rattle.dma.specs.Context.{contextReserved, contextInvalid, contextCheck}
 use Rattle.dma.specs.Isolation.{answerOver, accessFault, walkedByAny, Disjoint, Apart, Switched, SwitchedOn, SwitchedOff}
@@ -99,19 +99,19 @@ after page table p t = inr (omega (arith, low table t, high page p))
 
 -- rights switched on, over the image in which 4018 is only readable
 on-walked : walkedByAny benchRegisters (reads ∷ beyond ∷ []) readable ≡ pages
-unfolding walkedByAny readable bench layout bytesOf littleEndian bits wordAt ofImage entry entriesOf mapRules admission badRegisters contextReserved contextInvalid contextCheck pageReserved pageCheck memoryRules rootReserved rootCheck widthRules contextRules rootRules walkRules
+unfolding walkedByAny readable bench layout bytesOf littleEndian bits wordAt ofImage entry entriesOf mapRules admission registersBad contextReserved contextInvalid contextCheck pageReserved pageCheck memoryRules rootReserved rootCheck widthRules contextRules rootRules walkRules
 on-walked = refl
 
 on-tables : tableEntries benchRegisters reads (ofImage readable) ≡ tables
-unfolding readable bench layout bytesOf littleEndian bits wordAt ofImage entry entriesOf mapRules admission badRegisters contextReserved contextInvalid contextCheck pageReserved pageCheck memoryRules rootReserved rootCheck widthRules contextRules rootRules walkRules
+unfolding readable bench layout bytesOf littleEndian bits wordAt ofImage entry entriesOf mapRules admission registersBad contextReserved contextInvalid contextCheck pageReserved pageCheck memoryRules rootReserved rootCheck widthRules contextRules rootRules walkRules
 on-tables = refl
 
 on-granted : answerOver benchRegisters reads readable ≡ granted 0x12345ABC
-unfolding readable bench layout bytesOf littleEndian bits wordAt ofImage entry run mapRules admission badRegisters contextReserved contextInvalid contextCheck pageReserved pageCheck memoryRules rootReserved rootCheck widthRules contextRules rootRules walkRules
+unfolding readable bench layout bytesOf littleEndian bits wordAt ofImage entry run mapRules admission registersBad contextReserved contextInvalid contextCheck pageReserved pageCheck memoryRules rootReserved rootCheck widthRules contextRules rootRules walkRules
 on-granted = refl
 
 walker-faulted : accessFault (answerOver benchRegisters beyond readable) ≡ true
-unfolding readable memoryFault bench layout bytesOf littleEndian bits wordAt ofImage entry run mapRules admission badRegisters contextReserved contextInvalid contextCheck pageReserved pageCheck memoryRules rootReserved rootCheck widthRules contextRules rootRules walkRules
+unfolding readable memoryFault bench layout bytesOf littleEndian bits wordAt ofImage entry run mapRules admission registersBad contextReserved contextInvalid contextCheck pageReserved pageCheck memoryRules rootReserved rootCheck widthRules contextRules rootRules walkRules
 walker-faulted = refl
 
 on-switched : SwitchedOn (walkedByAny benchRegisters (reads ∷ beyond ∷ []) readable) readable (set (set readable 0x5008 3) 0x4018 3)
@@ -124,15 +124,15 @@ on-switched =
 
 -- rights switched off, over the bench image
 off-walked : walkedByAny benchRegisters (writes ∷ beyond ∷ []) bench ≡ pages
-unfolding walkedByAny bench layout bytesOf littleEndian bits wordAt ofImage entry entriesOf mapRules admission badRegisters contextReserved contextInvalid contextCheck pageReserved pageCheck memoryRules rootReserved rootCheck widthRules contextRules rootRules walkRules
+unfolding walkedByAny bench layout bytesOf littleEndian bits wordAt ofImage entry entriesOf mapRules admission registersBad contextReserved contextInvalid contextCheck pageReserved pageCheck memoryRules rootReserved rootCheck widthRules contextRules rootRules walkRules
 off-walked = refl
 
 off-tables : tableEntries benchRegisters writes (ofImage bench) ≡ tables
-unfolding bench layout bytesOf littleEndian bits wordAt ofImage entry entriesOf mapRules admission badRegisters contextReserved contextInvalid contextCheck pageReserved pageCheck memoryRules rootReserved rootCheck widthRules contextRules rootRules walkRules
+unfolding bench layout bytesOf littleEndian bits wordAt ofImage entry entriesOf mapRules admission registersBad contextReserved contextInvalid contextCheck pageReserved pageCheck memoryRules rootReserved rootCheck widthRules contextRules rootRules walkRules
 off-tables = refl
 
 off-blocked : (host : ℕ) → answerOver benchRegisters writes bench ≡ granted host → ⊥
-unfolding bench layout bytesOf littleEndian bits wordAt ofImage entry run mapRules admission badRegisters contextReserved contextInvalid contextCheck pageReserved pageCheck memoryRules rootReserved rootCheck widthRules contextRules rootRules walkRules
+unfolding bench layout bytesOf littleEndian bits wordAt ofImage entry run mapRules admission registersBad contextReserved contextInvalid contextCheck pageReserved pageCheck memoryRules rootReserved rootCheck widthRules contextRules rootRules walkRules
 off-blocked host h = let z : _≡_ {A = ℕ} 0 1 = cc in omega arith
 
 off-switched : SwitchedOff (walkedByAny benchRegisters (writes ∷ beyond ∷ []) bench) bench (set (set bench 0x5008 0) 0x4018 0)
@@ -145,11 +145,11 @@ off-switched =
 
 -- second images
 memory-answered : accessFault (answerOver benchRegisters reads bench) ≡ false
-unfolding bench layout bytesOf littleEndian bits wordAt ofImage entry run mapRules admission badRegisters contextReserved contextInvalid contextCheck pageReserved pageCheck memoryRules rootReserved rootCheck widthRules contextRules rootRules walkRules
+unfolding bench layout bytesOf littleEndian bits wordAt ofImage entry run mapRules admission registersBad contextReserved contextInvalid contextCheck pageReserved pageCheck memoryRules rootReserved rootCheck widthRules contextRules rootRules walkRules
 memory-answered = refl
 
 memory-alike : SameWords bench (take 0x5010 bench) (named (memoryRules benchRegisters reads) (ofImage bench))
-unfolding bench layout bytesOf littleEndian bits wordAt ofImage entry named wordsFrom SameWords mapRules admission badRegisters contextReserved contextInvalid contextCheck pageReserved pageCheck memoryRules rootReserved rootCheck widthRules contextRules rootRules walkRules
+unfolding bench layout bytesOf littleEndian bits wordAt ofImage entry named wordsFrom SameWords mapRules admission registersBad contextReserved contextInvalid contextCheck pageReserved pageCheck memoryRules rootReserved rootCheck widthRules contextRules rootRules walkRules
 memory-alike = (
   record { whole = lit≤ tt; whole′ = lit≤ tt; bytes = refl },
   (
@@ -171,18 +171,18 @@ memory-alike = (
 )
 
 interrupt-alike : SameWords bench (take 0x6030 bench) (namedWords benchRegisters remaps bench)
-unfolding bench layout bytesOf littleEndian bits wordAt ofImage entry named wordsFrom SameWords mapRules admission badRegisters indexRules requestRules interruptRules reservedIrte irteCheck requestCheck sourceAllowed
+unfolding bench layout bytesOf littleEndian bits wordAt ofImage entry named wordsFrom SameWords mapRules admission registersBad indexRules requestRules interruptRules reservedIrte irteCheck requestCheck sourceAllowed
 interrupt-alike = (
   record { whole = lit≤ tt; whole′ = lit≤ tt; bytes = refl },
   (record { whole = lit≤ tt; whole′ = lit≤ tt; bytes = refl }, tt),
 )
 
 interrupt-answered : AccessFault (outcome benchRegisters remaps bench) → ⊥
-unfolding bench layout bytesOf littleEndian bits wordAt ofImage entry run mapRules admission badRegisters indexRules requestRules interruptRules reservedIrte irteCheck requestCheck sourceAllowed
+unfolding bench layout bytesOf littleEndian bits wordAt ofImage entry run mapRules admission registersBad indexRules requestRules interruptRules reservedIrte irteCheck requestCheck sourceAllowed
 interrupt-answered fault = fault
 
 post-answered : outcome benchRegisters posts (take 0x6440 bench) ≡ posted 0x6400 0x31 (notice 0xF2 7)
-unfolding bench layout bytesOf littleEndian bits wordAt ofImage entry run mapRules admission badRegisters descriptorRules indexRules requestRules interruptRules reservedIrte irteCheck requestCheck sourceAllowed descriptorCheck
+unfolding bench layout bytesOf littleEndian bits wordAt ofImage entry run mapRules admission registersBad descriptorRules indexRules requestRules interruptRules reservedIrte irteCheck requestCheck sourceAllowed descriptorCheck
 post-answered = refl
 
 post-alike : SameWords (take 0x6440 bench) bench (namedWords benchRegisters posts (take 0x6440 bench))

@@ -7,7 +7,7 @@ use Rattle.image.specs.Rules.{run}
 use Rattle.image.proofs.Trees.{run-map}
 use Rattle.registers.specs.Admission.{Admitted, refusal, pass, take, admission, inInterruptRange}
 use Rattle.registers.specs.declared.Registers.{Registers}
-use Rattle.dma.specs.Requests.{MemoryOutcome, granted, refused, outcome, memoryRules}
+use Rattle.dma.specs.Requests.{MemoryOutcome, granted, refused, memoryOutcome, memoryRules}
 use Rattle.dma.specs.Translation.{translationRules}
 use Rattle.dma.specs.declared.MemoryRequest.{MemoryRequest}
 
@@ -26,6 +26,6 @@ module _ (registers : Registers) (request : MemoryRequest) (m : Memory) where
     passes h = rw (← kind, ← h)
 
     pub takes : take ≡ admitted wrong
-        → outcome request (run (translationRules registers (request .address) (request .write) (request .source .id)) m) ≡ run (memoryRules registers request) m
+        → memoryOutcome request (run (translationRules registers (request .address) (request .write) (request .source .id)) m) ≡ run (memoryRules registers request) m
     unfolding memoryRules
-    takes h = rw (← kind, ← h) (sym (run-map (outcome request) (translationRules registers (request .address) (request .write) (request .source .id)) m))
+    takes h = rw (← kind, ← h) (sym (run-map (memoryOutcome request) (translationRules registers (request .address) (request .write) (request .source .id)) m))

@@ -14,14 +14,14 @@ use Rattle.registers.specs.declared.Registers.{Registers}
 use Rattle.faults.specs.Record.{memoryFault}
 use Rattle.dma.specs.Isolation.{accessFault}
 use Rattle.dma.specs.Page.{pageCheck, leafAt}
-use Rattle.dma.specs.Requests.{MemoryOutcome, granted, refused, outcome, memoryRules}
+use Rattle.dma.specs.Requests.{MemoryOutcome, granted, refused, memoryOutcome, memoryRules}
 use Rattle.dma.specs.Translation.{Translation, through, leaf, fault, Reachable, pageStep, pageRules, widthRules, translationRules}
 use Rattle.dma.specs.Walk.{Step, done, down, placeIn}
 use Rattle.dma.specs.declared.context.Context.{Context}
 use Rattle.dma.specs.declared.MemoryRequest.{MemoryRequest}
 use Rattle.dma.proofs.Cases.{width-cases}
 use Rattle.dma.proofs.Lookups.{every-lookup}
-use Rattle.dma.proofs.Steps.{page-frame-lt}
+use Rattle.dma.proofs.Steps.{page-frame-lt, leaf-low}
 use Rattle.dma.proofs.Stepped.{leads-aligned}
 use Rattle.dma.proofs.Walks.{every-walk}
 
@@ -34,22 +34,22 @@ module _ (registers : Registers) (request : MemoryRequest) where
   rules = translationRules registers (request .address) (request .write) (request .source .id)
 
   abbrev Asks : EntryKind → ℕ → Translation → Type 0
-  Asks kind at t = Fork kind at (outcome request t)
+  Asks kind at t = Fork kind at (memoryOutcome request t)
 
-  -- a page that the walk reaches has its frame below 2^52, and an entry of level 1 to 5
+  -- a page that the walk reaches has its frame below 2^52, and an entry of level 1, 2 or 3
   reachable-step : (fpd : Bool) (n place : ℕ) (s : Unit {0}) (e : ℕ) (t : Translation) → n < 5
       → done t ≡ pageStep registers (request .address) (request .write) fpd (suc n) place s e → Reachable t
-  reachable-step fpd n place s e t few = on (pageCheck registers (request .write) (suc n) e) (leafAt (suc n) e) refl
+  reachable-step fpd n place s e t few = on (pageCheck registers (request .write) (suc n) e) (leafAt (suc n) e) refl refl
     where
-      on : (k : Check ℕ) (page : Bool) → pageCheck registers (request .write) (suc n) e ≡ k
+      on : (k : Check ℕ) (page : Bool) → pageCheck registers (request .write) (suc n) e ≡ k → leafAt (suc n) e ≡ page
           → _≡_ {A = Step (Unit {0}) Translation} (done t)
           (onCheck k (λ r. done (fault r fpd)) (λ frame. if page then done (leaf frame (suc n)) else down frame tt))
           → Reachable t
-      on (stop r) page told h = let is : t ≡ fault r fpd = cc in rw is tt
-      on (go frame) true told h =
+      on (stop r) page told is-page h = let is : t ≡ fault r fpd = cc in rw is tt
+      on (go frame) true told is-page h =
           let is : t ≡ leaf frame (suc n) = cc in
-          rw is (page-frame-lt registers (request .write) (suc n) e frame told, omega arith, omega arith)
-      on (go frame) false told h = let z : _≡_ {A = ℕ} 0 1 = cc in absurd (omega arith)
+          rw is (page-frame-lt registers (request .write) (suc n) e frame told, omega arith, leaf-low registers (request .write) (suc n) e frame told is-page)
+      on (go frame) false told is-page h = let z : _≡_ {A = ℕ} 0 1 = cc in absurd (omega arith)
 
   walk-forks : (fpd : Bool) (levels top : ℕ) → levels ≤ 5 → top % 8 ≡ 0
       → Every Asks Reachable levels (pageRules registers (request .address) (request .write) fpd levels top)
@@ -74,7 +74,7 @@ module _ (registers : Registers) (request : MemoryRequest) where
   pub reachable : (m : Memory) → Reachable (run rules m)
   reachable m = every-run Asks Reachable (λ kind at t is. faults t (is .0)) 9 rules m translation-forks
     where
-      faults : (t : Translation) → accessFault (outcome request t) ≡ true → Reachable t
+      faults : (t : Translation) → accessFault (memoryOutcome request t) ≡ true → Reachable t
       faults through is = tt
       faults (leaf frame level) is = let z : _≡_ {A = ℕ} 0 1 = cc in absurd (omega arith)
       faults (fault reason fpd) is = tt
@@ -84,9 +84,9 @@ module _ (registers : Registers) (request : MemoryRequest) where
   memory-forks = on (admission registers (inInterruptRange (request .address)) (registers .te))
     where
       on : (k : Admitted)
-          → Every Fork (λ o. Unit {0}) 9 (onAdmission k refused (granted (request .address)) (mapRules (outcome request) rules))
+          → Every Fork (λ o. Unit {0}) 9 (onAdmission k refused (granted (request .address)) (mapRules (memoryOutcome request) rules))
       on (refusal n) = every-answer Fork (λ o. Unit {0}) 9 (refused n) tt
       on pass = every-answer Fork (λ o. Unit {0}) 9 (granted (request .address)) tt
       on take =
-          every-map (outcome request) Fork (λ o. Unit {0}) 9 rules
+          every-map (memoryOutcome request) Fork (λ o. Unit {0}) 9 rules
           (every-weaken Asks Asks Reachable (λ t. Unit {0}) (λ kind at t h. h) (λ t h. tt) 9 rules translation-forks)

@@ -9,7 +9,7 @@ use Rattle.image.proofs.Forks.{every-named}
 use Rattle.registers.specs.Admission.{Admitted, refusal, pass, take, admission, onAdmission, inInterruptRange}
 use Rattle.registers.specs.declared.Registers.{Registers}
 use Rattle.dma.specs.Named.{AtMostNine, NoneUntaken}
-use Rattle.dma.specs.Requests.{MemoryOutcome, granted, refused, outcome, memoryRules}
+use Rattle.dma.specs.Requests.{MemoryOutcome, granted, refused, memoryOutcome, memoryRules}
 use Rattle.dma.specs.Translation.{translationRules}
 use Rattle.dma.specs.declared.MemoryRequest.{MemoryRequest}
 use Rattle.dma.proofs.Forks.{Fork, memory-forks}
@@ -24,7 +24,7 @@ none-untaken registers request image = on (admission registers (inInterruptRange
   where
     on : (k : Admitted) → k ≡ admission registers (inInterruptRange (request .address)) (registers .te)
         → (take ≡ admission registers (inInterruptRange (request .address)) (registers .te) → ⊥)
-        → named (onAdmission k refused (granted (request .address)) (mapRules (outcome request) (translationRules registers (request .address) (request .write) (request .source .id)))) (ofImage image) ≡ []
+        → named (onAdmission k refused (granted (request .address)) (mapRules (memoryOutcome request) (translationRules registers (request .address) (request .write) (request .source .id)))) (ofImage image) ≡ []
     on (refusal n) h not = refl
     on pass h not = refl
     on take h not = absurd (not h)

@@ -11,7 +11,7 @@ use lib.Dec.{eqb, leb}
 use lib.ListN.{length}
 use Rattle.image.specs.Bits.{bit, bits, anySet, inPlace}
 use Rattle.image.specs.Check.{Check, stop, go, onCheck}
-use Rattle.image.specs.Choice.{if_then_else_, _or_}
+use Rattle.image.specs.Choice.{if_then_else_}
 use Rattle.image.specs.EntryKind.{EntryKind, isPage}
 use Rattle.image.specs.Memory.{Memory, Fetched, missing, found, wordAt, ofImage, entry, onFetch}
 use Rattle.image.specs.Rules.{Rules, answer, fetch, run, entriesOf}
@@ -20,7 +20,7 @@ use Rattle.image.proofs.Forks.{every-run}
 use Rattle.image.proofs.Trees.{entries-map}
 use Rattle.image.proofs.Words.{word-inside, whole-entry}
 use Rattle.registers.specs.Admission.{Admitted, refusal, pass, take, admission, inInterruptRange}
-use Rattle.registers.specs.Registers.{badRegisters}
+use Rattle.registers.specs.Registers.{registersBad}
 use Rattle.registers.specs.Source.{busOf, devfnOf}
 use Rattle.registers.specs.declared.Registers.{Registers}
 use Rattle.dma.specs.Context.{contextCheck, faultProcessingDisabled}
@@ -28,7 +28,7 @@ use Rattle.dma.specs.Isolation.{answerOver, walkedOver}
 use Rattle.dma.specs.Lookup.{Lookup, context, noContext, onLookup, contextRules, rootRules, lookupRules}
 use Rattle.dma.specs.Page.{denied, ownRight, leafAt, pageReserved, pageCheck, hostAddress}
 use Rattle.dma.specs.Reached.{Path, frameOf, Reached, PassesThrough, Unchanged, GrantedByOwnWalk}
-use Rattle.dma.specs.Requests.{MemoryOutcome, granted, blocked, refused, outcome, memoryRules}
+use Rattle.dma.specs.Requests.{MemoryOutcome, granted, blocked, refused, memoryOutcome, memoryRules}
 use Rattle.dma.specs.Root.{rootCheck}
 use Rattle.dma.specs.Translation.{Translation, through, leaf, fault, pageStep, pageRules, widthRules, translationRules}
 use Rattle.dma.specs.Walk.{Step, done, down, onStep, placeIn, walkRules}
@@ -37,33 +37,18 @@ use Rattle.dma.specs.declared.MemoryRequest.{MemoryRequest}
 use Rattle.dma.proofs.Admissions.{refuses, passes, takes}
 use Rattle.dma.proofs.Lookups.{looked-up}
 use Rattle.dma.proofs.Stepped.{leads}
-use Rattle.dma.proofs.Steps.{past, page-frame}
+use Rattle.dma.proofs.Steps.{past, page-frame, leaf-low}
 use Rattle.dma.proofs.Walks.{every-walk}
 
--- an entry that its check lets pass has the right, and no bit 7 above level 3
+-- an entry that its check lets pass has the right
 passed-right : (registers : Registers) (write : Bool) (level e frame : ℕ) → pageCheck registers write level e ≡ go frame
-    → (ownRight write e ≡ true) × (pageReserved registers level e ≡ false)
+    → ownRight write e ≡ true
 unfolding pageCheck
 passed-right registers write level e frame h =
     let h1 = past (not (anySet e 1 0)) (denied write) _ frame h in
     let h2 = past (pageReserved registers level e) 0x0C _ frame (h1 .1) in
     let h3 = past (not (ownRight write e)) (denied write) _ frame (h2 .1) in
-    (not-false (ownRight write e) (h3 .0), h2 .0)
-
-lost : (a : Bool) → (a or true) ≡ false → ⊥
-lost true h = let z : _≡_ {A = ℕ} 0 1 = cc in omega arith
-lost false h = let z : _≡_ {A = ℕ} 0 1 = cc in omega arith
-
-leaf-by : (registers : Registers) (level e : ℕ) → pageReserved registers level e ≡ false → leafAt level e ≡ true → Dec (level ≤ 3) → level ≤ 3
-unfolding pageReserved
-leaf-by registers level e free page (yes h) = h
-leaf-by registers level e free page (no h) =
-    let high : 4 ≤ level = omega arith in
-    let large : bit e 7 ≡ true = rw (ne-eqb level 1 (λ z. omega arith)) at page in
-    absurd (lost (anySet e 51 (registers .haw)) (rw (le-leb 4 level high, large) at free))
-
-leaf-level : (registers : Registers) (level e : ℕ) → pageReserved registers level e ≡ false → leafAt level e ≡ true → level ≤ 3
-leaf-level registers level e free page = leaf-by registers level e free page (decLe level 3)
+    not-false (ownRight write e) (h3 .0)
 
 -- a path to the page with this frame, whose leaf is of this level
 record Leads (request : MemoryRequest) (image entries : List ℕ) (top frame k : ℕ) : Type 0 where
@@ -156,10 +141,10 @@ module _ (registers : Registers) (request : MemoryRequest) (image : List ℕ) wh
                 to-leaf = refl;
                 level = suc n;
                 levels = omega arith;
-                page-size = (omega arith, leaf-level registers (suc n) e (ok .1) page);
+                page-size = (omega arith, leaf-low registers (request .write) (suc n) e frame check page);
                 is-leaf = rw (← w .1) page;
                 whole = λ at is. ⊎-elim (λ same. rw same (w .0)) (λ r. absurd (List·Memᴰ·not-nil r)) (List·Memᴰ·cases-cons is);
-                right = λ at is. ⊎-elim (λ same. rw same (rw (← w .1) (ok .0))) (λ r. absurd (List·Memᴰ·not-nil r)) (List·Memᴰ·cases-cons is);
+                right = λ at is. ⊎-elim (λ same. rw same (rw (← w .1) (ok))) (λ r. absurd (List·Memᴰ·not-nil r)) (List·Memᴰ·cases-cons is);
               };
           at-level = refl;
           framed = page-frame registers (request .write) (suc n) e frame check ∙ ap (λ (x : ℕ). inPlace x 51 12) (w .1);
@@ -182,7 +167,7 @@ module _ (registers : Registers) (request : MemoryRequest) (image : List ℕ) wh
                 page-size = p .page-size;
                 is-leaf = p .is-leaf;
                 whole = λ at is. ⊎-elim (λ same. rw same (w .0)) (p .whole at) (List·Memᴰ·cases-cons is);
-                right = λ at is. ⊎-elim (λ same. rw same (rw (← w .1) (ok .0))) (p .right at) (List·Memᴰ·cases-cons is);
+                right = λ at is. ⊎-elim (λ same. rw same (rw (← w .1) (ok))) (p .right at) (List·Memᴰ·cases-cons is);
               };
           at-level = below .at-level;
           framed = below .framed;
@@ -289,7 +274,7 @@ module _ (registers : Registers) (request : MemoryRequest) (image : List ℕ) wh
   after-lookup : (host : ℕ) (l : Lookup) → run (lookupRules registers (request .source .id)) m ≡ l
       → walkedOver registers request image ≡ onLookup l (λ reason fpd. []) (λ c. entriesOf isPage (widthRules registers (request .address) (request .write) c) m)
       → (t : Translation) → onLookup l fault (λ c. run (widthRules registers (request .address) (request .write) c) m) ≡ t
-      → outcome request t ≡ granted host → Granted host
+      → memoryOutcome request t ≡ granted host → Granted host
   after-lookup host l own walked (fault reason fpd) is was = let z : _≡_ {A = ℕ} 0 1 = cc in absurd (omega arith)
   after-lookup host (noContext reason fpd) own walked through is was = let z : _≡_ {A = ℕ} 0 1 = cc in absurd (omega arith)
   after-lookup host (noContext reason fpd) own walked (leaf frame k) is was = let z : _≡_ {A = ℕ} 0 1 = cc in absurd (omega arith)
@@ -311,7 +296,7 @@ module _ (registers : Registers) (request : MemoryRequest) (image : List ℕ) wh
   walked-pages : take ≡ admission registers (inInterruptRange (request .address)) (registers .te)
       → walkedOver registers request image ≡ entriesOf isPage rules m
   unfolding memoryRules
-  walked-pages taken = rw (← taken) (entries-map (outcome request) isPage rules m)
+  walked-pages taken = rw (← taken) (entries-map (memoryOutcome request) isPage rules m)
 
   -- with TE off no entry is walked
   no-pages : pass ≡ admission registers (inInterruptRange (request .address)) (registers .te) → walkedOver registers request image ≡ []
@@ -320,7 +305,7 @@ module _ (registers : Registers) (request : MemoryRequest) (image : List ℕ) wh
 
   switched-off : pass ≡ admission registers (inInterruptRange (request .address)) (registers .te) → registers .te ≡ false
   unfolding admission
-  switched-off = by (badRegisters registers) (inInterruptRange (request .address)) (registers .te)
+  switched-off = by (registersBad registers) (inInterruptRange (request .address)) (registers .te)
     where
       by : (bad wrong on : Bool) → pass ≡ (if bad then refusal 1 else if wrong then refusal 2 else if on then take else pass) → on ≡ false
       by true wrong on h = let z : _≡_ {A = ℕ} 0 1 = cc in absurd (omega arith)

@@ -17,12 +17,12 @@ use Rattle.image.proofs.Same.{same-entry, both-missing}
 use Rattle.image.proofs.Trees.{entries-map}
 use Rattle.image.proofs.Words.{spelled, inside, word-inside, outside}
 use Rattle.registers.specs.Admission.{Admitted, refusal, pass, take, admission, inInterruptRange}
-use Rattle.registers.specs.Registers.{badRegisters}
+use Rattle.registers.specs.Registers.{registersBad}
 use Rattle.registers.proofs.Good.{good}
 use Rattle.registers.specs.declared.Registers.{Registers}
 use Rattle.dma.specs.Isolation.{answerOver, walkedOver, walkedByAny, Disjoint, Apart, Switched, SwitchedOn, SwitchedOff, RightsOn, RightsOff, Unshared}
 use Rattle.dma.specs.Lookup.{contextRules, rootRules}
-use Rattle.dma.specs.Requests.{MemoryOutcome, granted, outcome, memoryRules, walked, tableEntries}
+use Rattle.dma.specs.Requests.{MemoryOutcome, granted, memoryOutcome, memoryRules, walked, tableEntries}
 use Rattle.dma.specs.Root.{rootCheck}
 use Rattle.dma.specs.Translation.{Translation, through, leaf, fault, translationRules}
 use Rattle.dma.specs.declared.MemoryRequest.{MemoryRequest}
@@ -105,7 +105,7 @@ module _ (registers : Registers) (request : MemoryRequest) (taken : take ≡ adm
 
   tables : (m : Memory) → entriesOf isRootOrContext rules m ≡ tableEntries registers request m
   unfolding memoryRules
-  tables m = rw (← taken) (sym (entries-map (outcome request) isRootOrContext rules m))
+  tables m = rw (← taken) (sym (entries-map (memoryOutcome request) isRootOrContext rules m))
 
   -- the root and the context entry of a request are among the entries of two words that it read
   root-in : (m : Memory) {e : ℕ} → entry 2 m (rootPlace registers request) ≡ found e
@@ -147,13 +147,13 @@ module _ (registers : Registers) (request : MemoryRequest) (taken : take ≡ adm
 -- registers that are taken up are good, so HAW is far above the two bits
 taken-haw : (registers : Registers) (wrong on : Bool) → take ≡ admission registers wrong on → 2 ≤ registers .haw
 unfolding admission
-taken-haw registers wrong on h = omega (arith, good registers (go (badRegisters registers) h) .haw .least)
+taken-haw registers wrong on h = omega (arith, good registers (go (registersBad registers) h) .haw .least)
   where
     go : (bad : Bool) → take ≡ (if bad then refusal 1 else if wrong then refusal 2 else if on then take else pass) → bad ≡ false
     go true h = let z : _≡_ {A = ℕ} 0 1 = cc in absurd (omega arith)
     go false h = refl
 
-granted-at : (request : MemoryRequest) (t : Translation) {host : ℕ} → outcome request t ≡ granted host → Reaches t
+granted-at : (request : MemoryRequest) (t : Translation) {host : ℕ} → memoryOutcome request t ≡ granted host → Reaches t
 granted-at request through h = tt
 granted-at request (leaf frame level) h = tt
 granted-at request (fault reason fpd) h = let z : _≡_ {A = ℕ} 0 1 = cc in absurd (omega arith)
@@ -174,9 +174,9 @@ carried registers request image image′ same raised host = go (admission regist
         sym (passes registers request (ofImage image′) refl h) ∙ passes registers request (ofImage image) refl h ∙ was
     go take h was =
         let now = run (translationRules registers (request .address) (request .write) (request .source .id)) (ofImage image) in
-        let grants : outcome request now ≡ granted host = takes registers request (ofImage image) refl h ∙ was in
+        let grants : memoryOutcome request now ≡ granted host = takes registers request (ofImage image) refl h ∙ was in
         sym (takes registers request (ofImage image′) refl h)
-        ∙ ap (outcome request)
+        ∙ ap (memoryOutcome request)
         (kept-translation registers request (taken-haw registers _ (registers .te) h) (ofImage image) (ofImage image′) raised now
         (granted-at request now grants) (same h) refl)
         ∙ grants

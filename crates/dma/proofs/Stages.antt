@@ -1,6 +1,6 @@
 -- The stages before the page walk: where their entries are, and what a context entry's check ensures.
 use Prim.Native.Nat.{ℕ, _+_, _*_, _≤_, _<_}
-use mathlib.Core.Bool.{Bool, true, false, not}
+use mathlib.Core.Bool.{Bool, true, false, not, _||_}
 use mathlib.Core.Path.{_≡_, refl, ap, sym, _∙_}
 use mathlib.Core.List.{List}
 use native.Mathlib.Omega.{arith}
@@ -9,7 +9,7 @@ use lib.Dec.{eqb}
 use lib.ListN.{take, drop}
 use Rattle.image.specs.Bits.{bits, bit, inPlace}
 use Rattle.image.specs.Check.{Check, stop, go, onCheck}
-use Rattle.image.specs.Choice.{if_then_else_, _or_}
+use Rattle.image.specs.Choice.{if_then_else_}
 use Rattle.image.specs.Memory.{Fetched, ofImage, entry}
 use Rattle.image.proofs.Pages.{in-page}
 use Rattle.registers.specs.declared.Registers.{Registers}
@@ -37,23 +37,23 @@ pub three-to-five : (registers : Registers) (e : ℕ) → contextInvalid registe
 unfolding contextInvalid
 three-to-five registers e h = one (eqb (addressWidth e) 1) refl h
   where
-    lost : (t : Bool) → (true or t) ≡ false → ⊥
+    lost : (t : Bool) → (true || t) ≡ false → ⊥
     lost t h = let z : _≡_ {A = ℕ} 0 1 = cc in omega arith
 
     three : (t : Bool) → eqb (addressWidth e) 3 ≡ t
-        → (not (if t then registers .levels5 else false) or eqb (translationType e) 3) ≡ false → levelsOf e ≤ 5
+        → (not (if t then registers .levels5 else false) || eqb (translationType e) 3) ≡ false → levelsOf e ≤ 5
     three true q h = omega (arith, eqb-true (addressWidth e) 3 q)
     three false q h = absurd (lost (eqb (translationType e) 3) h)
 
     two : (t : Bool) → eqb (addressWidth e) 2 ≡ t
-        → (not (if t then registers .levels4 else if eqb (addressWidth e) 3 then registers .levels5 else false) or eqb (translationType e) 3) ≡ false
+        → (not (if t then registers .levels4 else if eqb (addressWidth e) 3 then registers .levels5 else false) || eqb (translationType e) 3) ≡ false
         → levelsOf e ≤ 5
     two true q h = omega (arith, eqb-true (addressWidth e) 2 q)
     two false q h = three (eqb (addressWidth e) 3) refl h
 
     one : (t : Bool) → eqb (addressWidth e) 1 ≡ t
         → (not (if t then registers .levels3 else if eqb (addressWidth e) 2 then registers .levels4 else if eqb (addressWidth e) 3 then registers .levels5 else false)
-        or eqb (translationType e) 3) ≡ false
+        || eqb (translationType e) 3) ≡ false
         → levelsOf e ≤ 5
     one true q h = omega (arith, eqb-true (addressWidth e) 1 q)
     one false q h = two (eqb (addressWidth e) 2) refl h

@@ -16,7 +16,7 @@ use Rattle.registers.specs.declared.Registers.{Registers}
 use Rattle.dma.specs.Page.{pageCheck, leafAt}
 use Rattle.dma.specs.Translation.{Translation, leaf, fault, checked, pageStep, pageOver, pageRules}
 use Rattle.dma.specs.Walk.{Step, done, down, onStep, placeIn, walkRules, stepOver}
-use Rattle.dma.specs.Checked.{stepOf}
+use Rattle.dma.specs.Answers.{stepOf}
 use denote.Enum.Declared.{tagOf}
 use Rattle.dma.proofs.page.Step.{the-type}
 use Rattle.dma.specs.declared.page.Step.{Step as StepCode}

@@ -1,17 +1,19 @@
 -- Laws of page entries.
 use Prim.Native.Nat.{ℕ, zero, suc, _+_, _*_, _-_, _/_, _%_, _^_, _<_, _≤_}
-use mathlib.Core.Bool.{Bool, true, false, not}
+use mathlib.Core.Bool.{Bool, true, false, not, _||_}
 use mathlib.Core.Path.{_≡_, refl, ap, sym, _∙_, subst}
 use native.Mathlib.Omega.{arith}
-use native.Mathlib.Nat.{lt-of-lt-of-le, div-one}
-use lib.Pow.{pow-mono}
-use lib.Dec.{lit≤}
-use Rattle.image.specs.Bits.{bits, inPlace, anySet}
+use native.Mathlib.Decide.{decLe}
+use native.Mathlib.Nat.{div-one}
+use borrow.Author.Tests.{le-leb, ne-eqb}
+use lib.Dec.{leb, lit≤}
+use Rattle.image.specs.Bits.{bits, bit, inPlace, anySet}
 use Rattle.image.specs.Check.{Check, stop, go}
 use Rattle.image.specs.Choice.{if_then_else_}
 use Rattle.image.proofs.Fields.{fits, in-place-lt}
 use Rattle.registers.specs.declared.Registers.{Registers}
-use Rattle.dma.specs.Page.{pageCheck, pageReserved, denied, ownRight}
+use Rattle.dma.specs.Page.{pageCheck, pageReserved, denied, ownRight, leafAt}
+use Rattle.dma.proofs.Reserved.{elsewhere}
 
 -- an index of 9 bits
 pub index-lt : (address n : ℕ) → bits address (20 + 9 * n) (12 + 9 * n) < 512
@@ -33,10 +35,6 @@ offset-of address level =
     let all : suc (11 + 9 * (level - 1)) - 0 ≡ 12 + 9 * (level - 1) = omega arith in
     simp (div-one, all)
 
-pub host-lt : (address level : ℕ) → level ≤ 5 → bits address (11 + 9 * (level - 1)) 0 < 2 ^ 48
-host-lt address level h =
-    lt-of-lt-of-le (fits address (11 + 9 * (level - 1)) 0) (pow-mono {j = 48} (omega arith))
-
 -- a check that goes on is past each test that would stop it
 pub past : {A : Type 0} (t : Bool) (reason : ℕ) (rest : Check A) (a : A) → (if t then stop reason else rest) ≡ go a
     → (t ≡ false) × (rest ≡ go a)
@@ -56,3 +54,24 @@ page-frame registers write level e frame h =
 pub page-frame-lt : (registers : Registers) (write : Bool) (level e frame : ℕ) → pageCheck registers write level e ≡ go frame → frame < 2 ^ 52
 page-frame-lt registers write level e frame h =
     rw (page-frame registers write level e frame h) (in-place-lt e 51 12 (lit≤ tt))
+
+-- a page that its check lets pass has an entry of level 1, 2 or 3: above, bit 7 is reserved
+pub leaf-low : (registers : Registers) (write : Bool) (level e frame : ℕ) → pageCheck registers write level e ≡ go frame → leafAt level e ≡ true
+    → level ≤ 3
+unfolding pageCheck
+leaf-low registers write level e frame h page = by (decLe level 3)
+  where
+    or-true : (a : Bool) → (a || true) ≡ true
+    or-true true = refl
+    or-true false = refl
+
+    by : Dec (level ≤ 3) → level ≤ 3
+    by (yes low) = low
+    by (no high) =
+        let large : bit e 7 ≡ true = rw (ne-eqb level 1 (λ z. omega arith)) at page in
+        let clear = past (pageReserved registers level e) 0x0C _ frame (past (not (anySet e 1 0)) (denied write) _ frame h .1) .0 in
+        let reserved = elsewhere registers e large level (λ z. omega arith) (λ z. omega arith) in
+        let all : (anySet e 51 (registers .haw) || leb 4 level) ≡ true = rw (le-leb 4 level (omega arith)) (or-true (anySet e 51 (registers .haw))) in
+        let clash : _≡_ {A = Bool} true false = sym all ∙ sym reserved ∙ clear in
+        let z : _≡_ {A = ℕ} 0 1 = cc in
+        absurd (omega arith)

@@ -1,6 +1,6 @@
 -- A memory request ends in an access fault only where an entry couldn't be fetched: no check of an entry stops with 07h, 08h or 09h.
 use Prim.Native.Nat.{ℕ, zero, suc, _+_, _*_, _^_, _<_, min}
-use mathlib.Core.Bool.{Bool, true, false, not}
+use mathlib.Core.Bool.{Bool, true, false, not, _||_}
 use mathlib.Core.Path.{_≡_, refl, ap, sym, _∙_}
 use native.Mathlib.Omega.{arith}
 use lib.Dec.{eqb, leb}
@@ -16,7 +16,7 @@ use Rattle.dma.specs.Context.{contextReserved, contextInvalid, contextCh
 use Rattle.dma.specs.Isolation.{accessReason, accessFault, AccessMeansUnfetched}
 use Rattle.dma.specs.Lookup.{contextRules, rootRules}
 use Rattle.dma.specs.Page.{denied, ownRight, leafAt, pageReserved, pageCheck, hostAddress}
-use Rattle.dma.specs.Requests.{MemoryOutcome, granted, refused, outcome, memoryRules}
+use Rattle.dma.specs.Requests.{MemoryOutcome, granted, refused, memoryOutcome, memoryRules}
 use Rattle.dma.specs.Root.{rootReserved, rootCheck}
 use Rattle.dma.specs.Translation.{Translation, through, leaf, fault, pageStep, pageRules, widthRules, translationRules}
 use Rattle.dma.specs.Walk.{Step, done, down, onStep, placeIn, walkRules}
@@ -66,7 +66,7 @@ either P false a b x y = y
 
 module _ (registers : Registers) (request : MemoryRequest) where
   abbrev Access : Translation → Type 0
-  Access t = accessFault (outcome request t) ≡ true
+  Access t = accessFault (memoryOutcome request t) ≡ true
 
   no-fault : (reason : ℕ) (fpd : Bool) → accessReason reason ≡ false → Access (fault reason fpd) → ⊥
   unfolding memoryFault
@@ -134,11 +134,11 @@ module _ (registers : Registers) (request : MemoryRequest) where
   unfolding memoryRules Inside
   inside-memory = on (admission registers (inInterruptRange (request .address)) (registers .te))
     where
-      on : (a : Admitted) → Inside (λ o. accessFault o ≡ true) (onAdmission a refused (granted (request .address)) (mapRules (outcome request) (translationRules registers (request .address) (request .write) (request .source .id))))
+      on : (a : Admitted) → Inside (λ o. accessFault o ≡ true) (onAdmission a refused (granted (request .address)) (mapRules (memoryOutcome request) (translationRules registers (request .address) (request .write) (request .source .id))))
       on (refusal n) = λ is. let z : _≡_ {A = ℕ} 0 1 = cc in omega arith
       on pass = no-grant (request .address)
       on take =
-          inside-map (outcome request) (λ o. accessFault o ≡ true) (translationRules registers (request .address) (request .write) (request .source .id))
+          inside-map (memoryOutcome request) (λ o. accessFault o ≡ true) (translationRules registers (request .address) (request .write) (request .source .id))
           inside-translation
 
 pub access-means-unfetched : AccessMeansUnfetched

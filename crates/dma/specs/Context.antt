@@ -1,10 +1,10 @@
 -- Document 01, "Context entry": context table + 16 × (device and function), 16 bytes. 70:67 are not looked at.
 use Prim.Native.Nat.{ℕ, _+_, _%_, _<_, _≤_}
-use mathlib.Core.Bool.{Bool, false, not}
+use mathlib.Core.Bool.{Bool, false, not, _||_}
 use mathlib.Core.Path.{_≡_}
 use lib.Dec.{eqb}
 use Rattle.image.specs.Bits.{bits, bit, anySet, inPlace}
-use Rattle.image.specs.Choice.{if_then_else_, _or_}
+use Rattle.image.specs.Choice.{if_then_else_}
 use Rattle.registers.specs.declared.Registers.{Registers}
 use Rattle.image.specs.Check.{Check, stop, go}
 use Rattle.dma.specs.declared.context.Context.{Context}
@@ -22,7 +22,7 @@ abbrev pub translationType : ℕ → ℕ
 translationType e = bits e 3 2
 
 unfoldable pub contextReserved : (haw e : ℕ) → Bool
-contextReserved haw e = anySet e 11 4 or bit e 71 or anySet e 127 88 or anySet e 63 haw
+contextReserved haw e = anySet e 11 4 || bit e 71 || anySet e 127 88 || anySet e 63 haw
 
 -- whether the levels that AW means are supported
 abbrev pub widthSupported : Registers → ℕ → Bool
@@ -34,7 +34,7 @@ widthSupported registers aw =
 
 unfoldable pub contextInvalid : Registers → (e : ℕ) → Bool
 contextInvalid registers e =
-    not (widthSupported registers (addressWidth e)) or eqb (translationType e) 3
+    not (widthSupported registers (addressWidth e)) || eqb (translationType e) 3
 
 -- FPD, bit 1: read even when bit 0 is clear
 abbrev pub faultProcessingDisabled : ℕ → Bool

@@ -1,7 +1,7 @@
 -- The customer's demand 3 for memory requests: the statements. Their proofs are in proofs/. Each speaks of a whole request,
 -- from registers to answer, for any registers, any image and any request.
 use Prim.Native.Nat.{ℕ, _+_, _≤_, _<_, _/_}
-use mathlib.Core.Bool.{Bool, true, false}
+use mathlib.Core.Bool.{Bool, true, false, _||_}
 use mathlib.Core.Path.{_≡_}
 use mathlib.Core.List.{List, [], _∷_, _++_, List·Memᴰ}
 use mathlib.Core.Logic.{_⊎_}
@@ -9,7 +9,6 @@ use lib.Dec.{eqb}
 use lib.ListN.{length, getD}
 use Rattle.image.specs.Alike.{SameWords}
 use Rattle.image.specs.Bits.{bits}
-use Rattle.image.specs.Choice.{_or_}
 use Rattle.image.specs.Memory.{ofImage}
 use Rattle.image.specs.Rules.{run, named}
 use Rattle.image.specs.Unfetched.{Unfetched}
@@ -23,7 +22,7 @@ answerOver registers request image = run (memoryRules registers request) (ofImag
 
 -- 07h, 08h and 09h
 abbrev pub accessReason : (reason : ℕ) → Bool
-accessReason reason = eqb reason 0x07 or eqb reason 0x08 or eqb reason 0x09
+accessReason reason = eqb reason 0x07 || eqb reason 0x08 || eqb reason 0x09
 
 abbrev pub accessFault : MemoryOutcome → Bool
 accessFault (granted address) = false

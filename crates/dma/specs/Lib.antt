@@ -1,5 +1,4 @@
 pub mod Answers
-pub mod Checked
 pub mod Context
 pub mod Isolation
 pub mod Lookup

@@ -17,10 +17,10 @@ pub data MemoryOutcome : Type 0 where
   blocked : FaultAnswer → MemoryOutcome
   refused : ℕ → MemoryOutcome
 
-abbrev pub outcome : MemoryRequest → Translation → MemoryOutcome
-outcome request through = granted (request .address)
-outcome request (leaf frame level) = granted (hostAddress level frame (request .address))
-outcome request (fault reason fpd) =
+abbrev pub memoryOutcome : MemoryRequest → Translation → MemoryOutcome
+memoryOutcome request through = granted (request .address)
+memoryOutcome request (leaf frame level) = granted (hostAddress level frame (request .address))
+memoryOutcome request (fault reason fpd) =
     blocked (memoryFault reason fpd (request .source .id) (request .address) (request .write))
 
 -- an address in the interrupt range is of the wrong kind; with TE off the address itself is granted
@@ -28,7 +28,7 @@ unfoldable pub memoryRules : Registers → MemoryRequest → Rules MemoryOutcome
 memoryRules registers request =
     onAdmission (admission registers (inInterruptRange (request .address)) (registers .te)) refused
     (granted (request .address))
-    (mapRules (outcome request) (translationRules registers (request .address) (request .write) (request .source .id)))
+    (mapRules (memoryOutcome request) (translationRules registers (request .address) (request .write) (request .source .id)))
 
 -- document 01's walked entries: the page entries, one that faults included; one that couldn't be fetched isn't among them
 abbrev pub walked : Registers → MemoryRequest → Memory → List ℕ

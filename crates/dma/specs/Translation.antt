@@ -22,7 +22,7 @@ pub data Translation : Type 0 where
 -- a page's frame and level as a walk can answer them: for the code's contracts
 abbrev pub Reachable : Translation → Type 0
 Reachable through = Unit {0}
-Reachable (leaf frame level) = (frame < 2 ^ 52) × (0 < level) × (level ≤ 5)
+Reachable (leaf frame level) = (frame < 2 ^ 52) × (0 < level) × (level ≤ 3)
 Reachable (fault reason fpd) = Unit {0}
 
 -- what a page entry's check says, told as a step: for the code's contracts

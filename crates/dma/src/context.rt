@@ -4,13 +4,14 @@ ghost use Prim.Native.Nat.{_<_};
 ghost use Rattle.image.specs.Bits.{bits};
 ghost use Rattle.image.specs.Entries.{number16};
 ghost use Rattle.dma.specs.Context.{addressWidth, levelsOf, translationType, widthSupported, contextReserved, contextInvalid, contextOf, faultProcessingDisabled};
-ghost use Rattle.dma.specs.Checked.{lookupOf};
+ghost use Rattle.dma.specs.Answers.{lookupOf};
 ghost use Rattle.dma.specs.Lookup.{checkedContext};
 use crate::entry::present;
 use crate::entry::table_address;
 use faults::Reason;
 use image::Entry16;
-use image::field;
+use image::bit16;
+use image::bits16;
 use registers::Registers;
 use registers::at_or_above_power;
 
@@ -38,21 +39,21 @@ pub enum Lookup {
 fn address_width(e: Entry16) -> u64
     ensures { λ r. ⌜ (r ≡ addressWidth (number16 e)) × (r < 8) ⌝ }
 {
-    field(e.high, 2, 0)
+    bits16(e, 66, 64)
 }
 
 // TT, bits 3:2.
 fn translation_type(e: Entry16) -> u64
     ensures { λ r. ⌜ (r ≡ translationType (number16 e)) × (r < 4) ⌝ }
 {
-    field(e.low, 3, 2)
+    bits16(e, 3, 2)
 }
 
 // Bits 87:72.
 fn domain(e: Entry16) -> u64
     ensures { λ r. ⌜ (r ≡ bits (number16 e) 87 72) × (r < 65536) ⌝ }
 {
-    field(e.high, 23, 8)
+    bits16(e, 87, 72)
 }
 
 fn width_supported(registers: Registers, aw: u64) -> bool
@@ -78,9 +79,10 @@ fn width_supported(registers: Registers, aw: u64) -> bool
 fn context_reserved(haw: u8, e: Entry16) -> bool
     ensures { λ r. ⌜ r ≡ contextReserved haw (number16 e) ⌝ }
 {
-    (field(e.low, 11, 4) != 0)
-        | ((field(e.high, 7, 7) == 1)
-            | ((field(e.high, 63, 24) != 0) | at_or_above_power(e.low, haw as u32)))
+    (bits16(e, 11, 4) != 0)
+        | bit16(e, 71)
+        | (bits16(e, 127, 88) != 0)
+        | at_or_above_power(e.low, haw as u32)
 }
 
 fn context_invalid(registers: Registers, e: Entry16) -> bool
@@ -93,7 +95,7 @@ fn context_invalid(registers: Registers, e: Entry16) -> bool
 fn fault_processing_disabled(e: Entry16) -> bool
     ensures { λ r. ⌜ r ≡ faultProcessingDisabled (number16 e) ⌝ }
 {
-    field(e.low, 1, 1) == 1
+    bit16(e, 1)
 }
 
 fn context_of(e: Entry16) -> Context

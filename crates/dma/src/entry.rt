@@ -4,7 +4,7 @@ ghost use Rattle.image.specs.Bits.{bit, anySet, inPlace};
 ghost use Rattle.image.specs.Entries.{number16};
 use faults::Reason;
 use image::Entry16;
-use image::field;
+use image::bit16;
 use image::in_place;
 
 // What an entry's check says.
@@ -18,7 +18,7 @@ pub enum Check {
 pub(crate) fn present(e: Entry16) -> bool
     ensures { λ r. ⌜ r ≡ bit (number16 e) 0 ⌝ }
 {
-    field(e.low, 0, 0) == 1
+    bit16(e, 0)
 }
 
 // The address of the table that the entry leads to.

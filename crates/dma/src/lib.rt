@@ -3,9 +3,9 @@ ghost use mathlib.Core.Path.{_≡_};
 ghost use Rattle.image.specs.Memory.{ofImage};
 ghost use Rattle.image.specs.Rules.{run};
 ghost use Rattle.dma.specs.Answers.{outcomeOf};
-ghost use Rattle.dma.specs.Checked.{translationOf};
+ghost use Rattle.dma.specs.Answers.{translationOf};
 ghost use Rattle.dma.specs.Translation.{Reachable};
-ghost use Rattle.dma.specs.Requests.{outcome, memoryRules};
+ghost use Rattle.dma.specs.Requests.{memoryOutcome, memoryRules};
 
 mod context;
 mod entry;
@@ -42,7 +42,7 @@ pub enum MemoryAnswer {
 
 fn answer(request: MemoryRequest, translated: Translation) -> MemoryAnswer
     requires { ⌜ Reachable (translationOf translated) ⌝ }
-    ensures { λ r. ⌜ outcomeOf r ≡ outcome request (translationOf translated) ⌝ }
+    ensures { λ r. ⌜ outcomeOf r ≡ memoryOutcome request (translationOf translated) ⌝ }
 {
     match translated {
         Translation::Through => MemoryAnswer::Granted(request.address),

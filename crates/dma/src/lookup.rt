@@ -3,7 +3,7 @@ ghost use mathlib.Core.Bool.{false};
 ghost use mathlib.Core.Path.{_≡_};
 ghost use Rattle.image.specs.Memory.{ofImage};
 ghost use Rattle.image.specs.Rules.{run, answer};
-ghost use Rattle.dma.specs.Checked.{checkOf, lookupOf};
+ghost use Rattle.dma.specs.Answers.{checkOf, lookupOf};
 ghost use Rattle.dma.specs.Lookup.{context, noContext, stoppedLookup, contextRules, lookupRules};
 use crate::context::Lookup;
 use crate::context::context_check;

@@ -1,10 +1,11 @@
 // A page entry: 8 bytes, at a level from 5 down to 1.
 ghost use mathlib.Core.Path.{_≡_};
-ghost use Prim.Native.Nat.{_<_};
+ghost use Prim.Native.Nat.{_+_, _*_, _-_, _^_, _<_, _≤_};
+ghost use Rattle.image.specs.Bits.{bits};
 ghost use Rattle.image.specs.Memory.{ofImage};
 ghost use Rattle.dma.specs.Page.{denied, ownRight, leafAt, pageReserved, pageCheck, hostAddress};
 ghost use Rattle.faults.specs.Reason.{numberOf};
-ghost use Rattle.dma.specs.Checked.{stepOf};
+ghost use Rattle.dma.specs.Answers.{stepOf};
 ghost use Rattle.dma.specs.Translation.{leaf, Reachable, checked, pageOver};
 use crate::MemoryRequest;
 use faults::Reason;
@@ -12,6 +13,9 @@ use image::Found8;
 use image::field;
 use image::in_place;
 use image::page_entry8;
+use registers::Page1G;
+use registers::Page2M;
+use registers::Page4K;
 use registers::Registers;
 use registers::at_or_above_power;
 
@@ -41,10 +45,10 @@ fn page_reserved(registers: Registers, level: u32, e: u64) -> bool
         return beyond;
     }
     if level == 2 {
-        return beyond | (!registers.pages_2m | (field(e, 20, 12) != 0));
+        return beyond | !registers.pages_2m | (field(e, 20, 12) != 0);
     }
     if level == 3 {
-        return beyond | (!registers.pages_1g | (field(e, 29, 12) != 0));
+        return beyond | !registers.pages_1g | (field(e, 29, 12) != 0);
     }
     beyond | (4 <= level)
 }
@@ -98,7 +102,7 @@ pub(crate) fn page_step(
     ensures { λ r. ⌜ stepOf r ≡ pageOver registers (request .address) (request .write) fpd (ofImage (now (image .entry))) below table ⌝ }
 {
     let address = request.address;
-    let index = (address >> (12 + 9 * below)) % 512;
+    let index = (address >> (Page4K::SHIFT + 9 * below)) % 512;
     let Found8::Entry(e) = page_entry8(image, table, 8 * index) else {
         return Step::Fault(Reason::PageEntryAccess, fpd);
     };
@@ -113,10 +117,23 @@ pub(crate) fn page_step(
     Step::Down(frame)
 }
 
-// The frame plus the address's low 12, 21 or 30 bits.
+// Of an address in a page by the level of its entry: the low 12, 21 or 30 bits.
+fn offset(level: u32, address: u64) -> u64
+    requires { ⌜ (0 < level) × (level ≤ 3) ⌝ }
+    ensures { λ r. ⌜ (r ≡ bits address (11 + 9 * (level - 1)) 0) × (r < 2 ^ 30) ⌝ }
+{
+    if level == 1 {
+        return Page4K::offset(address);
+    }
+    if level == 2 {
+        return Page2M::offset(address);
+    }
+    Page1G::offset(address)
+}
+
 pub(crate) fn host_address(level: u32, frame: u64, address: u64) -> u64
     requires { ⌜ Reachable (leaf frame level) ⌝ }
     ensures { λ r. ⌜ r ≡ hostAddress level frame address ⌝ }
 {
-    frame + address % (1u64 << (12 + 9 * (level - 1)))
+    frame + offset(level, address)
 }

@@ -2,20 +2,20 @@
 ghost use mathlib.Core.Path.{_≡_};
 ghost use Rattle.image.specs.Entries.{number16};
 ghost use Rattle.dma.specs.Root.{rootReserved, rootCheck};
-ghost use Rattle.dma.specs.Checked.{checkOf};
+ghost use Rattle.dma.specs.Answers.{checkOf};
 use crate::entry::Check;
 use crate::entry::present;
 use crate::entry::table_address;
 use faults::Reason;
 use image::Entry16;
-use image::field;
+use image::bits16;
 use registers::at_or_above_power;
 
 // Bits 11:1, 127:64 and 63:HAW.
 fn root_reserved(haw: u8, e: Entry16) -> bool
     ensures { λ r. ⌜ r ≡ rootReserved haw (number16 e) ⌝ }
 {
-    (field(e.low, 11, 1) != 0) | ((e.high != 0) | at_or_above_power(e.low, haw as u32))
+    (bits16(e, 11, 1) != 0) | (bits16(e, 127, 64) != 0) | at_or_above_power(e.low, haw as u32)
 }
 
 // The context table's address.

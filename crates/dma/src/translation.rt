@@ -4,7 +4,7 @@ ghost use Prim.Native.Nat.{min};
 ghost use Rattle.dma.specs.Context.{Usable};
 ghost use Rattle.image.specs.Memory.{ofImage};
 ghost use Rattle.image.specs.Rules.{run};
-ghost use Rattle.dma.specs.Checked.{lookupOf, translationOf};
+ghost use Rattle.dma.specs.Answers.{lookupOf, translationOf};
 ghost use Rattle.dma.specs.Translation.{withoutContext, widthRules, translationRules};
 use crate::MemoryRequest;
 use crate::context::Context;
@@ -12,6 +12,7 @@ use crate::context::Lookup;
 use crate::lookup::find_context;
 use crate::walk::walk;
 use faults::Reason;
+use registers::Page4K;
 use registers::Registers;
 use registers::at_or_above_power;
 
@@ -43,7 +44,7 @@ fn translate_in(
     let levels = context.levels;
     if at_or_above_power(
         request.address,
-        smaller(registers.mgaw as u32, 12 + 9 * levels),
+        smaller(registers.mgaw as u32, Page4K::SHIFT + 9 * levels),
     ) {
         return Translation::Fault(Reason::AddressOverflow, context.fpd);
     }

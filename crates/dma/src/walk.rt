@@ -3,7 +3,7 @@ ghost use mathlib.Core.Path.{_≡_};
 ghost use Prim.Native.Nat.{_≤_};
 ghost use Rattle.image.specs.Memory.{ofImage};
 ghost use Rattle.image.specs.Rules.{run};
-ghost use Rattle.dma.specs.Checked.{translationOf};
+ghost use Rattle.dma.specs.Answers.{translationOf};
 ghost use Rattle.dma.specs.Translation.{pageRules};
 use crate::MemoryRequest;
 use crate::page::Step;

@@ -7,6 +7,7 @@ ghost use Rattle.faults.specs.Reason.{numberOf};
 ghost use Rattle.faults.specs.Record.{within, silenced, recordable, indexField, memoryFault, interruptFault};
 use crate::reason::Reason;
 use crate::slots::write_record;
+use registers::Page4K;
 use registers::SourceId;
 
 // The record's 128 bits are two words, bit 64 the lowest of high.
@@ -59,7 +60,7 @@ pub fn memory_fault(reason: Reason, fpd: bool, source: SourceId, address: u64, w
     Fault {
         reason,
         recordable: may_record(fpd, number),
-        low: address / 4096 * 4096,
+        low: address / Page4K::SPAN * Page4K::SPAN,
         high: high_word(source.id, number, !write),
     }
 }

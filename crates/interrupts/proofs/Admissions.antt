@@ -9,7 +9,7 @@ use Rattle.image.specs.Memory.{Memory}
 use Rattle.image.specs.Rules.{run}
 use Rattle.image.proofs.Trees.{run-map}
 use Rattle.registers.specs.Admission.{refusal, pass, take, admission, inInterruptRange}
-use Rattle.registers.specs.Registers.{badRegisters}
+use Rattle.registers.specs.Registers.{registersBad}
 use Rattle.registers.specs.declared.Registers.{Registers}
 use Rattle.registers.proofs.Good.{Good, good, below-most}
 use Rattle.faults.specs.Record.{interruptFault}
@@ -20,9 +20,9 @@ use Rattle.interrupts.specs.declared.InterruptRequest.{InterruptRequest}
 -- registers under which a request is taken up are good
 pub taken-good : (registers : Registers) (wrong on : Bool) → take ≡ admission registers wrong on → Good registers
 unfolding admission
-taken-good registers wrong on h = go (badRegisters registers) refl h
+taken-good registers wrong on h = go (registersBad registers) refl h
   where
-    go : (t : Bool) → badRegisters registers ≡ t
+    go : (t : Bool) → registersBad registers ≡ t
         → take ≡ (if t then refusal 1 else if wrong then refusal 2 else if on then take else pass) → Good registers
     go true e h = let z : _≡_ {A = ℕ} 0 1 = cc in absurd (omega arith)
     go false e h = good registers e

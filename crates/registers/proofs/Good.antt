@@ -1,14 +1,13 @@
 -- What registers that are not refused hold, item by item.
 use Prim.Native.Nat.{ℕ, _%_, _^_, _<_, _≤_}
-use mathlib.Core.Bool.{Bool, true, false, not}
+use mathlib.Core.Bool.{Bool, true, false, not, _||_}
 use mathlib.Core.Path.{_≡_, refl}
 use native.Mathlib.Nat.{lt-of-lt-of-le}
 use borrow.Author.Tests.{ltb-false, leb-false, eqb-true, not-false}
 use lib.Dec.{leb, ltb, eqb}
 use lib.Pow.{pow-mono}
-use Rattle.image.specs.Choice.{_or_}
 use Rattle.registers.specs.declared.Registers.{Registers}
-use Rattle.registers.specs.Registers.{outside, badTable, badRegisters}
+use Rattle.registers.specs.Registers.{outside, badTable, registersBad}
 
 -- from low to high, ends included
 pub record Within (low high x : ℕ) : Type 0 where
@@ -23,12 +22,12 @@ pub record Table (haw at : ℕ) : Type 0 where
 pub record Good (r : Registers) : Type 0 where
   pub haw : Within 36 52 (r .haw)
   pub mgaw : Within 39 57 (r .mgaw)
-  pub levels : (r .levels3 or r .levels4 or r .levels5) ≡ true
+  pub levels : (r .levels3 || r .levels4 || r .levels5) ≡ true
   pub root : Table (r .haw) (r .«root_table»)
   pub interrupt : Table (r .haw) (r .«interrupt_table»)
   pub s : r .s ≤ 15
 
-neither : (a b : Bool) → (a or b) ≡ false → (a ≡ false) × (b ≡ false)
+neither : (a b : Bool) → (a || b) ≡ false → (a ≡ false) × (b ≡ false)
 neither true b e = (e, cc)
 neither false b e = (refl, e)
 
@@ -42,20 +41,20 @@ table haw at e =
     let h = neither (not (eqb (at % 4096) 0)) (leb (2 ^ haw) at) e in
     record { aligned = eqb-true _ _ (not-false _ (h .0)); below = leb-false _ _ (h .1) }
 
-pub good : (r : Registers) → badRegisters r ≡ false → Good r
-unfolding badRegisters
+pub good : (r : Registers) → registersBad r ≡ false → Good r
+unfolding registersBad
 good r e =
-    let h1 = neither _ _ e in
-    let h2 = neither _ _ (h1 .1) in
-    let h3 = neither _ _ (h2 .1) in
-    let h4 = neither _ _ (h3 .1) in
-    let h5 = neither _ _ (h4 .1) in
+    let h5 = neither _ _ e in
+    let h4 = neither _ _ (h5 .0) in
+    let h3 = neither _ _ (h4 .0) in
+    let h2 = neither _ _ (h3 .0) in
+    let h1 = neither _ _ (h2 .0) in
     record {
       haw = within 36 52 (r .haw) (h1 .0);
-      mgaw = within 39 57 (r .mgaw) (h2 .0);
-      levels = not-false _ (h3 .0);
-      root = table (r .haw) (r .«root_table») (h4 .0);
-      interrupt = table (r .haw) (r .«interrupt_table») (h5 .0);
+      mgaw = within 39 57 (r .mgaw) (h1 .1);
+      levels = not-false _ (h2 .1);
+      root = table (r .haw) (r .«root_table») (h3 .1);
+      interrupt = table (r .haw) (r .«interrupt_table») (h4 .1);
       s = within 0 15 (r .s) (h5 .1) .most;
     }
 

@@ -5,7 +5,7 @@ use mathlib.Core.Bool.{Bool, true, false, _&&_}
 use lib.Dec.{leb}
 use Rattle.image.specs.Choice.{if_then_else_}
 use Rattle.image.specs.Rules.{Rules, answer}
-use Rattle.registers.specs.Registers.{badRegisters}
+use Rattle.registers.specs.Registers.{registersBad}
 use Rattle.registers.specs.declared.Registers.{Registers}
 
 -- FEE00000h to FEEFFFFFh
@@ -20,7 +20,7 @@ pub data Admitted : Type 0 where
 
 unfoldable pub admission : Registers → (wrongKind on : Bool) → Admitted
 admission registers wrongKind on =
-    if badRegisters registers then refusal 1
+    if registersBad registers then refusal 1
     else if wrongKind then refusal 2
     else if on then take
     else pass

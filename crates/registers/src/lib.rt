@@ -1,6 +1,6 @@
 // The unit's registers, the source id of a request and the sizes of pages.
 ghost use mathlib.Core.Path.{_≡_};
-ghost use Rattle.registers.specs.Registers.{badRegisters, badTable, outside};
+ghost use Rattle.registers.specs.Registers.{registersBad, badTable, outside};
 
 mod admission;
 mod page_size;
@@ -44,7 +44,7 @@ impl Registers {
     // Refusal 1. A HAW in its range is below 64, so that the shifts by it need no test. No other test hides behind a branch:
     // good registers, the usual case, take them all.
     pub fn bad(self) -> bool
-        ensures { λ r. ⌜ r ≡ badRegisters self ⌝ }
+        ensures { λ r. ⌜ r ≡ registersBad self ⌝ }
     {
         if out_of_range(self.haw, 36, 52) {
             return true;

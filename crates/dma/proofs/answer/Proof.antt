@@ -1,6 +1,6 @@
 use mathlib.Core.Path.{_≡_, refl, ap, sym, _∙_, subst}
-use Rattle.dma.specs.Checked.{translationOf}
-use Rattle.dma.specs.Requests.{granted, blocked, outcome}
+use Rattle.dma.specs.Answers.{translationOf}
+use Rattle.dma.specs.Requests.{granted, blocked, memoryOutcome}
 use Rattle.dma.specs.Translation.{Reachable}
 use borrow.Author.Needs.{needs}
 use Rattle.dma.proofs.answer.Statement.{statement}
@@ -22,13 +22,13 @@ memory-fault-requires : tie.Need-memory-fault-requires
 memory-fault-requires c κs = search needs
 
 returns : tie.Need-returns
-returns c = sym (ap (λ t. outcome (c .before .before .args .request) (translationOf t)) (c .enum-told .given .1))
+returns c = sym (ap (λ t. memoryOutcome (c .before .before .args .request) (translationOf t)) (c .enum-told .given .1))
 
 returns-2 : tie.Need-returns-2
-returns-2 c = ap granted (c .host-address .ensures) ∙ sym (ap (λ t. outcome (c .before .before .before .before .args .request) (translationOf t)) (c .before .before .translated .given .1))
+returns-2 c = ap granted (c .host-address .ensures) ∙ sym (ap (λ t. memoryOutcome (c .before .before .before .before .args .request) (translationOf t)) (c .before .before .translated .given .1))
 
 returns-3 : tie.Need-returns-3
-returns-3 c = ap blocked (c .memory-fault .ensures) ∙ sym (ap (λ t. outcome (c .before .before .before .before .args .request) (translationOf t)) (c .before .before .translated2 .given .1))
+returns-3 c = ap blocked (c .memory-fault .ensures) ∙ sym (ap (λ t. memoryOutcome (c .before .before .before .before .args .request) (translationOf t)) (c .before .before .translated2 .given .1))
 
 pub answer-spec : {M : Type 1} → statement M
 answer-spec =

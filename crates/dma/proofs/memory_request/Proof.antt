@@ -1,7 +1,7 @@
 use mathlib.Core.Path.{_≡_, refl, ap, sym, _∙_}
 use Rattle.image.specs.Memory.{ofImage}
 use Rattle.registers.specs.Admitted.{admittedOf}
-use Rattle.dma.specs.Requests.{outcome}
+use Rattle.dma.specs.Requests.{memoryOutcome}
 use Rattle.dma.proofs.Admissions.{refuses, passes, takes}
 use Rattle.dma.proofs.Forks.{reachable}
 use borrow.Author.Needs.{needs}
@@ -44,7 +44,7 @@ returns-2 c =
 returns-3 : tie.Need-returns-3
 returns-3 c =
     let a = c .before .before .before .before .before .before .before .args in
-    c .answer .ensures ∙ ap (outcome (a .request)) (c .before .translate .ensures) ∙ takes (a .registers) (a .request) (ofImage (a .image .now)) (c .before .before .before .before .before .in-interrupt-range .ensures) (sym (ap admittedOf (c .before .before .enum-told2 .given .1)) ∙ c .before .before .before .before .admit .ensures)
+    c .answer .ensures ∙ ap (memoryOutcome (a .request)) (c .before .translate .ensures) ∙ takes (a .registers) (a .request) (ofImage (a .image .now)) (c .before .before .before .before .before .in-interrupt-range .ensures) (sym (ap admittedOf (c .before .before .enum-told2 .given .1)) ∙ c .before .before .before .before .admit .ensures)
 
 pub memory-request-spec : {M : Type 1} → statement M
 memory-request-spec =

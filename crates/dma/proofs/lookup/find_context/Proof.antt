@@ -9,7 +9,7 @@ use Rattle.image.specs.Check.{onCheck}
 use Rattle.image.specs.EntryKind.{rootEntry}
 use Rattle.image.proofs.Stages.{unfetched, checked}
 use Rattle.registers.specs.Source.{busOf, devfnOf}
-use Rattle.dma.specs.Checked.{checkOf}
+use Rattle.dma.specs.Answers.{checkOf}
 use Rattle.dma.specs.Lookup.{context, noContext, stoppedLookup, contextRules, rootRules}
 use Rattle.dma.specs.Root.{rootCheck}
 use Rattle.dma.proofs.Stages.{placed}

@@ -1,5 +1,5 @@
 use mathlib.Core.Path.{_≡_, ap, sym}
-use Rattle.dma.specs.Checked.{checkOf}
+use Rattle.dma.specs.Answers.{checkOf}
 use Rattle.dma.specs.Lookup.{stoppedLookup}
 use borrow.Author.Needs.{needs}
 use Rattle.dma.proofs.lookup.stopped.Statement.{statement}

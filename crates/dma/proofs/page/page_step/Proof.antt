@@ -7,7 +7,7 @@ use native.Mathlib.Numerals.{add-one}
 use Rattle.image.specs.Entries.{fetched8}
 use Rattle.image.specs.Check.{go}
 use Rattle.image.specs.Memory.{found, ofImage, entry}
-use Rattle.dma.specs.Checked.{stepOf}
+use Rattle.dma.specs.Answers.{stepOf}
 use Rattle.dma.specs.Page.{pageCheck}
 use Rattle.dma.specs.Translation.{checked}
 use Rattle.dma.specs.Walk.{placeIn}

@@ -2,7 +2,7 @@
 use mathlib.Core.Path.{_≡_, refl, ap, sym, _∙_, subst}
 use Rattle.image.specs.Memory.{ofImage}
 use Rattle.image.specs.Rules.{run}
-use Rattle.dma.specs.Checked.{lookupOf}
+use Rattle.dma.specs.Answers.{lookupOf}
 use Rattle.dma.specs.Lookup.{Lookup, context, noContext, onLookup, lookupRules}
 use Rattle.dma.specs.Translation.{fault, widthRules}
 use Rattle.dma.proofs.Lookups.{looked-up, Finds, finds}

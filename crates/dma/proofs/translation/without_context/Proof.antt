@@ -1,5 +1,5 @@
 use mathlib.Core.Path.{_≡_, ap, sym}
-use Rattle.dma.specs.Checked.{lookupOf}
+use Rattle.dma.specs.Answers.{lookupOf}
 use Rattle.dma.specs.Translation.{withoutContext}
 use borrow.Author.Needs.{needs}
 use Rattle.dma.proofs.translation.without_context.Statement.{statement}

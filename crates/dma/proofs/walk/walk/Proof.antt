@@ -4,7 +4,7 @@ use native.Mathlib.Omega.{arith}
 use borrow.Author.Needs.{needs}
 use Rattle.image.specs.Memory.{ofImage}
 use Rattle.image.specs.Rules.{run}
-use Rattle.dma.specs.Checked.{stepOf}
+use Rattle.dma.specs.Answers.{stepOf}
 use Rattle.dma.specs.Translation.{pageRules}
 use Rattle.dma.proofs.Stepped.{ended, onward, past}
 use Rattle.dma.proofs.walk.walk.Statement.{statement}

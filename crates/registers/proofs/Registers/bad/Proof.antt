@@ -1,26 +1,21 @@
--- `Registers::bad` is the paper's list: each item by its callee, and the items joined from the left as from the right.
-use mathlib.Core.Bool.{Bool, true, false, not}
+-- `Registers::bad` is the paper's list: each item by its callee.
+use mathlib.Core.Bool.{Bool, true, false, not, _||_}
 use mathlib.Core.Path.{_≡_, refl, sym, _∙_}
 use borrow.Author.Needs.{needs}
-use Rattle.image.specs.Choice.{_or_}
-use Rattle.registers.specs.Registers.{outside, badRegisters}
+use Rattle.registers.specs.Registers.{outside, registersBad}
 use Rattle.registers.proofs.Registers.bad.Statement.{statement}
 use Rattle.registers.proofs.Registers.bad.Tie as tie
 
-or-assoc : (a b c : Bool) → ((a or b) or c) ≡ (a or b or c)
-or-assoc true b c = refl
-or-assoc false b c = refl
-
 -- where the first item doesn't hold
-joined : {a b b′ d d′ e e′ f f′ : Bool} (x y z : Bool) → a ≡ false → b ≡ b′ → d ≡ d′ → e ≡ e′ → f ≡ f′
-    → ((((b or not ((x or y) or z)) or d) or e) or f) ≡ (a or b′ or not (x or y or z) or d′ or e′ or f′)
-joined x y z p q s t u = simp (or-assoc, p, q, s, t, u)
+joined : {a b b′ d d′ e e′ f f′ : Bool} (x : Bool) → a ≡ false → b ≡ b′ → d ≡ d′ → e ≡ e′ → f ≡ f′
+    → (b || not x || d || e || f) ≡ (a || b′ || not x || d′ || e′ || f′)
+joined x p q s t u = rw (p, q, s, t, u)
 
 out-of-range-requires : tie.Need-out-of-range-requires
 out-of-range-requires c κs = search needs
 
 returns : tie.Need-returns
-unfolding badRegisters
+unfolding registersBad
 returns c =
     let r = c .before .before .args .self in
     let found : outside (r .haw) 36 52 ≡ true = sym (c .before .out-of-range .ensures) ∙ c .if1 .taken in
@@ -39,12 +34,12 @@ out-of-range-requires-3 : tie.Need-out-of-range-requires-3
 out-of-range-requires-3 c κs = search needs
 
 returns-2 : tie.Need-returns-2
-unfolding badRegisters
+unfolding registersBad
 returns-2 c =
     let widths = c .before .before .before .before .before in
     let first = widths .before .before in
     let r = first .before .args .self in
-    joined (r .levels3) (r .levels4) (r .levels5)
+    joined (r .levels3 || r .levels4 || r .levels5)
     (sym (first .out-of-range .ensures) ∙ widths .before .if1 .left)
     (widths .out-of-range2 .ensures)
     (c .before .before .bad-table .ensures)
