@@ -11,11 +11,11 @@ use Rattle.registers.specs.declared.Registers.{Registers}
 use Rattle.dma.specs.Isolation.{accessFault, answerOver, Locality}
 use Rattle.dma.specs.Requests.{memoryRules}
 use Rattle.dma.specs.declared.MemoryRequest.{MemoryRequest}
-use Rattle.dma.proofs.Forks.{Fork, memory-forks}
+use Rattle.dma.proofs.Forks.{Fork, Ends, memory-forks}
 
 pub outside-memory : (registers : Registers) (request : MemoryRequest) → Outside (λ o. accessFault o ≡ true) (memoryRules registers request)
 outside-memory registers request =
-    every-outside Fork (λ o. Unit {0}) (λ o. accessFault o ≡ true) (λ kind at o fork. fork .0) 9 (memoryRules registers request)
+    every-outside Fork Ends (λ o. accessFault o ≡ true) (λ kind at o fork. fork .0) 9 (memoryRules registers request)
     (memory-forks registers request)
 
 pub locality : Locality

@@ -1,7 +1,7 @@
 -- What every fork of a memory request's rules satisfies, and every answer: the one traversal of its tree.
 use Prim.Native.Nat.{ℕ, zero, suc, _%_, _^_, _<_, _≤_}
 use mathlib.Core.Bool.{Bool, true, false}
-use mathlib.Core.Path.{_≡_, refl, sym, _∙_}
+use mathlib.Core.Path.{_≡_, refl, sym, _∙_, subst}
 use native.Mathlib.Omega.{arith}
 use Rattle.image.specs.Check.{Check, stop, go, onCheck}
 use Rattle.image.specs.Choice.{if_then_else_}
@@ -12,8 +12,9 @@ use Rattle.image.proofs.Forks.{Every, every-answer, every-more, every-run, ever
 use Rattle.registers.specs.Admission.{Admitted, refusal, pass, take, admission, onAdmission, inInterruptRange}
 use Rattle.registers.specs.declared.Registers.{Registers}
 use Rattle.faults.specs.Record.{memoryFault}
+use Rattle.dma.specs.Context.{faultProcessingDisabled}
 use Rattle.dma.specs.Isolation.{accessFault}
-use Rattle.dma.specs.Page.{pageCheck, leafAt}
+use Rattle.dma.specs.Page.{pageCheck, leafAt, hostAddress}
 use Rattle.dma.specs.Requests.{MemoryOutcome, granted, refused, memoryOutcome, memoryRules}
 use Rattle.dma.specs.Translation.{Translation, through, leaf, fault, Reachable, pageStep, pageRules, widthRules, translationRules}
 use Rattle.dma.specs.Walk.{Step, done, down, placeIn}
@@ -21,13 +22,23 @@ use Rattle.dma.specs.declared.context.Context.{Context}
 use Rattle.dma.specs.declared.MemoryRequest.{MemoryRequest}
 use Rattle.dma.proofs.Cases.{width-cases}
 use Rattle.dma.proofs.Lookups.{every-lookup}
+use Rattle.dma.proofs.Reasons.{Otherwise, root-otherwise, context-otherwise, page-otherwise}
 use Rattle.dma.proofs.Steps.{page-frame-lt, leaf-low}
-use Rattle.dma.proofs.Stepped.{leads-aligned}
+use Rattle.dma.proofs.Stepped.{leads, leads-aligned}
 use Rattle.dma.proofs.Walks.{every-walk}
 
 -- an entry that can't be fetched is answered with an access fault; a page entry is a word, at a multiple of 8
 abbrev pub Fork : EntryKind → ℕ → MemoryOutcome → Type 0
 Fork kind at o = (accessFault o ≡ true) × (isPage kind ≡ true → at % 8 ≡ 0)
+
+-- and no other answer is an access fault
+abbrev pub Ends : MemoryOutcome → Type 0
+Ends o = accessFault o ≡ true → ⊥
+
+-- level 1 has no table below
+more-levels : (n e : ℕ) → leafAt (suc n) e ≡ false → 0 < n
+more-levels zero e h = let z : _≡_ {A = ℕ} 0 1 = cc in absurd (omega arith)
+more-levels (suc n) e h = omega arith
 
 module _ (registers : Registers) (request : MemoryRequest) where
   abbrev rules : Rules Translation
@@ -36,57 +47,90 @@ module _ (registers : Registers) (request : MemoryRequest) where
   abbrev Asks : EntryKind → ℕ → Translation → Type 0
   Asks kind at t = Fork kind at (memoryOutcome request t)
 
+  -- what is answered to entries that were fetched
+  abbrev Says : Translation → Type 0
+  Says t = Reachable t × Ends (memoryOutcome request t)
+
+  no-grant : (host : ℕ) → Ends (granted host)
+  no-grant host is = let z : _≡_ {A = ℕ} 0 1 = cc in omega arith
+
+  stops : {A : Type 0} (k : Check A) (reason : ℕ) (fpd : Bool) → Otherwise k → k ≡ stop reason → Says (fault reason fpd)
+  unfolding memoryFault
+  stops k reason fpd other told = (
+    tt,
+    λ is.
+        let z : _≡_ {A = Bool} true false = sym is ∙ subst Otherwise told other in
+        let y : _≡_ {A = ℕ} 0 1 = cc in
+        omega arith,
+  )
+
   -- a page that the walk reaches has its frame below 2^52, and an entry of level 1, 2 or 3
-  reachable-step : (fpd : Bool) (n place : ℕ) (s : Unit {0}) (e : ℕ) (t : Translation) → n < 5
-      → done t ≡ pageStep registers (request .address) (request .write) fpd (suc n) place s e → Reachable t
-  reachable-step fpd n place s e t few = on (pageCheck registers (request .write) (suc n) e) (leafAt (suc n) e) refl refl
+  step-says : (fpd : Bool) (n place : ℕ) (s : Unit {0}) (e : ℕ) (t : Translation) → n < 5
+      → done t ≡ pageStep registers (request .address) (request .write) fpd (suc n) place s e → Says t
+  step-says fpd n place s e t few = on (pageCheck registers (request .write) (suc n) e) (leafAt (suc n) e) refl refl
     where
       on : (k : Check ℕ) (page : Bool) → pageCheck registers (request .write) (suc n) e ≡ k → leafAt (suc n) e ≡ page
           → _≡_ {A = Step (Unit {0}) Translation} (done t)
           (onCheck k (λ r. done (fault r fpd)) (λ frame. if page then done (leaf frame (suc n)) else down frame tt))
-          → Reachable t
-      on (stop r) page told is-page h = let is : t ≡ fault r fpd = cc in rw is tt
+          → Says t
+      on (stop r) page told is-page h =
+          let is : t ≡ fault r fpd = cc in
+          rw is (stops _ r fpd (page-otherwise registers (request .write) (suc n) e) told)
       on (go frame) true told is-page h =
           let is : t ≡ leaf frame (suc n) = cc in
-          rw is (page-frame-lt registers (request .write) (suc n) e frame told, omega arith, leaf-low registers (request .write) (suc n) e frame told is-page)
+          let low = leaf-low registers (request .write) (suc n) e frame told is-page in
+          rw is ((page-frame-lt registers (request .write) (suc n) e frame told, omega arith, low), no-grant (hostAddress (suc n) frame (request .address)))
       on (go frame) false told is-page h = let z : _≡_ {A = ℕ} 0 1 = cc in absurd (omega arith)
 
-  walk-forks : (fpd : Bool) (levels top : ℕ) → levels ≤ 5 → top % 8 ≡ 0
-      → Every Asks Reachable levels (pageRules registers (request .address) (request .write) fpd levels top)
-  unfolding memoryFault
-  walk-forks fpd levels top few aligned =
-      every-walk (request .address) (λ s. fault 0x07 fpd) (pageStep registers (request .address) (request .write) fpd) Asks Reachable
-      (λ table. table % 8 ≡ 0) 5 (λ s. tt) (λ n table s h. (refl, λ _. omega arith)) (reachable-step fpd)
-      (leads-aligned registers (request .address) (request .write) fpd) levels top tt few aligned
+  -- a table below which there are levels, at a multiple of 8
+  abbrev Table : (level table : ℕ) → Type 0
+  Table level table = (table % 8 ≡ 0) × (0 < level)
 
-  translation-forks : Every Asks Reachable 9 rules
+  walk-forks : (fpd : Bool) (levels top : ℕ) → levels ≤ 5 → Table levels top
+      → Every Asks Says levels (pageRules registers (request .address) (request .write) fpd levels top)
+  unfolding memoryFault
+  walk-forks fpd levels top few here =
+      every-walk (request .address) (λ s. fault 0x07 fpd) (pageStep registers (request .address) (request .write) fpd) Asks Says Table 5
+      (λ table s h. absurd (omega (arith, h .1))) (λ n table s h. (refl, λ _. omega (arith, h .0))) (step-says fpd)
+      (λ n place s e next t told. (
+        leads-aligned registers (request .address) (request .write) fpd (suc n) place s e next t told,
+        more-levels n e (leads registers (request .address) (request .write) fpd (suc n) place e told .1),
+      ))
+      levels top tt few here
+
+  translation-forks : Every Asks Says 9 rules
   unfolding memoryFault
   translation-forks =
-      every-lookup Asks Reachable 5 registers fault (widthRules registers (request .address) (request .write))
+      every-lookup Asks Says 5 registers fault (widthRules registers (request .address) (request .write))
       (λ place. (refl, λ page. let z : _≡_ {A = ℕ} 0 1 = cc in absurd (omega arith)))
-      (λ place. (refl, λ page. let z : _≡_ {A = ℕ} 0 1 = cc in absurd (omega arith))) (λ reason fpd. tt)
+      (λ place. (refl, λ page. let z : _≡_ {A = ℕ} 0 1 = cc in absurd (omega arith)))
+      (λ e reason. stops _ reason false (root-otherwise (registers .haw) e))
+      (λ e reason. stops _ reason (faultProcessingDisabled e) (context-otherwise registers e))
       (λ c good.
-      width-cases (Every Asks Reachable 5) registers (request .address) (request .write) c (every-answer Asks Reachable 5)
-      (every-more Asks Reachable (c .levels) 5 _ (good .1) (walk-forks (c .fpd) (c .levels) (c .top) (good .1) (omega (arith, good .2)))))
+      width-cases (Every Asks Says 5) registers (request .address) (request .write) c
+      (every-answer Asks Says 5 (fault 0x04 (c .fpd)) (stops {A = ℕ} (stop 0x04) 0x04 (c .fpd) refl refl))
+      (every-answer Asks Says 5 through (tt, no-grant (request .address)))
+      (every-more Asks Says (c .levels) 5 _ (good .1) (walk-forks (c .fpd) (c .levels) (c .top) (good .1) (omega (arith, good .2), good .0))))
       (request .source .id)
 
   -- what a translation is answered, it can answer
   pub reachable : (m : Memory) → Reachable (run rules m)
-  reachable m = every-run Asks Reachable (λ kind at t is. faults t (is .0)) 9 rules m translation-forks
+  reachable m =
+      every-run Asks Reachable (λ kind at t is. faults t (is .0)) 9 rules m
+      (every-weaken Asks Asks Says Reachable (λ kind at t h. h) (λ t h. h .0) 9 rules translation-forks)
     where
       faults : (t : Translation) → accessFault (memoryOutcome request t) ≡ true → Reachable t
       faults through is = tt
       faults (leaf frame level) is = let z : _≡_ {A = ℕ} 0 1 = cc in absurd (omega arith)
       faults (fault reason fpd) is = tt
 
-  pub memory-forks : Every Fork (λ o. Unit {0}) 9 (memoryRules registers request)
+  pub memory-forks : Every Fork Ends 9 (memoryRules registers request)
   unfolding memoryRules
   memory-forks = on (admission registers (inInterruptRange (request .address)) (registers .te))
     where
-      on : (k : Admitted)
-          → Every Fork (λ o. Unit {0}) 9 (onAdmission k refused (granted (request .address)) (mapRules (memoryOutcome request) rules))
-      on (refusal n) = every-answer Fork (λ o. Unit {0}) 9 (refused n) tt
-      on pass = every-answer Fork (λ o. Unit {0}) 9 (granted (request .address)) tt
+      on : (k : Admitted) → Every Fork Ends 9 (onAdmission k refused (granted (request .address)) (mapRules (memoryOutcome request) rules))
+      on (refusal n) = every-answer Fork Ends 9 (refused n) (λ is. let z : _≡_ {A = ℕ} 0 1 = cc in omega arith)
+      on pass = every-answer Fork Ends 9 (granted (request .address)) (no-grant (request .address))
       on take =
-          every-map (memoryOutcome request) Fork (λ o. Unit {0}) 9 rules
-          (every-weaken Asks Asks Reachable (λ t. Unit {0}) (λ kind at t h. h) (λ t h. tt) 9 rules translation-forks)
+          every-map (memoryOutcome request) Fork Ends 9 rules
+          (every-weaken Asks Asks Says (λ t. Ends (memoryOutcome request t)) (λ kind at t h. h) (λ t h. h .1) 9 rules translation-forks)

@@ -9,6 +9,7 @@ pub mod Lookups
 pub mod Nine
 pub mod Raised
 pub mod Reached
+pub mod Reasons
 pub mod Reserved
 pub mod Rights
 pub mod Stages

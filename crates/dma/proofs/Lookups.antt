@@ -22,7 +22,8 @@ module _ {A : Type 0} (Fork : EntryKind → ℕ → A → Type 0) (Ends : A → 
     (faulted : (reason : ℕ) (fpd : Bool) → A) (next : Context → Rules A)
     (root-read : (place : ℕ) → Fork rootEntry place (faulted 0x08 false))
     (context-read : (place : ℕ) → Fork contextEntry place (faulted 0x09 false))
-    (stops : (reason : ℕ) (fpd : Bool) → Ends (faulted reason fpd))
+    (root-stops : (e reason : ℕ) → rootCheck (registers .haw) e ≡ stop reason → Ends (faulted reason false))
+    (context-stops : (e reason : ℕ) → contextCheck registers e ≡ stop reason → Ends (faulted reason (faultProcessingDisabled e)))
     (follows : (c : Context) → Usable c → Every Fork Ends most (next c)) where
   pub every-lookup : (source : ℕ) → Every Fork Ends (4 + most) (rootRules registers faulted next source)
   unfolding rootRules contextRules
@@ -31,12 +32,12 @@ module _ {A : Type 0} (Fork : EntryKind → ℕ → A → Type 0) (Ends : A → 
       (root-read _)
       (λ e.
       check-cases (Every Fork Ends (2 + most)) (rootCheck (registers .haw) e) (λ reason. faulted reason false)
-      (contextRules registers faulted next source) (λ reason _. every-answer Fork Ends (2 + most) (faulted reason false) (stops reason false))
+      (contextRules registers faulted next source) (λ reason told. every-answer Fork Ends (2 + most) (faulted reason false) (root-stops e reason told))
       (λ table _.
       every-fetch Fork Ends (2 + most) most contextEntry (table + 16 * devfnOf source) (faulted 0x09 false) _ (omega arith) (context-read _)
       (λ e.
       check-cases (Every Fork Ends most) (contextCheck registers e) (λ reason. faulted reason (faultProcessingDisabled e)) next
-      (λ reason _. every-answer Fork Ends most _ (stops reason (faultProcessingDisabled e)))
+      (λ reason told. every-answer Fork Ends most _ (context-stops e reason told))
       (λ c told. follows c (usable registers e told)))))
 
 -- the lookup, then what follows it
@@ -92,5 +93,6 @@ Finds l = onLookup l (λ reason fpd. Unit {0}) Usable
 pub finds : (registers : Registers) (source : ℕ) (m : Memory) → Finds (run (lookupRules registers source) m)
 finds registers source m =
     every-run (λ kind at l. Finds l) Finds (λ kind at l found. found) 4 (lookupRules registers source) m
-    (every-lookup (λ kind at l. Finds l) Finds 0 registers noContext (λ c. answer (context c)) (λ place. tt) (λ place. tt) (λ reason fpd. tt)
+    (every-lookup (λ kind at l. Finds l) Finds 0 registers noContext (λ c. answer (context c)) (λ place. tt) (λ place. tt) (λ e reason _. tt)
+    (λ e reason _. tt)
     (λ c good. every-answer (λ kind at l. Finds l) Finds 0 (context c) good) source)

@@ -12,11 +12,11 @@ use Rattle.dma.specs.Named.{AtMostNine, NoneUntaken}
 use Rattle.dma.specs.Requests.{MemoryOutcome, granted, refused, memoryOutcome, memoryRules}
 use Rattle.dma.specs.Translation.{translationRules}
 use Rattle.dma.specs.declared.MemoryRequest.{MemoryRequest}
-use Rattle.dma.proofs.Forks.{Fork, memory-forks}
+use Rattle.dma.proofs.Forks.{Fork, Ends, memory-forks}
 
 pub at-most-nine : AtMostNine
 at-most-nine registers request image =
-    every-named Fork (λ o. Unit {0}) 9 (memoryRules registers request) (ofImage image) (memory-forks registers request)
+    every-named Fork Ends 9 (memoryRules registers request) (ofImage image) (memory-forks registers request)
 
 pub none-untaken : NoneUntaken
 unfolding memoryRules named

@@ -144,7 +144,7 @@ module _ (registers : Registers) (request : MemoryRequest) (image : List ℕ) wh
                 page-size = (omega arith, leaf-low registers (request .write) (suc n) e frame check page);
                 is-leaf = rw (← w .1) page;
                 whole = λ at is. ⊎-elim (λ same. rw same (w .0)) (λ r. absurd (List·Memᴰ·not-nil r)) (List·Memᴰ·cases-cons is);
-                right = λ at is. ⊎-elim (λ same. rw same (rw (← w .1) (ok))) (λ r. absurd (List·Memᴰ·not-nil r)) (List·Memᴰ·cases-cons is);
+                right = λ at is. ⊎-elim (λ same. rw same (rw (← w .1) ok)) (λ r. absurd (List·Memᴰ·not-nil r)) (List·Memᴰ·cases-cons is);
               };
           at-level = refl;
           framed = page-frame registers (request .write) (suc n) e frame check ∙ ap (λ (x : ℕ). inPlace x 51 12) (w .1);
@@ -167,7 +167,7 @@ module _ (registers : Registers) (request : MemoryRequest) (image : List ℕ) wh
                 page-size = p .page-size;
                 is-leaf = p .is-leaf;
                 whole = λ at is. ⊎-elim (λ same. rw same (w .0)) (p .whole at) (List·Memᴰ·cases-cons is);
-                right = λ at is. ⊎-elim (λ same. rw same (rw (← w .1) (ok))) (p .right at) (List·Memᴰ·cases-cons is);
+                right = λ at is. ⊎-elim (λ same. rw same (rw (← w .1) ok)) (p .right at) (List·Memᴰ·cases-cons is);
               };
           at-level = below .at-level;
           framed = below .framed;
@@ -226,8 +226,8 @@ module _ (registers : Registers) (request : MemoryRequest) (image : List ℕ) wh
       by false false type was =
           absurd
           (every-run Other Not (λ kind at t h. h) (c .levels) walk m
-          (every-walk (request .address) (λ s. fault 0x07 (c .fpd)) (step (c .fpd)) Other Not (λ t. Unit {0}) (c .levels)
-          (λ s is. let z : _≡_ {A = ℕ} 0 1 = cc in omega arith) (λ n table s _ is. let z : _≡_ {A = ℕ} 0 1 = cc in omega arith)
+          (every-walk (request .address) (λ s. fault 0x07 (c .fpd)) (step (c .fpd)) Other Not (λ level t. Unit {0}) (c .levels)
+          (λ table s _ is. let z : _≡_ {A = ℕ} 0 1 = cc in omega arith) (λ n table s _ is. let z : _≡_ {A = ℕ} 0 1 = cc in omega arith)
           (λ n place s e t few told. ends (c .fpd) (suc n) place e t told .0) (λ level place s e next t told. tt) (c .levels) (c .top) tt
           (omega arith) tt)
           was)

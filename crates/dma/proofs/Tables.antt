@@ -92,5 +92,5 @@ module _ (registers : Registers) (request : MemoryRequest) (haw : 2 ≤ register
           → onLookup l fault (λ c. run (widthRules registers (request .address) (request .write) c) m′) ≡ t
       after (noContext reason fpd) ok = λ was. was
       after (context c) ok =
-          width-cases Kept registers (request .address) (request .write) c (λ a _. answered a)
+          width-cases Kept registers (request .address) (request .write) c (answered _) (answered _)
           (raised-walk registers haw (request .address) (request .write) (c .fpd) m m′ raised (c .levels) (c .top) t good (omega (arith, ok .2)))

@@ -42,15 +42,15 @@ module _ {S A : Type 0} (address : ℕ) (none : S → A) (step : (level place : 
       go missing = refl
       go (found e) = on (step (suc n) (placeIn address table n) s e)
 
-  -- what holds of a walk's forks and answers: its tables are at addresses of a kind, its answers those of some levels at most
-  pub every-walk : (Fork : EntryKind → ℕ → A → Type 0) (Ends : A → Type 0) (Table : ℕ → Type 0) (most : ℕ)
-      → ((s : S) → Ends (none s))
-      → ((n table : ℕ) (s : S) → Table table → Fork pageEntry (placeIn address table n) (none s))
+  -- what holds of a walk's forks and answers: a table of a level is at an address of a kind, and answers are those of some levels at most
+  pub every-walk : (Fork : EntryKind → ℕ → A → Type 0) (Ends : A → Type 0) (Table : (level table : ℕ) → Type 0) (most : ℕ)
+      → ((table : ℕ) (s : S) → Table 0 table → Ends (none s))
+      → ((n table : ℕ) (s : S) → Table (suc n) table → Fork pageEntry (placeIn address table n) (none s))
       → ((n place : ℕ) (s : S) (e : ℕ) (a : A) → n < most → done a ≡ step (suc n) place s e → Ends a)
-      → ((level place : ℕ) (s : S) (e next : ℕ) (t : S) → down next t ≡ step level place s e → Table next)
-      → (level table : ℕ) (s : S) → level ≤ most → Table table → Every Fork Ends level (walkRules address none step level table s)
+      → ((n place : ℕ) (s : S) (e next : ℕ) (t : S) → down next t ≡ step (suc n) place s e → Table n next)
+      → (level table : ℕ) (s : S) → level ≤ most → Table level table → Every Fork Ends level (walkRules address none step level table s)
   unfolding walkRules
-  every-walk Fork Ends Table most past reads ends leads zero table s few here = every-answer Fork Ends 0 (none s) (past s)
+  every-walk Fork Ends Table most past reads ends leads zero table s few here = every-answer Fork Ends 0 (none s) (past table s here)
   every-walk Fork Ends Table most past reads ends leads (suc n) table s few here =
       every-fetch Fork Ends (suc n) n pageEntry (placeIn address table n) (none s) _ (omega arith) (reads n table s here)
       (λ e.
@@ -58,10 +58,10 @@ module _ {S A : Type 0} (address : ℕ) (none : S → A) (step : (level place : 
       (λ next t. every-walk Fork Ends Table most past reads ends leads n next t (omega arith)))
     where
       go : (e : ℕ) (x : Step S A) → x ≡ step (suc n) (placeIn address table n) s e
-          → ((next : ℕ) (t : S) → Table next → Every Fork Ends n (walkRules address none step n next t))
+          → ((next : ℕ) (t : S) → Table n next → Every Fork Ends n (walkRules address none step n next t))
           → Every Fork Ends n (onStep x answer (walkRules address none step n))
       go e (done a) told ih = every-answer Fork Ends n a (ends n (placeIn address table n) s e a (omega arith) told)
-      go e (down next t) told ih = ih next t (leads (suc n) (placeIn address table n) s e next t told)
+      go e (down next t) told ih = ih next t (leads n (placeIn address table n) s e next t told)
 
   -- steps that lead to multiples of 8 read words
   module _ (steps : (level place : ℕ) (s : S) (e next : ℕ) (t : S) → down next t ≡ step level place s e → next % 8 ≡ 0) where

@@ -1,20 +1,28 @@
 -- Rules whose answers to fetched entries are of no such kind answer so where an entry couldn't be fetched.
-use Prim.Native.Nat.{ℕ, _+_, _*_, _<_, _≤_}
+use Prim.Native.Nat.{ℕ, _+_, _-_, _*_, _<_, _≤_}
 use mathlib.Core.Path.{_≡_, refl, ap, sym, _∙_}
 use mathlib.Core.List.{List, [], _∷_}
 use native.Mathlib.Decide.{decLe}
 use native.Mathlib.Omega.{arith}
 use lib.ListN.{length}
-use Rattle.image.specs.EntryKind.{wordsOf}
+use Rattle.image.specs.EntryKind.{EntryKind, wordsOf}
 use Rattle.image.specs.Memory.{Fetched, missing, found, onFetch, ofImage, entry}
 use Rattle.image.specs.Rules.{Rules, answer, fetch, run, mapRules}
 use Rattle.image.specs.Unfetched.{Unfetched, unfetched}
+use Rattle.image.proofs.Forks.{Every}
 use Rattle.image.proofs.Words.{inside}
 
 -- no answer is of this kind, but those to an entry that couldn't be fetched
 unfoldable pub Inside : {A : Type 0} → (A → Type 0) → Rules A → Type 0
 Inside Kind (answer a) = Kind a → ⊥
 Inside Kind (fetch kind at outside next) = (e : ℕ) → Inside Kind (next e)
+
+-- what follows from the law of every fork
+pub every-inside : {A : Type 0} (Fork : EntryKind → ℕ → A → Type 0) (Ends Kind : A → Type 0) → ((a : A) → Ends a → Kind a → ⊥)
+    → (most : ℕ) (q : Rules A) → Every Fork Ends most q → Inside Kind q
+unfolding Every Inside
+every-inside Fork Ends Kind so most (answer a) is = so a is
+every-inside Fork Ends Kind so most (fetch kind at outside next) is = λ e. every-inside Fork Ends Kind so (most - wordsOf kind) (next e) (is .2 e)
 
 pub inside-map : {A B : Type 0} (f : A → B) (Kind : B → Type 0) (q : Rules A) → Inside (λ a. Kind (f a)) q → Inside Kind (mapRules f q)
 unfolding Inside mapRules
