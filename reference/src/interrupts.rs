@@ -174,15 +174,17 @@ fn answer(
     let in_image = &mut image[start..start + 64];
     // Set request bit (0 to 255) of the vector.
     put(in_image, vector, vector, 1);
-    // If ON (256) and SN (257) are both clear, set ON and answer a notice:
-    // vector 279:272, destination 319:288 (or 303:296). Bit 14 of the entry
-    // has no effect.
+    // A notice is due when ON (256) is clear and either URG (bit 14 of the
+    // entry) is set or SN (257) is clear. Then set ON and answer a notice:
+    // vector 279:272, destination 319:288 (or 303:296). SN stays.
     let on = bit(&descriptor, 256);
     let sn = bit(&descriptor, 257);
-    if slips::on_set(slip, on, sn) {
+    let urg = bit(&entry, 14);
+    let due = !on && (urg || !sn);
+    if slips::on_set(slip, on, due) {
         put(in_image, 256, 256, 1);
     }
-    let notice = if !on && !sn {
+    let notice = if due {
         Some(Notice {
             vector: bits(&descriptor, 279, 272) as u8,
             destination: if registers.eime {

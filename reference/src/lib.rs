@@ -1,9 +1,9 @@
-//! A legacy Intel VT-d remapping unit, read off the rules (document 01) as
-//! literally as possible.
+//! A legacy Intel VT-d remapping unit, read off the rules (document 01) and
+//! the change requests (document 02) as literally as possible.
 //!
 //! This is a second program, written apart from the proved one, to compare
-//! answers with. It follows the paper sentence by sentence, in the paper's
-//! order and the paper's bit numbers; the sentences stand as comments beside
+//! answers with. It follows the papers sentence by sentence, in the papers'
+//! order and the papers' bit numbers; the sentences stand as comments beside
 //! the lines that follow them. It is neither quick nor clever. It answers any
 //! registers, any image and any request without panicking.
 

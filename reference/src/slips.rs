@@ -59,10 +59,10 @@ pub(crate) fn fpd(slip: Slip, fpd: bool, present: bool) -> bool {
     fpd
 }
 
-/// Whether a post sets ON.
-pub(crate) fn on_set(slip: Slip, on: bool, sn: bool) -> bool {
+/// Whether a post sets ON, which it does exactly where a notice is due.
+pub(crate) fn on_set(slip: Slip, on: bool, due: bool) -> bool {
     if slip == Slip::OnDespiteSn {
         return !on;
     }
-    !on && !sn
+    due
 }

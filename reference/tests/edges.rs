@@ -895,36 +895,6 @@ fn source_check() {
     }
 }
 
-/// "If ON (256) and SN (257) are both clear, set ON and answer a notice ...
-/// bit 14 of the entry has no effect." The request bit is set in any case.
-#[test]
-fn on_sn_and_bit_14() {
-    for bit_14 in [0, 1 << 14] {
-        for (on, sn) in [(0, 0), (1, 0), (0, 1), (1, 1)] {
-            let word = 0x0000_0700_00F2_0000 | on | sn << 1;
-            let mut image = bench_with(&[
-                (0x6040, 0x0000_6400_0031_8001 | bit_14),
-                (0x6420, word),
-                (0x6400, 0x8000_0000_0000_0001),
-            ]);
-            let mut expected = image.clone();
-            expected[0x6406] |= 2;
-            let notice = if on == 0 && sn == 0 {
-                expected[0x6420] |= 1;
-                Some(Notice {
-                    vector: 0xF2,
-                    destination: 7,
-                })
-            } else {
-                None
-            };
-            let answer = interrupt_request(&BENCH, &mut image, SOURCE, ENTRY_4, 0);
-            assert_eq!(answer, Outcome::Posted { notice });
-            assert_eq!(image, expected);
-        }
-    }
-}
-
 /// "descriptor address has 63:38 as its bits 31:6 and 127:96 as its bits
 /// 63:32": the last 64 bytes below 2^HAW are an access fault here, the next
 /// bit up is reserved.

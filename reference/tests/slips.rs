@@ -122,6 +122,12 @@ fn on_despite_sn() {
     );
     assert_eq!(after[0x6420], 3);
     assert_eq!(noticed_in_interrupts(&image, 0xFEE0_0090, 0), [slip]);
+    // With URG nothing holds the notice back.
+    let urgent = bench_with(&[
+        (0x6040, 0x0000_6400_0031_C001),
+        (0x6420, 0x0000_0700_00F2_0002),
+    ]);
+    assert_eq!(noticed_in_interrupts(&urgent, 0xFEE0_0090, 0), []);
     // Without SN the slip does what the paper says.
     let notice = Some(Notice {
         vector: 0xF2,

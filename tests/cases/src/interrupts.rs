@@ -66,7 +66,7 @@ fn entry(random: &mut Random, registers: &Registers, source: u16, descriptor: u6
     if !posted {
         return [low | remapped(random, registers), high];
     }
-    // Bit 14 has no effect.
+    // URG.
     let urgent = random.below(2) << 14;
     let address = (descriptor & 0xFFFF_FFC0) << 32;
     [
