@@ -41,8 +41,8 @@ extern "C" {
  *   PASSED    the interrupt goes on unchanged                                    (interrupts)
  *   REMAPPED  byte 1 vector, byte 2 delivery mode, byte 3 bit 0 destination mode, bit 1 redirection
  *             hint, bit 2 trigger mode; bytes 7:4 destination                    (interrupts)
- *   POSTED    byte 1 1 where a notification is due, else 0; then byte 2 its vector and bytes 7:4
- *             its destination                                                    (interrupts)
+ *   POSTED    byte 1 1 where a notification is due (ON clear, and URG set or SN clear), else 0; then
+ *             byte 2 its vector and bytes 7:4 its destination                    (interrupts)
  */
 #define GALITZAF_ANSWER_SIZE 24
 #define GALITZAF_GRANTED 0

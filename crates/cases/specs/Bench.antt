@@ -162,6 +162,13 @@ rows image =
     (becomes (interrupts.posted 0x6400 0x31 (notice 0xF2 7)) ((0x6406, 2) ∷ (0x6420, 1) ∷ []))
     ∷ row 12 (changed ((0x6406, 2) ∷ (0x6420, 1) ∷ []) image) 0x0310 (interrupt 0xFEE00090 0)
     (becomes (interrupts.posted 0x6400 0x31 silent) [])
+    -- document 02, Ask 2: the entry's URG with SN set; with ON already set; SN set without URG
+    ∷ row 12 (changed ((0x6041, 0xC0) ∷ (0x6420, 2) ∷ []) image) 0x0310 (interrupt 0xFEE00090 0)
+    (becomes (interrupts.posted 0x6400 0x31 (notice 0xF2 7)) ((0x6406, 2) ∷ (0x6420, 3) ∷ []))
+    ∷ row 12 (changed ((0x6041, 0xC0) ∷ (0x6420, 1) ∷ []) image) 0x0310 (interrupt 0xFEE00090 0)
+    (becomes (interrupts.posted 0x6400 0x31 silent) ((0x6406, 2) ∷ []))
+    ∷ row 12 (changed ((0x6420, 2) ∷ []) image) 0x0310 (interrupt 0xFEE00090 0)
+    (becomes (interrupts.posted 0x6400 0x31 silent) ((0x6406, 2) ∷ []))
     ∷ []
 
 -- what the rules answer to each row, and what each row says
@@ -180,8 +187,8 @@ numbers (r ∷ rs) = r .number ∷ numbers rs
 -- The twelve cases, as one claim. Proved in proofs/Cases.antt.
 pub record TwelveCases : Type 0 where
   pub whole : length bench ≡ 32768
-  -- none is left out: 7, 8, 9, 10 and 12 have two rows each
+  -- none is left out: 7, 8, 9 and 10 have two rows each, 12 has two and three with URG or SN
   pub numbered : numbers (rows bench)
-      ≡ 1 ∷ 2 ∷ 3 ∷ 4 ∷ 5 ∷ 6 ∷ 7 ∷ 7 ∷ 8 ∷ 8 ∷ 9 ∷ 9 ∷ 10 ∷ 10 ∷ 11 ∷ 12 ∷ 12 ∷ []
+      ≡ 1 ∷ 2 ∷ 3 ∷ 4 ∷ 5 ∷ 6 ∷ 7 ∷ 7 ∷ 8 ∷ 8 ∷ 9 ∷ 9 ∷ 10 ∷ 10 ∷ 11 ∷ 12 ∷ 12 ∷ 12 ∷ 12 ∷ 12 ∷ []
   -- the rules answer what the rows say
   pub answered : answers (rows bench) ≡ said (rows bench)

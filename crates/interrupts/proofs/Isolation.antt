@@ -25,8 +25,8 @@ module _ (source index : ℕ) where
   irte-outside : (eime : Bool) (i : Irte) → Outside Access (onIrte eime i)
   unfolding descriptorRules Outside interruptFault
   irte-outside eime (remaps r) = tt
-  irte-outside eime (posts at vector fpd) =
-      (refl, λ d. check-cases (Outside Access) (descriptorCheck eime d) (λ reason. fault reason fpd) (λ n. answer (post at vector n)) (λ reason h. tt) (λ n h. tt))
+  irte-outside eime (posts at vector urgent fpd) =
+      (refl, λ d. check-cases (Outside Access) (descriptorCheck eime urgent d) (λ reason. fault reason fpd) (λ n. answer (post at vector n)) (λ reason h. tt) (λ n h. tt))
 
   index-outside : (registers : Registers) → Outside Access (indexRules registers source index)
   unfolding indexRules Outside interruptFault

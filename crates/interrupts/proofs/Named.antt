@@ -18,11 +18,11 @@ use Rattle.registers.specs.declared.Registers.{Registers}
 use Rattle.faults.specs.Record.{interruptFault}
 use Rattle.irte.specs.Irte.{Irte, remaps, posts, reservedIrte, irteCheck, faultProcessingDisabled}
 use Rattle.irte.specs.Source.{sourceAllowed}
-use Rattle.interrupts.specs.Claims.{wholeIndex, beforeTable, IndexBound, EntryOfIndex, NoWrap, AtMostTen, NoneBeforeTable}
+use Rattle.interrupts.specs.Claims.{wholeIndex, entryAt, beforeTable, IndexBound, EntryOfIndex, NoWrap, AtMostTen, NoneBeforeTable}
 use Rattle.interrupts.specs.Descriptor.{Notice, reservedDescriptor, descriptorCheck}
 use Rattle.interrupts.specs.Interrupts.{Delivery, fault, remap, post, onIrte, descriptorRules, indexRules, InterruptOutcome, passed, refused, delivered, interruptRules}
 use Rattle.interrupts.specs.declared.InterruptRequest.{InterruptRequest}
-use Rattle.interrupts.proofs.Requests.{early, entryAt, request-cases}
+use Rattle.interrupts.proofs.Requests.{early, request-cases}
 
 -- what follows the entry's words, and the words of a request whose entry is at an address
 data Follows : List ℕ → Type 0 where
@@ -44,9 +44,9 @@ irte-late registers source e =
     (λ h. chosen Late (reservedIrte registers e) (λ h. refl)
     (λ h. chosen Late (not (sourceAllowed source e)) (λ h. refl) (λ h. tt)))
 
-descriptor-late : (eime : Bool) (d : ℕ) → Late (descriptorCheck eime d)
+descriptor-late : (eime urgent : Bool) (d : ℕ) → Late (descriptorCheck eime urgent d)
 unfolding descriptorCheck
-descriptor-late eime d = chosen Late (reservedDescriptor eime d) (λ h. refl) (λ h. tt)
+descriptor-late eime urgent d = chosen Late (reservedDescriptor eime d) (λ h. refl) (λ h. tt)
 
 abbrev earlyD : Delivery → Bool
 earlyD (fault reason fpd) = early reason
@@ -54,10 +54,10 @@ earlyD (remap r) = false
 earlyD (post at vector n) = false
 
 module _ (m : Memory) where
-  descriptor-words : (eime fpd : Bool) (vector at : ℕ)
-      → Follows (named (descriptorRules eime fpd at vector) m) × (earlyD (run (descriptorRules eime fpd at vector) m) ≡ false)
+  descriptor-words : (eime urgent fpd : Bool) (vector at : ℕ)
+      → Follows (named (descriptorRules eime urgent fpd at vector) m) × (earlyD (run (descriptorRules eime urgent fpd at vector) m) ≡ false)
   unfolding descriptorRules run named wordsFrom
-  descriptor-words eime fpd vector at = by (entry 8 m at)
+  descriptor-words eime urgent fpd vector at = by (entry 8 m at)
     where
       after : Check Notice → Rules Delivery
       after k = onCheck k (λ reason. answer (fault reason fpd)) (λ n. answer (post at vector n))
@@ -67,15 +67,15 @@ module _ (m : Memory) where
       checked (go n) h = (descriptor at, refl)
 
       by : (f : Fetched)
-          → Follows (onFetch f [] (λ d. wordsFrom 8 at ++ named (after (descriptorCheck eime d)) m))
-          × (earlyD (onFetch f (fault 0x27 fpd) (λ d. run (after (descriptorCheck eime d)) m)) ≡ false)
+          → Follows (onFetch f [] (λ d. wordsFrom 8 at ++ named (after (descriptorCheck eime urgent d)) m))
+          × (earlyD (onFetch f (fault 0x27 fpd) (λ d. run (after (descriptorCheck eime urgent d)) m)) ≡ false)
       by missing = (nothing, refl)
-      by (found d) = checked (descriptorCheck eime d) (descriptor-late eime d)
+      by (found d) = checked (descriptorCheck eime urgent d) (descriptor-late eime urgent d)
 
   irte-words : (eime : Bool) (i : Irte) → Follows (named (onIrte eime i) m) × (earlyD (run (onIrte eime i) m) ≡ false)
   unfolding run named
   irte-words eime (remaps r) = (nothing, refl)
-  irte-words eime (posts at vector fpd) = descriptor-words eime fpd vector at
+  irte-words eime (posts at vector urgent fpd) = descriptor-words eime urgent fpd vector at
 
   index-words : (registers : Registers) (source index : ℕ)
       → Words (registers .«interrupt_table» + 16 * index) (named (indexRules registers source index) m)

@@ -19,13 +19,13 @@ use Rattle.image.proofs.Stages.{run-cases}
 use Rattle.image.proofs.Trees.{run-map}
 use Rattle.image.proofs.Words.{whole-entry}
 use Rattle.registers.specs.declared.Registers.{Registers}
-use Rattle.irte.specs.Irte.{Irte, remaps, posts, remappedBy, descriptorAddress, reservedIrte, irteOf, irteCheck, faultProcessingDisabled}
+use Rattle.irte.specs.Irte.{Irte, remaps, posts, remappedBy, descriptorAddress, reservedIrte, irteOf, irteCheck, urgentOf, faultProcessingDisabled}
 use Rattle.irte.specs.Source.{sourceAllowed}
-use Rattle.interrupts.specs.Claims.{wholeIndex, beforeTable, outcome}
+use Rattle.interrupts.specs.Claims.{wholeIndex, entryAt, beforeTable, outcome}
 use Rattle.interrupts.specs.Descriptor.{Notice, descriptorCheck}
 use Rattle.interrupts.specs.Interrupts.{Delivery, fault, remap, post, descriptorRules, onIrte, indexRules, InterruptOutcome, passed, remapped, posted, blocked, refused, delivered, interruptRules}
 use Rattle.interrupts.specs.declared.InterruptRequest.{InterruptRequest}
-use Rattle.interrupts.proofs.Requests.{entryAt, atTable, request-cases}
+use Rattle.interrupts.proofs.Requests.{request-cases}
 
 module _ (registers : Registers) (request : InterruptRequest) (m : Memory) where
   -- the entry of the request's whole index lies in the table, can be fetched, and its check lets it ask for i
@@ -37,11 +37,12 @@ module _ (registers : Registers) (request : InterruptRequest) (m : Memory) where
 
   -- it asks for a post to a descriptor that can be fetched, and whose check gives the notice
   pub record Posting (descriptor vector : ℕ) (n : Notice) : Type 0 where
+    pub urgent : Bool
     pub fpd : Bool
-    pub told : Told (posts descriptor vector fpd)
+    pub told : Told (posts descriptor vector urgent fpd)
     pub d : ℕ
     pub fetched : entry 8 m descriptor ≡ found d
-    pub checked : descriptorCheck (registers .eime) d ≡ go n
+    pub checked : descriptorCheck (registers .eime) urgent d ≡ go n
 
   abbrev pub Raised : InterruptOutcome → Type 0
   Raised (remapped r) = Told (remaps r)
@@ -56,10 +57,10 @@ module _ (registers : Registers) (request : InterruptRequest) (m : Memory) where
   descriptor-raised : (i : Irte) → Told i → From (run (onIrte (registers .eime) i) m)
   unfolding descriptorRules run
   descriptor-raised (remaps r) told = told
-  descriptor-raised (posts at vector fpd) told =
-      run-cases postedDescriptor at (fault 0x27 fpd) (descriptorCheck (registers .eime)) (λ d reason. fault reason fpd) (λ n. answer (post at vector n)) m From tt
+  descriptor-raised (posts at vector urgent fpd) told =
+      run-cases postedDescriptor at (fault 0x27 fpd) (descriptorCheck (registers .eime) urgent) (λ d reason. fault reason fpd) (λ n. answer (post at vector n)) m From tt
       (λ d reason there stops. tt)
-      (λ d n there goes. record { fpd = fpd; told = told; d = d; fetched = there; checked = goes })
+      (λ d n there goes. record { urgent = urgent; fpd = fpd; told = told; d = d; fetched = there; checked = goes })
 
   index-raised : From (run (indexRules registers (request .source .id) (wholeIndex request)) m)
   unfolding indexRules run
@@ -90,13 +91,20 @@ asked-for registers source e {i} h =
     let valid = past (reservedIrte registers e) 0x24 _ i (present .1) in
     same-go (past (not (sourceAllowed source e)) 0x26 (go (irteOf (registers .eime) e)) i (valid .1) .1)
 
-vector-small : (eime : Bool) (e : ℕ) {d v : ℕ} {fpd : Bool} → irteOf eime e ≡ posts d v fpd → v < 256
-vector-small eime e {d} {v} {fpd} asked = by (bit e 15) asked
+-- a post's vector is one of 256, and its urgency the entry's URG
+posted-fields : (eime : Bool) (e : ℕ) {d v : ℕ} {urgent fpd : Bool} → irteOf eime e ≡ posts d v urgent fpd → (v < 256) × (urgent ≡ urgentOf e)
+posted-fields eime e {d} {v} {urgent} {fpd} asked = by (bit e 15) asked
   where
-    by : (t : Bool) → (if t then posts (descriptorAddress e) (bits e 23 16) (faultProcessingDisabled e) else remaps (remappedBy eime e)) ≡ posts d v fpd
-        → v < 256
-    by true h = let same : bits e 23 16 ≡ v = cc in omega (arith, fits e 23 16)
+    by : (t : Bool)
+        → (if t then posts (descriptorAddress e) (bits e 23 16) (urgentOf e) (faultProcessingDisabled e) else remaps (remappedBy eime e)) ≡ posts d v urgent fpd
+        → (v < 256) × (urgent ≡ urgentOf e)
+    by true h = let same : bits e 23 16 ≡ v = cc in (omega (arith, fits e 23 16), cc)
     by false h = let z : _≡_ {A = ℕ} 0 1 = cc in absurd (omega arith)
+
+module _ (registers : Registers) (request : InterruptRequest) (m : Memory) {descriptor vector : ℕ} {n : Notice} where
+  pub fields-of : (p : Posting registers request m descriptor vector n) → (vector < 256) × (p .urgent ≡ urgentOf (p .told .e))
+  fields-of p =
+      posted-fields (registers .eime) (p .told .e) (asked-for registers (request .source .id) (p .told .e) (p .told .checked))
 
 -- document 01's post stays in the image, 64 bytes from the descriptor's address, and its vector is one of 256
 abbrev pub Within : List ℕ → InterruptOutcome → Type 0
@@ -111,7 +119,7 @@ within image registers request = by (outcome registers request image) (raised re
   where
     by : (o : InterruptOutcome) → Raised registers request (ofImage image) o → Within image o
     by (posted at vector n) p =
-        (whole-entry image 7 at (p .fetched), vector-small (registers .eime) (p .told .e) (asked-for registers (request .source .id) (p .told .e) (p .told .checked)))
+        (whole-entry image 7 at (p .fetched), fields-of registers request (ofImage image) p .0)
     by passed p = tt
     by (remapped r) p = tt
     by (blocked f) p = tt

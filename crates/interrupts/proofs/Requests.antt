@@ -1,6 +1,6 @@
 -- A request's rules up to the table: what holds of every answer given before it, and of the rules of the whole index, holds of the
 -- request.
-use Prim.Native.Nat.{ℕ, _+_, _*_}
+use Prim.Native.Nat.{ℕ}
 use mathlib.Core.Bool.{Bool, true, false, not, _||_}
 use mathlib.Core.Path.{_≡_, refl, sym}
 use native.Mathlib.Nat.{add-zero}
@@ -42,10 +42,6 @@ formed registers request =
 
     F : Check Format → Type 0
     F = Formed request
-
--- where the entry of a request's whole index is
-abbrev pub entryAt : Registers → InterruptRequest → ℕ
-entryAt registers request = registers .«interrupt_table» + 16 * wholeIndex request
 
 -- the rules of a request's whole index
 abbrev pub atTable : Registers → InterruptRequest → Rules InterruptOutcome

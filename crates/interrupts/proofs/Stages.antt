@@ -13,17 +13,17 @@ use Rattle.irte.specs.Irte.{Irte, Asked, asks, stops, asked, irteCheck, faultPr
 use Rattle.interrupts.specs.Descriptor.{Notice, descriptorCheck}
 use Rattle.interrupts.specs.Interrupts.{Delivery, fault, post, descriptorRules, onIrte, indexRules}
 
-module _ (m : Memory) (eime fpd : Bool) (vector at : ℕ) where
-  pub no-descriptor : missing ≡ entry 8 m at → fault 0x27 fpd ≡ run (descriptorRules eime fpd at vector) m
+module _ (m : Memory) (eime urgent fpd : Bool) (vector at : ℕ) where
+  pub no-descriptor : missing ≡ entry 8 m at → fault 0x27 fpd ≡ run (descriptorRules eime urgent fpd at vector) m
   unfolding descriptorRules
-  no-descriptor = unfetched postedDescriptor at (fault 0x27 fpd) (descriptorCheck eime) (λ d reason. fault reason fpd) (λ n. answer (post at vector n)) m
+  no-descriptor = unfetched postedDescriptor at (fault 0x27 fpd) (descriptorCheck eime urgent) (λ d reason. fault reason fpd) (λ n. answer (post at vector n)) m
 
-  pub descriptor-checked : {d : ℕ} {k : Check Notice} → found d ≡ entry 8 m at → k ≡ descriptorCheck eime d
-      → onCheck k (λ reason. fault reason fpd) (post at vector) ≡ run (descriptorRules eime fpd at vector) m
+  pub descriptor-checked : {d : ℕ} {k : Check Notice} → found d ≡ entry 8 m at → k ≡ descriptorCheck eime urgent d
+      → onCheck k (λ reason. fault reason fpd) (post at vector) ≡ run (descriptorRules eime urgent fpd at vector) m
   unfolding descriptorRules
   descriptor-checked {d} {k} h told =
       only m k (λ reason. fault reason fpd) (post at vector)
-      ∙ checked postedDescriptor at (fault 0x27 fpd) (descriptorCheck eime) (λ d reason. fault reason fpd) (λ n. answer (post at vector n)) m h
+      ∙ checked postedDescriptor at (fault 0x27 fpd) (descriptorCheck eime urgent) (λ d reason. fault reason fpd) (λ n. answer (post at vector n)) m h
       (ap (λ (k : Check Notice). onCheck k (λ reason. answer (fault reason fpd)) (λ n. answer (post at vector n))) told)
 
 -- what follows what an entry's check says

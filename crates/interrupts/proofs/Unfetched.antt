@@ -37,9 +37,9 @@ irte-otherwise registers source e =
     (tested (reservedIrte registers e) 0x24 _ refl
     (tested (not (sourceAllowed source e)) 0x26 _ refl tt))
 
-descriptor-otherwise : (eime : Bool) (d : ℕ) → Otherwise (descriptorCheck eime d)
+descriptor-otherwise : (eime urgent : Bool) (d : ℕ) → Otherwise (descriptorCheck eime urgent d)
 unfolding descriptorCheck
-descriptor-otherwise eime d =
+descriptor-otherwise eime urgent d =
     tested (reservedDescriptor eime d) 0x28 _ refl tt
 
 differ : _≡_ {A = Bool} true false → ⊥
@@ -56,9 +56,9 @@ module _ (source index : ℕ) where
   irte-inside : (eime : Bool) (i : Irte) → Inside Access (onIrte eime i)
   unfolding descriptorRules Inside
   irte-inside eime (remaps r) = λ is. is
-  irte-inside eime (posts at vector fpd) = λ d.
-      check-cases (Inside Access) (descriptorCheck eime d) (λ reason. fault reason fpd) (λ n. answer (post at vector n))
-      (λ reason told. no-fault reason fpd (rw told at (descriptor-otherwise eime d))) (λ n told is. is)
+  irte-inside eime (posts at vector urgent fpd) = λ d.
+      check-cases (Inside Access) (descriptorCheck eime urgent d) (λ reason. fault reason fpd) (λ n. answer (post at vector n))
+      (λ reason told. no-fault reason fpd (rw told at (descriptor-otherwise eime urgent d))) (λ n told is. is)
 
   index-inside : (registers : Registers) → Inside Access (indexRules registers source index)
   unfolding indexRules Inside

@@ -46,12 +46,22 @@ abbrev pub SetsExactly : Type 0
 SetsExactly = (registers : Registers) (request : InterruptRequest) (image : List ℕ) (n : ℕ) →
     bitAt (written (outcome registers request image) image) n ≡ (bitAt image n || sets (outcome registers request image) n)
 
--- a post answers a notice exactly where ON and SN were clear, so with SetsExactly ON goes from 0 to 1 exactly with a notice; the
--- premise says that the image is made of bytes
+-- the index as the whole number that it is: with SHV the handle plus data 15:0, else the handle
+abbrev pub wholeIndex : InterruptRequest → ℕ
+wholeIndex request =
+    handleOf (request .address) + (if bit (request .address) 3 then bits (request .«data») 15 0 else 0)
+
+-- the entry of that index
+abbrev pub entryAt : Registers → InterruptRequest → ℕ
+entryAt registers request = registers .«interrupt_table» + 16 * wholeIndex request
+
+-- a post answers a notice exactly where ON was clear and either the entry's URG was set or SN was clear, so with SetsExactly ON goes
+-- from 0 to 1 exactly with a notice; the premise says that the image is made of bytes
 abbrev pub NoticeExactly : Type 0
 NoticeExactly = (registers : Registers) (request : InterruptRequest) (image : List ℕ) → ((n : ℕ) → getD image n 0 < 256) →
     (descriptor vector : ℕ) (m : Notice) → outcome registers request image ≡ posted descriptor vector m →
-    due m ≡ not (bitAt image (8 * descriptor + 256) || bitAt image (8 * descriptor + 257))
+    due m ≡ (not (bitAt image (8 * descriptor + 256))
+    && (bitAt image (8 * entryAt registers request + 14) || not (bitAt image (8 * descriptor + 257))))
 
 -- a refused, blocked, passed or remapped request leaves every byte
 abbrev pub LeavesAll : Type 0
@@ -64,11 +74,6 @@ abbrev pub StaysInside : Type 0
 StaysInside = (registers : Registers) (request : InterruptRequest) (image : List ℕ) →
     (length (written (outcome registers request image) image) ≡ length image)
     × ((n : ℕ) → sets (outcome registers request image) n ≡ true → n < 8 * length image)
-
--- the index as the whole number that it is: with SHV the handle plus data 15:0, else the handle
-abbrev pub wholeIndex : InterruptRequest → ℕ
-wholeIndex request =
-    handleOf (request .address) + (if bit (request .address) 3 then bits (request .«data») 15 0 else 0)
 
 abbrev pub IndexBound : Type 0
 IndexBound = (request : InterruptRequest) → wholeIndex request ≤ 131070

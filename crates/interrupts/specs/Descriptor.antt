@@ -17,11 +17,14 @@ reservedDescriptor eime d =
 abbrev pub noticeDestination : (eime : Bool) (d : ℕ) → ℕ
 noticeDestination eime d = if eime then bits d 319 288 else bits d 303 296
 
--- a notice is due where ON and SN are both clear
-abbrev pub noticeOf : (eime : Bool) (d : ℕ) → Notice
-noticeOf eime d =
-    if bit d 256 || bit d 257 then silent
-    else notice (bits d 279 272) (noticeDestination eime d)
+-- document 02, Ask 2: a notice is due where ON is clear and either the entry's URG is set or SN is clear
+abbrev pub noticeDue : (urgent : Bool) (d : ℕ) → Bool
+noticeDue urgent d = not (bit d 256) && (urgent || not (bit d 257))
 
-unfoldable pub descriptorCheck : (eime : Bool) (d : ℕ) → Check Notice
-descriptorCheck eime d = if reservedDescriptor eime d then stop 0x28 else go (noticeOf eime d)
+abbrev pub noticeOf : (eime urgent : Bool) (d : ℕ) → Notice
+noticeOf eime urgent d =
+    if noticeDue urgent d then notice (bits d 279 272) (noticeDestination eime d) else silent
+
+unfoldable pub descriptorCheck : (eime urgent : Bool) (d : ℕ) → Check Notice
+descriptorCheck eime urgent d =
+    if reservedDescriptor eime d then stop 0x28 else go (noticeOf eime urgent d)

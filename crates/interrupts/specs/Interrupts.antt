@@ -23,13 +23,13 @@ pub data Delivery : Type 0 where
   remap : Remapped → Delivery
   post : (descriptor vector : ℕ) → Notice → Delivery
 
-unfoldable pub descriptorRules : (eime fpd : Bool) (at vector : ℕ) → Rules Delivery
-descriptorRules eime fpd at vector =
-    stage postedDescriptor at (fault 0x27 fpd) (descriptorCheck eime) (λ d reason. fault reason fpd) (λ n. answer (post at vector n))
+unfoldable pub descriptorRules : (eime urgent fpd : Bool) (at vector : ℕ) → Rules Delivery
+descriptorRules eime urgent fpd at vector =
+    stage postedDescriptor at (fault 0x27 fpd) (descriptorCheck eime urgent) (λ d reason. fault reason fpd) (λ n. answer (post at vector n))
 
 abbrev pub onIrte : (eime : Bool) → Irte → Rules Delivery
 onIrte eime (remaps r) = answer (remap r)
-onIrte eime (posts descriptor vector fpd) = descriptorRules eime fpd descriptor vector
+onIrte eime (posts descriptor vector urgent fpd) = descriptorRules eime urgent fpd descriptor vector
 
 unfoldable pub indexRules : Registers → (source index : ℕ) → Rules Delivery
 indexRules registers source index =

@@ -2,7 +2,7 @@
 ghost use mathlib.Core.Path.{_≡_};
 ghost use Rattle.image.specs.Bits.{anySet};
 ghost use Rattle.image.specs.Entries.{number64};
-ghost use Rattle.interrupts.specs.Descriptor.{reservedDescriptor, noticeDestination, noticeOf, descriptorCheck};
+ghost use Rattle.interrupts.specs.Descriptor.{reservedDescriptor, noticeDestination, noticeDue, noticeOf, descriptorCheck};
 ghost use Rattle.interrupts.specs.Checked.{dueOf, descriptorChecked};
 use image::Entry64;
 use image::any_set64;
@@ -43,11 +43,17 @@ fn notice_destination(eime: bool, d: Entry64) -> u32
     bits64(d, 303, 296) as u32
 }
 
-// ON or SN holds the notice back.
-fn notice_of(eime: bool, d: Entry64) -> Notice
-    ensures { λ r. ⌜ dueOf r ≡ noticeOf eime (number64 d) ⌝ }
+// ON holds the notice back, and so does SN, but not that of an urgent post.
+fn notice_due(urgent: bool, d: Entry64) -> bool
+    ensures { λ r. ⌜ r ≡ noticeDue urgent (number64 d) ⌝ }
 {
-    if (bits64(d, 256, 256) == 1) | (bits64(d, 257, 257) == 1) {
+    (bits64(d, 256, 256) != 1) & (urgent | (bits64(d, 257, 257) != 1))
+}
+
+fn notice_of(eime: bool, urgent: bool, d: Entry64) -> Notice
+    ensures { λ r. ⌜ dueOf r ≡ noticeOf eime urgent (number64 d) ⌝ }
+{
+    if !notice_due(urgent, d) {
         return Notice::Silent;
     }
     let vector = bits64(d, 279, 272) as u8;
@@ -58,11 +64,11 @@ fn notice_of(eime: bool, d: Entry64) -> Notice
     }
 }
 
-pub(crate) fn descriptor_check(eime: bool, d: Entry64) -> DescriptorCheck
-    ensures { λ r. ⌜ descriptorChecked r ≡ descriptorCheck eime (number64 d) ⌝ }
+pub(crate) fn descriptor_check(eime: bool, urgent: bool, d: Entry64) -> DescriptorCheck
+    ensures { λ r. ⌜ descriptorChecked r ≡ descriptorCheck eime urgent (number64 d) ⌝ }
 {
     if reserved_descriptor(eime, d) {
         return DescriptorCheck::Reserved;
     }
-    DescriptorCheck::Valid(notice_of(eime, d))
+    DescriptorCheck::Valid(notice_of(eime, urgent, d))
 }

@@ -20,13 +20,20 @@ use registers::Registers;
 use registers::SourceId;
 use registers::at_or_above_power;
 
-fn follow_descriptor(image: &[u8], eime: bool, fpd: bool, at: u64, vector: u8) -> Delivery
-    ensures { λ r. ⌜ deliveryOf r ≡ run (descriptorRules eime fpd at vector) (ofImage (now (image .entry))) ⌝ }
+fn follow_descriptor(
+    image: &[u8],
+    eime: bool,
+    urgent: bool,
+    fpd: bool,
+    at: u64,
+    vector: u8,
+) -> Delivery
+    ensures { λ r. ⌜ deliveryOf r ≡ run (descriptorRules eime urgent fpd at vector) (ofImage (now (image .entry))) ⌝ }
 {
     let Found64::Entry(d) = fetch64(image, at) else {
         return Delivery::Fault(Reason::DescriptorAccess, fpd);
     };
-    let DescriptorCheck::Valid(notice) = descriptor_check(eime, d) else {
+    let DescriptorCheck::Valid(notice) = descriptor_check(eime, urgent, d) else {
         return Delivery::Fault(Reason::DescriptorReserved, fpd);
     };
     Delivery::Post(Posted {
@@ -57,8 +64,9 @@ pub(crate) fn follow_index(
         Irte::Posts {
             descriptor,
             vector,
+            urgent,
             fpd,
-        } => follow_descriptor(image, registers.eime, fpd, descriptor, vector),
+        } => follow_descriptor(image, registers.eime, urgent, fpd, descriptor, vector),
         Irte::Fault(reason, fpd) => Delivery::Fault(reason, fpd),
     }
 }

@@ -18,5 +18,5 @@ remappedOf r =
 
 abbrev pub askedOf : Irte → irte.Asked
 askedOf (Remaps r) = irte.asks (irte.remaps (remappedOf r))
-askedOf (Posts descriptor vector fpd) = irte.asks (irte.posts descriptor vector fpd)
+askedOf (Posts descriptor vector urgent fpd) = irte.asks (irte.posts descriptor vector urgent fpd)
 askedOf (Fault reason fpd) = irte.stops (numberOf reason) fpd

@@ -13,6 +13,10 @@ use Rattle.irte.specs.Source.{sourceAllowed}
 abbrev pub faultProcessingDisabled : (e : ℕ) → Bool
 faultProcessingDisabled e = bit e 1
 
+-- URG, of a posted entry
+abbrev pub urgentOf : (e : ℕ) → Bool
+urgentOf e = bit e 14
+
 -- 63:38 as its bits 31:6 and 127:96 as its bits 63:32
 abbrev pub descriptorAddress : (e : ℕ) → ℕ
 descriptorAddress e = bits e 63 38 * 2 ^ 6 + bits e 127 96 * 2 ^ 32
@@ -25,7 +29,7 @@ reservedInRemapped eime e =
     anySet e 14 12 || anySet e 31 24 || anySet e 127 84 || eqb (bits e 7 5) 3 || eqb (bits e 7 5) 6
     || not eime && (anySet e 39 32 || anySet e 63 48)
 
--- bit 14 is reserved in a remapped entry alone: in a posted one it has no effect. Bits 11:8 are not looked at in either kind
+-- bit 14 is reserved in a remapped entry alone: in a posted one it is URG. Bits 11:8 are not looked at in either kind
 abbrev pub reservedInPosted : (haw e : ℕ) → Bool
 reservedInPosted haw e =
     anySet e 7 2 || anySet e 13 12 || anySet e 37 24 || anySet e 95 84 || anySet (descriptorAddress e) 63 haw
@@ -59,14 +63,15 @@ remappedBy eime e =
       destination = destinationOf eime e;
     }
 
--- what an entry asks for: the remapped answer, or a post of a vector to the descriptor at an address, with FPD for the faults there
+-- what an entry asks for: the remapped answer, or a post of a vector to the descriptor at an address, urgent or not, with FPD for the
+-- faults there
 pub data Irte : Type 0 where
   remaps : Remapped → Irte
-  posts : (descriptor vector : ℕ) (fpd : Bool) → Irte
+  posts : (descriptor vector : ℕ) (urgent fpd : Bool) → Irte
 
 abbrev pub irteOf : (eime : Bool) (e : ℕ) → Irte
 irteOf eime e =
-    if bit e 15 then posts (descriptorAddress e) (bits e 23 16) (faultProcessingDisabled e)
+    if bit e 15 then posts (descriptorAddress e) (bits e 23 16) (urgentOf e) (faultProcessingDisabled e)
     else remaps (remappedBy eime e)
 
 -- present, reserved, source: the first that fails stops it

@@ -29,10 +29,11 @@ pub struct Remapped {
 // What an entry's check says: what the entry asks for, or why the request ends here.
 pub enum Irte {
     Remaps(Remapped),
-    // A post of the vector to the descriptor at the address, with FPD for the faults there.
+    // A post of the vector to the descriptor at the address, urgent where URG says so, with FPD for the faults there.
     Posts {
         descriptor: u64,
         vector: u8,
+        urgent: bool,
         fpd: bool,
     },
     // FPD is read whether the entry is present or not.
@@ -71,10 +72,12 @@ fn irte_of(eime: bool, e: Entry16) -> Irte
     if bit16(e, 15) {
         let vector = bits16(e, 23, 16) as u8;
         let descriptor = descriptor_address(e);
+        let urgent = bit16(e, 14);
         let fpd = bit16(e, 1);
         return Irte::Posts {
             descriptor,
             vector,
+            urgent,
             fpd,
         };
     }

@@ -124,11 +124,15 @@ impl Read {
             Outcome::Passed if registers.ire => Met::PassedOld,
             Outcome::Passed => Met::PassedOff,
             Outcome::Remapped { .. } => self.remapped(),
-            Outcome::Posted { notice: Some(_) } => Met::Notified,
-            Outcome::Posted { notice: None } => {
-                let control = self.words.get(6).copied().unwrap_or(0);
-                let [on, sn] = [0, 1].map(|bit| control >> bit & 1 == 1);
-                Met::Posted { on, sn }
+            Outcome::Posted { notice } => {
+                let word = |n: usize| self.words.get(n).copied().unwrap_or(0);
+                let [on, sn] = [0, 1].map(|bit| word(6) >> bit & 1 == 1);
+                Met::Posted {
+                    notice: notice.is_some(),
+                    urg: word(0) >> 14 & 1 == 1,
+                    sn,
+                    on,
+                }
             }
         }
     }

@@ -23,10 +23,13 @@ pub enum Met {
     PassedOld,
     /// Remapped, with SVT and, where that is 1, SQ.
     Remapped { svt: u64, sq: u64 },
-    /// Posted with a notice.
-    Notified,
-    /// Posted without, since ON, SN or both were set.
-    Posted { on: bool, sn: bool },
+    /// Posted, with or without a notice, by the entry's URG and the descriptor's SN and ON.
+    Posted {
+        notice: bool,
+        urg: bool,
+        sn: bool,
+        on: bool,
+    },
     /// An interrupt blocked.
     InterruptBlocked { reason: u8, recordable: bool },
     /// A recorder call, by the slots of its buffer, none where the length is wrong, and by what it
@@ -116,14 +119,15 @@ impl fmt::Display for Met {
             Met::PassedOld => write!(f, "interrupt: passed, old format"),
             Met::Remapped { svt: 1, sq } => write!(f, "interrupt: remapped, SVT 1, SQ {sq}"),
             Met::Remapped { svt, .. } => write!(f, "interrupt: remapped, SVT {svt}"),
-            Met::Notified => write!(f, "interrupt: posted, notice"),
-            Met::Posted { on, sn } => {
-                let set = match (on, sn) {
-                    (true, true) => "ON and SN set",
-                    (true, false) => "ON set",
-                    _ => "SN set",
-                };
-                write!(f, "interrupt: posted, no notice, {set}")
+            Met::Posted {
+                notice,
+                urg,
+                sn,
+                on,
+            } => {
+                let notice = if notice { "notice" } else { "no notice" };
+                let [urg, sn, on] = [urg, sn, on].map(u8::from);
+                write!(f, "interrupt: posted, {notice}, URG {urg}, SN {sn}, ON {on}")
             }
             Met::InterruptBlocked { reason, recordable } => {
                 write!(f, "interrupt: {reason:02X}h, {}", recorded(recordable))

@@ -28,11 +28,19 @@ fn memory(wanted: &mut Vec<Met>) {
 
 fn interrupts(wanted: &mut Vec<Met>) {
     wanted.extend([1, 2].map(Met::InterruptRefused));
-    wanted.extend([Met::PassedOff, Met::PassedOld, Met::Notified]);
+    wanted.extend([Met::PassedOff, Met::PassedOld]);
     wanted.extend([0, 2].map(|svt| Met::Remapped { svt, sq: 0 }));
     wanted.extend([0, 1, 2, 3].map(|sq| Met::Remapped { svt: 1, sq }));
-    for (on, sn) in [(true, false), (false, true), (true, true)] {
-        wanted.push(Met::Posted { on, sn });
+    for bits in 0..8 {
+        let [urg, sn, on] = [4, 2, 1].map(|bit| bits & bit != 0);
+        // Ask 2: due where ON is clear and either URG is set or SN is clear.
+        let notice = !on && (urg || !sn);
+        wanted.push(Met::Posted {
+            notice,
+            urg,
+            sn,
+            on,
+        });
     }
     for reason in 0x20..=0x28 {
         let recordable = true;

@@ -23,8 +23,11 @@ descriptor-address-requires c κs = search needs
 bit16-requires-2 : tie.Need-bit16-requires-2
 bit16-requires-2 c κs = search needs
 
+bit16-requires-3 : tie.Need-bit16-requires-3
+bit16-requires-3 c κs = search needs
+
 returns : tie.Need-returns
-returns c = rw (← c .before .before .before .before .bit16 .ensures, c .before .before .before .if1 .taken) (cc)
+returns c = rw (← c .before .before .before .before .before .bit16 .ensures, c .before .before .before .before .if1 .taken) (cc)
 
 remapped-by-requires : tie.Need-remapped-by-requires
 remapped-by-requires c κs = search needs
@@ -43,6 +46,7 @@ irte-of-spec =
     cast-vector
     descriptor-address-requires
     bit16-requires-2
+    bit16-requires-3
     returns
     remapped-by-requires
     returns-2)

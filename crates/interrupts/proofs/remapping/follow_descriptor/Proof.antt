@@ -21,7 +21,7 @@ returns : tie.Need-returns
 returns c =
     let f = c .before .before in
     let a = f .before .before .args in
-    no-descriptor (ofImage (a .image .now)) (a .eime) (a .fpd) (a .vector) (a .at)
+    no-descriptor (ofImage (a .image .now)) (a .eime) (a .urgent) (a .fpd) (a .vector) (a .at)
     (sym (ap fetched64 (c .enum-told .given .1)) ∙ f .fetch64 .ensures)
 
 descriptor-check-requires : tie.Need-descriptor-check-requires
@@ -39,7 +39,7 @@ returns-2 c =
     let found = k .before .before in
     let f = found .before .before in
     let a = f .before .before .args in
-    descriptor-checked (ofImage (a .image .now)) (a .eime) (a .fpd) (a .vector) (a .at)
+    descriptor-checked (ofImage (a .image .now)) (a .eime) (a .urgent) (a .fpd) (a .vector) (a .at)
     (sym (ap fetched64 (found .d .given .1)) ∙ f .fetch64 .ensures)
     (sym (ap descriptorChecked (c .enum-told2 .given .1)) ∙ k .descriptor-check .ensures)
 
@@ -49,7 +49,7 @@ returns-3 c =
     let found = k .before .before in
     let f = found .before .before in
     let a = f .before .before .args in
-    descriptor-checked (ofImage (a .image .now)) (a .eime) (a .fpd) (a .vector) (a .at)
+    descriptor-checked (ofImage (a .image .now)) (a .eime) (a .urgent) (a .fpd) (a .vector) (a .at)
     (sym (ap fetched64 (found .d .given .1)) ∙ f .fetch64 .ensures)
     (sym (ap descriptorChecked (c .before .notice .given .1)) ∙ k .descriptor-check .ensures)
 
