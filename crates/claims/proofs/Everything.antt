@@ -1,4 +1,5 @@
 -- Every claim holds.
+use Rattle.meter.proofs.Runs.{first-ticks, decay, never-above, stays-in-range, bytes-tell}
 use Rattle.faults.proofs.Recording.{slot-counts}
 use Rattle.faults.proofs.Totals.{one-length, total}
 use Rattle.dma.proofs.Access.{locality}
@@ -49,4 +50,9 @@ everything =
       none-untaken = none-untaken;
       at-most-ten = at-most-ten;
       none-before-table = none-before-table;
+      first-ticks = first-ticks;
+      decay = decay;
+      never-above = never-above;
+      stays-in-range = stays-in-range;
+      bytes-tell = bytes-tell;
     }

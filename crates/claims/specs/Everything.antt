@@ -1,6 +1,7 @@
 -- Every claim that docs/PROOF.md names, as one type. Its term is `everything` in proofs/Everything.antt, so a claim whose proof is lost
 -- is refused here, and tests/run-claims holds the page to this list and this list to the page. What a function promises is its contract,
 -- and isn't repeated here.
+use Rattle.meter.specs.Runs.{FirstTicks, Decays, NeverAbove, StaysInRange, BytesTell}
 use Rattle.faults.specs.Slots.{SlotCounts}
 use Rattle.faults.specs.Total.{OneLength, Total}
 use Rattle.dma.specs.Isolation.{Locality, AccessMeansUnfetched, RightsOn, RightsOff, Unshared}
@@ -45,3 +46,9 @@ pub record Everything : Type 0 where
   pub none-untaken : NoneUntaken
   pub at-most-ten : AtMostTen
   pub none-before-table : NoneBeforeTable
+  -- meters: exact at first, bounded always, and a byte for each
+  pub first-ticks : FirstTicks
+  pub decay : Decays
+  pub never-above : NeverAbove
+  pub stays-in-range : StaysInRange
+  pub bytes-tell : BytesTell

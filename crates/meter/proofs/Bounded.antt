@@ -154,15 +154,15 @@ stays-minus m e count none few =
     (in-range count 1 (lit< tt) (omega arith))
 
 -- from 0 on: no NaN, no infinity, nothing below zero
-pub never-above : (x : Float) (count : ℕ) → InRange x → count ≤ 65535 → InRange (tickLoad x count)
+pub stays-bounded : (x : Float) (count : ℕ) → InRange x → count ≤ 65535 → InRange (tickLoad x count)
 unfolding le ofBits ofFields odd
-never-above nan count h few = absurd (h .0)
-never-above (inf true) count h few = absurd (h .0)
-never-above (inf false) count h few = absurd (h .1)
-never-above (fin false m e) count h few =
+stays-bounded nan count h few = absurd (h .0)
+stays-bounded (inf true) count h few = absurd (h .0)
+stays-bounded (inf false) count h few = absurd (h .1)
+stays-bounded (fin false m e) count h few =
     stays-positive (fin false m e) (m * up e) (down e) count (down-pos e) (refl, refl)
     (rw (← mul-one (m * up e)) (le-cross (fin false m e) most (m * up e) (down e) 131070 1 (refl, refl) most-value (h .1))) few
-never-above (fin true m e) count h few =
+stays-bounded (fin true m e) count h few =
     stays-minus m e count (sym (sym (zero-mul (down e)) ∙ eqb→eq (0 * down e) (m * up e * 1) (and-l (eqb (0 * down e) (m * up e * 1)) (eqb (0 * down e) 0) (h .0)) ∙ mul-one (m * up e))) few
 
 -- ---- a float less itself

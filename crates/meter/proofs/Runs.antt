@@ -16,7 +16,7 @@ use Rattle.meter.specs.Refused.{some, badCount, badLoad, badGate, badMet
 use Rattle.meter.specs.Row.{tickedAll, tickRow, resetRow}
 use Rattle.meter.specs.Runs.{Tick, rowAfter, countsAt, meterAt, weighed, quiet, FirstTicks, Decays, InRange, NeverAbove, StaysInRange, BytesTell}
 use Rattle.meter.proofs.Exactly.{never, loadAfter, Counts, first-32, decays}
-use Rattle.meter.proofs.Bounded.{never-above}
+use Rattle.meter.proofs.Bounded.{stays-bounded}
 
 -- ---- a meter of a row
 pub tickedAll-length : (row : List Meter) (counts : List ℕ) → length (tickedAll row counts) ≡ length row
@@ -89,7 +89,7 @@ module _ (row : List Meter) (counts bytes : List ℕ) (good : refused row counts
 pub stays-in-range : StaysInRange
 stays-in-range row counts bytes place good inside =
     subst (λ (m : Meter). InRange (m .load)) (sym (at-place row counts bytes good place inside))
-    (never-above (meterAt row place .load) (getD counts place 0) (in-range row counts bytes good place inside) (few row counts bytes good place inside))
+    (stays-bounded (meterAt row place .load) (getD counts place 0) (in-range row counts bytes good place inside) (few row counts bytes good place inside))
 
 pub bytes-tell : BytesTell
 bytes-tell row counts bytes place good inside =
@@ -146,7 +146,7 @@ module _ (row : List Meter) where
 always : (counts : List ℕ) → Counts counts → InRange (loadAfter counts)
 unfolding loadAfter Counts le ofBits ofFields odd
 always [] h = (tt, tt)
-always (c ∷ counts) h = never-above (loadAfter counts) c (always counts (h .1)) (h .0)
+always (c ∷ counts) h = stays-bounded (loadAfter counts) c (always counts (h .1)) (h .0)
 
 -- ---- the claims
 pub first-ticks : FirstTicks
@@ -159,6 +159,6 @@ decay row ticks place count k inside deep run =
     subst (λ (x : Float). HasValue x false count (2 ^ k)) (sym (load-after row place inside ticks ∙ ap loadAfter run))
     (decays count k (subst Counts run (all-few row place inside ticks)) deep)
 
-pub in-range-after : NeverAbove
-in-range-after row ticks place inside =
+pub never-above : NeverAbove
+never-above row ticks place inside =
     subst InRange (sym (load-after row place inside ticks)) (always (countsAt row place ticks) (all-few row place inside ticks))
