@@ -70,10 +70,12 @@ extern "C" {
 #define GALITZAF_SLOT_CLEARED 0x21   /* clear a slot: a record stood there */
 #define GALITZAF_OVERFLOW_CLEAR 0x30 /* clear overflow: it was clear */
 #define GALITZAF_OVERFLOW_CLEARED 0x31 /* clear overflow: it was set */
+#define GALITZAF_METERS_REFUSED 0x60 /* meters: something in row, counts or bytes is bad */
 #define GALITZAF_BAD_REGISTERS 0x101 /* not 24 bytes, or a bit set that has to be zero */
 #define GALITZAF_BAD_ANSWER 0x102    /* not 24 bytes, or, to be recorded, of no kind above */
 #define GALITZAF_BAD_KIND 0x103      /* write is neither 0 nor 1 */
 #define GALITZAF_BAD_RECORDER 0x104  /* overflow is neither 0 nor 1 */
+#define GALITZAF_BAD_METERS 0x106    /* parts of different lengths, or a kind above 2 */
 
 /* Where an untranslated request may go. source has the bus in 15:8, device and function in 7:0; write
  * is 1 for a write, 0 for a read. */
@@ -104,6 +106,24 @@ uint32_t galitzaf_clear_slot(uint8_t *records, size_t records_len,
 /* Clears the overflow flag. */
 uint32_t galitzaf_clear_overflow(const uint8_t *records, size_t records_len,
                                  uint8_t *recorder, size_t recorder_len);
+
+/* Storm meters: a load for each device, halved on each tick before the tick's count is added, and a gate that it may
+ * trip. A meter is a place in each of four arrays of one length: its kind, its low, its high and its load. Kind 0 is off
+ * and looks at no limit, kind 1 trips above its high, kind 2 outside low and high, always strictly. Arrays of different
+ * lengths or another kind are malformed: GALITZAF_BAD_METERS.
+ *
+ * bytes[i] becomes 1 where the new load trips gate i, else 0. The tick is GALITZAF_METERS_REFUSED, with loads and bytes
+ * as they came, where counts or bytes aren't one per meter, a count is above 65,535, a load isn't from 0 to 131,070, a
+ * limit that the kind looks at isn't finite or is below zero, or a low is over its high. */
+uint32_t galitzaf_tick_meters(const uint8_t *kinds, size_t kinds_len,
+                              const double *lows, size_t lows_len,
+                              const double *highs, size_t highs_len,
+                              double *loads, size_t loads_len,
+                              const uint32_t *counts, size_t counts_len,
+                              uint8_t *bytes, size_t bytes_len);
+
+/* Makes all loads 0. */
+uint32_t galitzaf_reset_meters(double *loads, size_t loads_len);
 
 #ifdef __cplusplus
 }

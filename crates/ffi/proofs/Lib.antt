@@ -1,3 +1,4 @@
+pub mod Arrays
 pub mod Registers
 pub mod States
 pub mod ThreeWords

@@ -18,3 +18,9 @@ badRecorder = 0x104
 
 abbrev pub noFault : ℕ
 noFault = 0x10
+
+abbrev pub badMeters : ℕ
+badMeters = 0x106
+
+abbrev pub metersRefused : ℕ
+metersRefused = 0x60

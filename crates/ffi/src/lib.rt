@@ -1,11 +1,14 @@
 // The C interface that include/galitzaf.h fixes: arguments are unpacked, the unit is asked, and its answer is packed.
 mod answer;
 mod buffer;
+mod meters;
 mod recorder;
 mod requests;
 mod status;
 mod unpack;
 
+pub use meters::galitzaf_reset_meters;
+pub use meters::galitzaf_tick_meters;
 pub use recorder::galitzaf_clear_overflow;
 pub use recorder::galitzaf_clear_slot;
 pub use recorder::galitzaf_record;

@@ -5,6 +5,8 @@ pub const REFUSED_3: u32 = 0x03;
 
 pub const NO_FAULT: u32 = 0x10;
 
+pub const METERS_REFUSED: u32 = 0x60;
+
 pub const BAD_REGISTERS: u32 = 0x101;
 
 pub const BAD_ANSWER: u32 = 0x102;
@@ -12,3 +14,5 @@ pub const BAD_ANSWER: u32 = 0x102;
 pub const BAD_KIND: u32 = 0x103;
 
 pub const BAD_RECORDER: u32 = 0x104;
+
+pub const BAD_METERS: u32 = 0x106;
