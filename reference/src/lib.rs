@@ -13,6 +13,7 @@ mod bits;
 mod image;
 mod interrupts;
 mod memory;
+mod meters;
 mod record;
 mod recorder;
 mod registers;
@@ -20,6 +21,9 @@ pub mod slips;
 
 pub use interrupts::{interrupt_request, interrupt_request_with, named_words_interrupt};
 pub use memory::{memory_request, memory_request_with, named_words_memory, walked_entries};
+pub use meters::{
+    counts_weighted, load_times_2_31, reset_meters, tick_meters, Gate, Meter, MetersRefused,
+};
 pub use record::Fault;
 pub use recorder::{clear_overflow, clear_slot, record, Call, Recorder};
 pub use registers::Registers;
