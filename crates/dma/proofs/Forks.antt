@@ -14,13 +14,14 @@ use Rattle.registers.specs.declared.Registers.{Registers}
 use Rattle.faults.specs.Record.{memoryFault}
 use Rattle.dma.specs.Context.{faultProcessingDisabled}
 use Rattle.dma.specs.Isolation.{accessFault}
-use Rattle.dma.specs.Page.{pageCheck, leafAt, hostAddress}
+use Rattle.dma.specs.Page.{pageCheck, leafAt}
 use Rattle.dma.specs.Requests.{MemoryOutcome, granted, refused, memoryOutcome, memoryRules}
 use Rattle.dma.specs.Translation.{Translation, through, leaf, fault, Reachable, pageStep, pageRules, widthRules, translationRules}
 use Rattle.dma.specs.Walk.{Step, done, down, placeIn}
 use Rattle.dma.specs.declared.context.Context.{Context}
 use Rattle.dma.specs.declared.MemoryRequest.{MemoryRequest}
 use Rattle.dma.proofs.Cases.{width-cases}
+use Rattle.dma.proofs.Leaves.{leaf-no-access}
 use Rattle.dma.proofs.Lookups.{every-lookup}
 use Rattle.dma.proofs.Reasons.{Otherwise, root-otherwise, context-otherwise, page-otherwise}
 use Rattle.dma.proofs.Steps.{page-frame-lt, leaf-low}
@@ -79,7 +80,7 @@ module _ (registers : Registers) (request : MemoryRequest) where
       on (go frame) true told is-page h =
           let is : t ≡ leaf frame (suc n) = cc in
           let low = leaf-low registers (request .write) (suc n) e frame told is-page in
-          rw is ((page-frame-lt registers (request .write) (suc n) e frame told, omega arith, low), no-grant (hostAddress (suc n) frame (request .address)))
+          rw is ((page-frame-lt registers (request .write) (suc n) e frame told, omega arith, low), leaf-no-access request frame (suc n))
       on (go frame) false told is-page h = let z : _≡_ {A = ℕ} 0 1 = cc in absurd (omega arith)
 
   -- a table below which there are levels, at a multiple of 8
@@ -121,7 +122,7 @@ module _ (registers : Registers) (request : MemoryRequest) where
     where
       faults : (t : Translation) → accessFault (memoryOutcome request t) ≡ true → Reachable t
       faults through is = tt
-      faults (leaf frame level) is = let z : _≡_ {A = ℕ} 0 1 = cc in absurd (omega arith)
+      faults (leaf frame level) is = absurd (leaf-no-access request frame level is)
       faults (fault reason fpd) is = tt
 
   pub memory-forks : Every Fork Ends 9 (memoryRules registers request)

@@ -5,8 +5,10 @@ pub mod Aligned
 pub mod Cases
 pub mod Forks
 pub mod Injective
+pub mod Leaves
 pub mod Lookups
 pub mod Nine
+pub mod NoInterrupt
 pub mod Raised
 pub mod Reached
 pub mod Reasons

@@ -15,7 +15,6 @@ use Rattle.image.specs.Choice.{if_then_else_}
 use Rattle.image.specs.EntryKind.{EntryKind, isPage}
 use Rattle.image.specs.Memory.{Memory, Fetched, missing, found, wordAt, ofImage, entry, onFetch}
 use Rattle.image.specs.Rules.{Rules, answer, fetch, run, entriesOf}
-use Rattle.image.proofs.Fields.{fits}
 use Rattle.image.proofs.Forks.{every-run}
 use Rattle.image.proofs.Trees.{entries-map}
 use Rattle.image.proofs.Words.{word-inside, whole-entry}
@@ -35,9 +34,10 @@ use Rattle.dma.specs.Walk.{Step, done, down, onStep, placeIn, walkRules}
 use Rattle.dma.specs.declared.context.Context.{Context}
 use Rattle.dma.specs.declared.MemoryRequest.{MemoryRequest}
 use Rattle.dma.proofs.Admissions.{refuses, passes, takes}
+use Rattle.dma.proofs.Leaves.{leaf-granted}
 use Rattle.dma.proofs.Lookups.{looked-up}
 use Rattle.dma.proofs.Stepped.{leads}
-use Rattle.dma.proofs.Steps.{past, page-frame, leaf-low}
+use Rattle.dma.proofs.Steps.{past, page-frame, leaf-low, offset-lt}
 use Rattle.dma.proofs.Walks.{every-walk}
 
 -- an entry that its check lets pass has the right
@@ -247,11 +247,6 @@ module _ (registers : Registers) (request : MemoryRequest) (image : List ℕ) wh
       by false false was = reached-walk (c .fpd) (c .levels) (c .top) frame k was
 
   -- a host address in the page of its leaf
-  offset-lt : (level : ℕ) → 0 < level → bits (request .address) (11 + 9 * (level - 1)) 0 < 2 ^ (12 + 9 * (level - 1))
-  offset-lt level some =
-      let size : suc (11 + 9 * (level - 1)) - 0 ≡ 12 + 9 * (level - 1) = omega arith in
-      subst (λ (k : ℕ). bits (request .address) (11 + 9 * (level - 1)) 0 < 2 ^ k) size (fits (request .address) (11 + 9 * (level - 1)) 0)
-
   reached : (c : Context) {entries : List ℕ} (frame k : ℕ) → run (lookupRules registers (request .source .id)) m ≡ context c
       → walkedOver registers request image ≡ entries
       → Leads request image entries (c .levels) frame k → Reached registers request image (hostAddress k frame (request .address))
@@ -265,7 +260,7 @@ module _ (registers : Registers) (request : MemoryRequest) (image : List ℕ) wh
         own-context = own;
         path = p;
         address = is;
-        in-page = (rw is (omega arith), rw is (omega (arith, offset-lt (p .level) (p .page-size .0))));
+        in-page = (rw is (omega arith), rw is (omega (arith, offset-lt (request .address) (p .level))));
       }
 
   abbrev Granted : ℕ → Type 0
@@ -287,8 +282,7 @@ module _ (registers : Registers) (request : MemoryRequest) (image : List ℕ) wh
         reason = inr (record { own = c; own-context = own; type = passes .1 });
       })
   after-lookup host (context c) own walked (leaf frame k) is was =
-      let same : host ≡ hostAddress k frame (request .address) = cc in
-      inr (rw same (reached c frame k own walked (width-leaf c frame k is)))
+      inr (rw (leaf-granted request frame k was .1) (reached c frame k own walked (width-leaf c frame k is)))
 
   abbrev rules : Rules Translation
   rules = translationRules registers (request .address) (request .write) (request .source .id)

@@ -7,6 +7,7 @@ use native.Mathlib.Decide.{decLe}
 use native.Mathlib.Nat.{div-one}
 use borrow.Author.Tests.{le-leb, ne-eqb}
 use lib.Dec.{leb, lit≤}
+use lib.Pow.{pow-mono}
 use Rattle.image.specs.Bits.{bits, bit, inPlace, anySet}
 use Rattle.image.specs.Check.{Check, stop, go}
 use Rattle.image.specs.Choice.{if_then_else_}
@@ -34,6 +35,16 @@ unfolding bits
 offset-of address level =
     let all : suc (11 + 9 * (level - 1)) - 0 ≡ 12 + 9 * (level - 1) = omega arith in
     simp (div-one, all)
+
+-- an offset lies within its page
+pub offset-lt : (address level : ℕ) → bits address (11 + 9 * (level - 1)) 0 < 2 ^ (12 + 9 * (level - 1))
+offset-lt address level =
+    let size : suc (11 + 9 * (level - 1)) - 0 ≡ 12 + 9 * (level - 1) = omega arith in
+    subst (λ (k : ℕ). bits address (11 + 9 * (level - 1)) 0 < 2 ^ k) size (fits address (11 + 9 * (level - 1)) 0)
+
+-- a page's bytes, for the levels that a leaf has
+pub span-le : (level : ℕ) → level ≤ 3 → 2 ^ (12 + 9 * (level - 1)) ≤ 2 ^ 30
+span-le level h = pow-mono {j = 30} (omega arith)
 
 -- a check that goes on is past each test that would stop it
 pub past : {A : Type 0} (t : Bool) (reason : ℕ) (rest : Check A) (a : A) → (if t then stop reason else rest) ≡ go a

@@ -1,8 +1,10 @@
 pub mod Answers
 pub mod Context
+pub mod InterruptRange
 pub mod Isolation
 pub mod Lookup
 pub mod Named
+pub mod NoInterrupt
 pub mod Page
 pub mod Reached
 pub mod Requests

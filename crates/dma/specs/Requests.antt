@@ -1,12 +1,14 @@
 -- A memory request, from registers to answer, as one rules tree.
 use Prim.Native.Nat.{ℕ}
 use mathlib.Core.List.{List}
+use Rattle.image.specs.Choice.{if_then_else_}
 use Rattle.image.specs.EntryKind.{isPage, isRootOrContext}
 use Rattle.image.specs.Memory.{Memory}
 use Rattle.image.specs.Rules.{Rules, mapRules, entriesOf}
 use Rattle.registers.specs.Admission.{admission, onAdmission, inInterruptRange}
 use Rattle.registers.specs.declared.Registers.{Registers}
 use Rattle.faults.specs.Record.{FaultAnswer, memoryFault}
+use Rattle.dma.specs.InterruptRange.{meetsInterruptRange, spanAt}
 use Rattle.dma.specs.Page.{hostAddress}
 use Rattle.dma.specs.Translation.{Translation, through, leaf, fault, translationRules}
 use Rattle.dma.specs.declared.MemoryRequest.{MemoryRequest}
@@ -17,9 +19,12 @@ pub data MemoryOutcome : Type 0 where
   blocked : FaultAnswer → MemoryOutcome
   refused : ℕ → MemoryOutcome
 
+-- a page with a byte in the interrupt range is refusal 4, whatever the address's offset in it
 abbrev pub memoryOutcome : MemoryRequest → Translation → MemoryOutcome
 memoryOutcome request through = granted (request .address)
-memoryOutcome request (leaf frame level) = granted (hostAddress level frame (request .address))
+memoryOutcome request (leaf frame level) =
+    if meetsInterruptRange frame (spanAt level) then refused 4
+    else granted (hostAddress level frame (request .address))
 memoryOutcome request (fault reason fpd) =
     blocked (memoryFault reason fpd (request .source .id) (request .address) (request .write))
 

@@ -4,7 +4,7 @@ ghost use Rattle.image.specs.Memory.{ofImage};
 ghost use Rattle.image.specs.Rules.{run};
 ghost use Rattle.dma.specs.Answers.{outcomeOf};
 ghost use Rattle.dma.specs.Answers.{translationOf};
-ghost use Rattle.dma.specs.Translation.{Reachable};
+ghost use Rattle.dma.specs.Translation.{leaf, Reachable};
 ghost use Rattle.dma.specs.Requests.{memoryOutcome, memoryRules};
 
 mod context;
@@ -18,6 +18,7 @@ mod walk;
 use faults::Fault;
 use faults::memory_fault;
 use page::host_address;
+use page::meets_interrupt_range;
 use registers::Admission;
 use registers::Registers;
 use registers::SourceId;
@@ -36,8 +37,19 @@ pub enum MemoryAnswer {
     // The host address.
     Granted(u64),
     Blocked(Fault),
-    // By number: 1 bad registers, 2 an address in the interrupt range.
+    // By number: 1 bad registers, 2 an address in the interrupt range, 4 a page with a byte in it.
     Refused(u8),
+}
+
+// A page that the walk ended with: refusal 4, or the host address.
+fn page_answer(request: MemoryRequest, frame: u64, level: u32) -> MemoryAnswer
+    requires { ⌜ Reachable (leaf frame level) ⌝ }
+    ensures { λ r. ⌜ outcomeOf r ≡ memoryOutcome request (leaf frame level) ⌝ }
+{
+    if meets_interrupt_range(level, frame) {
+        return MemoryAnswer::Refused(4);
+    }
+    MemoryAnswer::Granted(host_address(level, frame, request.address))
 }
 
 fn answer(request: MemoryRequest, translated: Translation) -> MemoryAnswer
@@ -46,9 +58,7 @@ fn answer(request: MemoryRequest, translated: Translation) -> MemoryAnswer
 {
     match translated {
         Translation::Through => MemoryAnswer::Granted(request.address),
-        Translation::Leaf(frame, level) => {
-            MemoryAnswer::Granted(host_address(level, frame, request.address))
-        }
+        Translation::Leaf(frame, level) => page_answer(request, frame, level),
         Translation::Fault(reason, fpd) => MemoryAnswer::Blocked(memory_fault(
             reason,
             fpd,

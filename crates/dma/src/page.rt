@@ -3,6 +3,7 @@ ghost use mathlib.Core.Path.{_≡_};
 ghost use Prim.Native.Nat.{_+_, _*_, _-_, _^_, _<_, _≤_};
 ghost use Rattle.image.specs.Bits.{bits};
 ghost use Rattle.image.specs.Memory.{ofImage};
+ghost use Rattle.dma.specs.InterruptRange.{meetsInterruptRange, spanAt};
 ghost use Rattle.dma.specs.Page.{denied, ownRight, leafAt, pageReserved, pageCheck, hostAddress};
 ghost use Rattle.faults.specs.Reason.{numberOf};
 ghost use Rattle.dma.specs.Answers.{stepOf};
@@ -136,4 +137,16 @@ pub(crate) fn host_address(level: u32, frame: u64, address: u64) -> u64
     ensures { λ r. ⌜ r ≡ hostAddress level frame address ⌝ }
 {
     frame + offset(level, address)
+}
+
+// Some byte of the page lies in the interrupt range.
+pub(crate) fn meets_interrupt_range(level: u32, frame: u64) -> bool
+    requires { ⌜ Reachable (leaf frame level) ⌝ }
+    ensures { λ r. ⌜ r ≡ meetsInterruptRange frame (spanAt level) ⌝ }
+{
+    let span = 1u64 << (Page4K::SHIFT + 9 * (level - 1));
+    if frame + span <= 0xFEE0_0000 {
+        return false;
+    }
+    frame <= 0xFEEF_FFFF
 }

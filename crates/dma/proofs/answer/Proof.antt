@@ -1,6 +1,6 @@
 use mathlib.Core.Path.{_≡_, refl, ap, sym, _∙_, subst}
 use Rattle.dma.specs.Answers.{translationOf}
-use Rattle.dma.specs.Requests.{granted, blocked, memoryOutcome}
+use Rattle.dma.specs.Requests.{blocked, memoryOutcome}
 use Rattle.dma.specs.Translation.{Reachable}
 use borrow.Author.Needs.{needs}
 use Rattle.dma.proofs.answer.Statement.{statement}
@@ -12,8 +12,8 @@ enum-told c = search needs
 enum-known-translated : tie.Need-enum-known-translated
 enum-known-translated c = search needs
 
-host-address-requires : tie.Need-host-address-requires
-host-address-requires c κs = subst (λ t. Reachable (translationOf t)) (c .before .translated .given .1) (c .before .before .before .pre)
+page-answer-requires : tie.Need-page-answer-requires
+page-answer-requires c κs = subst (λ t. Reachable (translationOf t)) (c .before .translated .given .1) (c .before .before .before .pre)
 
 enum-known-translated-2 : tie.Need-enum-known-translated-2
 enum-known-translated-2 c = search needs
@@ -25,7 +25,7 @@ returns : tie.Need-returns
 returns c = sym (ap (λ t. memoryOutcome (c .before .before .args .request) (translationOf t)) (c .enum-told .given .1))
 
 returns-2 : tie.Need-returns-2
-returns-2 c = ap granted (c .host-address .ensures) ∙ sym (ap (λ t. memoryOutcome (c .before .before .before .before .args .request) (translationOf t)) (c .before .before .translated .given .1))
+returns-2 c = c .page-answer .ensures ∙ sym (ap (λ t. memoryOutcome (c .before .before .before .before .args .request) (translationOf t)) (c .before .before .translated .given .1))
 
 returns-3 : tie.Need-returns-3
 returns-3 c = ap blocked (c .memory-fault .ensures) ∙ sym (ap (λ t. memoryOutcome (c .before .before .before .before .args .request) (translationOf t)) (c .before .before .translated2 .given .1))
@@ -36,7 +36,7 @@ answer-spec =
     (tie.spec
     enum-told
     enum-known-translated
-    host-address-requires
+    page-answer-requires
     enum-known-translated-2
     memory-fault-requires
     returns

@@ -1,0 +1,20 @@
+use mathlib.Core.Path.{_≡_, ap, sym, _∙_}
+use borrow.Author.Needs.{needs}
+use Rattle.dma.proofs.page_answer.Statement.{statement}
+use Rattle.dma.proofs.page_answer.Tie as tie
+
+meets-interrupt-range-requires : tie.Need-meets-interrupt-range-requires
+meets-interrupt-range-requires c κs = search needs
+
+returns : tie.Need-returns
+returns c = rw (← c .before .meets-interrupt-range .ensures, c .if1 .taken)
+
+host-address-requires : tie.Need-host-address-requires
+host-address-requires c κs = search needs
+
+returns-2 : tie.Need-returns-2
+returns-2 c = rw (← c .before .before .meets-interrupt-range .ensures, c .before .if1 .left, c .host-address .ensures)
+
+pub page-answer-spec : {M : Type 1} → statement M
+page-answer-spec =
+    tie.close (tie.spec meets-interrupt-range-requires returns host-address-requires returns-2)
