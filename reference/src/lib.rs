@@ -36,7 +36,8 @@ pub enum Outcome {
     Granted(u64),
     /// A fault stopped the request.
     Blocked(Fault),
-    /// The unit says no by house number, 1 or 2.
+    /// The unit says no by house number: 1, 2, or 4 (a frame on the interrupt
+    /// range).
     Refused(u8),
     /// An interrupt is passed unchanged.
     Passed,

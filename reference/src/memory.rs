@@ -3,7 +3,7 @@
 use crate::bits::{any_set, bit, bits};
 use crate::image::fetch;
 use crate::record::memory_fault;
-use crate::registers::{in_interrupt_range, outside_the_list, Registers};
+use crate::registers::{in_interrupt_range, meets_interrupt_range, outside_the_list, Registers};
 use crate::slips::{self, Slip};
 use crate::Outcome;
 
@@ -225,6 +225,12 @@ fn answer(
                 _ => 30,
             };
             let frame = slips::leaf_frame(slip, frame, low);
+            // A translated frame with any byte in FEE00000h to FEEFFFFFh is to
+            // be blocked. 003 gives no reason for it, so house number 4, never
+            // recorded. It is checked after rights at the leaf.
+            if meets_interrupt_range(frame, 1u128 << low) {
+                return Outcome::Refused(4);
+            }
             let answer = frame + bits(&address.to_le_bytes(), low - 1, 0);
             return Outcome::Granted(answer as u64);
         }

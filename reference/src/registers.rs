@@ -1,5 +1,5 @@
-//! "What the cabinet's unit does": the registers, and the two refusals that
-//! every request is checked for.
+//! "What the cabinet's unit does": the registers, the two refusals that every
+//! request is checked for, and the range they and number 4 are about.
 
 /// The registers, by value.
 #[derive(Clone, Copy, Debug, PartialEq, Eq)]
@@ -72,4 +72,11 @@ fn multiple_of_4096(address: u64) -> bool {
 /// FEE00000h to FEEFFFFFh, which number 2 is about.
 pub fn in_interrupt_range(address: u64) -> bool {
     (0xFEE0_0000..=0xFEEF_FFFF).contains(&address)
+}
+
+/// Whether any of the `size` bytes from `start` on lies in FEE00000h to
+/// FEEFFFFFh, which number 4 is about.
+pub fn meets_interrupt_range(start: u128, size: u128) -> bool {
+    let last = start + size - 1;
+    start <= 0xFEEF_FFFF && last >= 0xFEE0_0000
 }

@@ -77,7 +77,7 @@ fn mask_large_frame() {
     let slip = Slip::MaskLargeFrame;
     for (address, at, entry, masked) in [
         (0x4041_2345, 0x4010, 0x407F_F083, 0x4061_2345),
-        (0x4020_1ABC, 0x3008, 0xFFFF_F083, 0xC020_1ABC),
+        (0x4020_1ABC, 0x3008, 0xBFFF_F083, 0x8020_1ABC),
     ] {
         let image = bench_with(&[(at, entry)]);
         assert_eq!(

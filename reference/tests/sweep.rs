@@ -96,7 +96,9 @@ fn image_for_memory(
         let at = table + 8 * (address >> (12 + 9 * (level - 1)) & 511);
         let rights = random.pick(&[3, 3, 3, 3, 3, 2, 1, 0]);
         let large = (level == 2 || level == 3) && random.below(4) == 0;
-        let frame = if level == 1 {
+        let frame = if level == 1 && random.below(16) == 0 {
+            0xFEE0_0000 + 0x1000 * random.below(256)
+        } else if level == 1 {
             random.word() & ((1 << registers.haw) - 1) & !0xFFF
         } else if large {
             random.word() & ((1 << registers.haw) - 1) & !((1 << (9 * level + 3)) - 1)
@@ -251,6 +253,7 @@ fn memory_requests() {
         "granted",
         "refused 1",
         "refused 2",
+        "refused 4",
     ];
     assert!(met.iter().eq(expected), "{met:?}");
     assert!(still_granted > 500, "{still_granted}");

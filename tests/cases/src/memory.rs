@@ -98,7 +98,7 @@ fn frame(random: &mut Random, registers: &Registers, shift: u32) -> u64 {
     let last = (1u64 << registers.haw.clamp(36, 52)) - 1;
     let host = match random.below(12) {
         0 => last,
-        1 => 0xFEE0_0000,
+        1 => random.pick(&[0xFEDF_F000, 0xFEE0_0000, 0xFEEF_F000, 0xFEF0_0000]),
         2 => 0,
         _ => random.word() & last,
     };
