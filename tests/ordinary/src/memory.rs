@@ -1,7 +1,7 @@
 //! Memory requests.
 
 use crate::fetch::{pair, word};
-use crate::unit::in_interrupt_range;
+use crate::unit::{in_interrupt_range, meets_interrupt_range};
 use crate::{Fault, Registers, Unit};
 
 /// What becomes of a memory request.
@@ -29,6 +29,21 @@ struct Request {
     source: u16,
     address: u64,
     write: bool,
+}
+
+/// Why a request isn't granted.
+enum Stop {
+    /// A fault, by reason.
+    Fault(u8),
+    /// Refusal 4: the page lies on interrupts.
+    OnInterrupts,
+}
+
+impl From<u8> for Stop {
+    #[inline]
+    fn from(reason: u8) -> Self {
+        Self::Fault(reason)
+    }
 }
 
 /// Answers a memory request, the registers checked first.
@@ -80,7 +95,8 @@ impl Unit<'_> {
         let mut fpd = false;
         match self.translate(image, request, &mut fpd) {
             Ok(host) => MemoryAnswer::Granted(host),
-            Err(reason) => {
+            Err(Stop::OnInterrupts) => MemoryAnswer::Refused(4),
+            Err(Stop::Fault(reason)) => {
                 let Request {
                     source,
                     address,
@@ -93,35 +109,35 @@ impl Unit<'_> {
 
     /// The host address, or the reason why there is none.
     #[inline(always)]
-    fn translate(&self, image: &[u8], request: Request, fpd: &mut bool) -> Result<u64, u8> {
+    fn translate(&self, image: &[u8], request: Request, fpd: &mut bool) -> Result<u64, Stop> {
         let bus = u64::from(request.source >> 8);
         let devfn = u64::from(request.source & 0xFF);
 
         let (low, high) = pair(image, self.registers.root_table + 16 * bus).ok_or(0x08)?;
         if low & 1 == 0 {
-            return Err(0x01);
+            return Err(Stop::Fault(0x01));
         }
         if low & (0xFFE | self.beyond) != 0 || high != 0 {
-            return Err(0x0A);
+            return Err(Stop::Fault(0x0A));
         }
 
         let (low, high) = pair(image, (low & !0xFFF) + 16 * devfn).ok_or(0x09)?;
         *fpd = low & 2 != 0;
         if low & 1 == 0 {
-            return Err(0x02);
+            return Err(Stop::Fault(0x02));
         }
         if low & (CONTEXT_RESERVED.0 | self.beyond) != 0 || high & CONTEXT_RESERVED.1 != 0 {
-            return Err(0x0B);
+            return Err(Stop::Fault(0x0B));
         }
         let width = high & 7;
         let kind = low >> 2 & 3;
         if !(1..=3).contains(&width) || self.registers.widths >> width & 1 == 0 || kind == 3 {
-            return Err(0x03);
+            return Err(Stop::Fault(0x03));
         }
         let levels = width as u32 + 2;
         let bits = (12 + 9 * levels).min(u32::from(self.registers.mgaw));
         if request.address >> bits != 0 {
-            return Err(0x04);
+            return Err(Stop::Fault(0x04));
         }
         if kind == 2 {
             return Ok(request.address);
@@ -130,7 +146,7 @@ impl Unit<'_> {
     }
 
     #[inline(always)]
-    fn walk(&self, image: &[u8], request: Request, top: u64, levels: u32) -> Result<u64, u8> {
+    fn walk(&self, image: &[u8], request: Request, top: u64, levels: u32) -> Result<u64, Stop> {
         let (right, denied) = if request.write {
             (WRITE, 0x05)
         } else {
@@ -143,17 +159,20 @@ impl Unit<'_> {
             let index = request.address >> shift & 0x1FF;
             let entry = word(image, table + 8 * index).ok_or(0x07)?;
             if entry & (READ | WRITE) == 0 {
-                return Err(denied);
+                return Err(Stop::Fault(denied));
             }
             let large = entry & LARGE != 0 && shift > 12;
             if entry & beyond != 0 || large && !self.is_large_page(entry, shift) {
-                return Err(0x0C);
+                return Err(Stop::Fault(0x0C));
             }
             if entry & right == 0 {
-                return Err(denied);
+                return Err(Stop::Fault(denied));
             }
             let frame = entry & FRAME;
             if large || shift == 12 {
+                if meets_interrupt_range(frame, shift) {
+                    return Err(Stop::OnInterrupts);
+                }
                 return Ok(frame | request.address & !(u64::MAX << shift));
             }
             table = frame;
