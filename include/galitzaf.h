@@ -37,7 +37,8 @@ extern "C" {
  *   GRANTED   bytes 15:8 host address                                            (memory requests)
  *   BLOCKED   byte 1 reason, byte 2 1 where the fault may be recorded, else 0;
  *             bytes 23:8 the 16 record bytes
- *   REFUSED   byte 1 refusal number (1 bad registers, 2 address of the wrong kind)
+ *   REFUSED   byte 1 refusal number (1 bad registers, 2 address of the wrong kind, 4 a memory request whose
+ *             walk ended with a page that has a byte in FEE00000h to FEEFFFFFh)
  *   PASSED    the interrupt goes on unchanged                                    (interrupts)
  *   REMAPPED  byte 1 vector, byte 2 delivery mode, byte 3 bit 0 destination mode, bit 1 redirection
  *             hint, bit 2 trigger mode; bytes 7:4 destination                    (interrupts)

@@ -24,6 +24,8 @@ pub enum Refusal {
     /// 3: the record buffer isn't 8, 16, .. 256 slots, or the next slot or a slot to clear is above
     /// the last.
     BadRecorder,
+    /// 4: the walk of a memory request ended with a page that has a byte in FEE00000h to FEEFFFFFh.
+    PageInInterruptRange,
     /// A number that this version doesn't name. Number 0 is for an archive that doesn't keep to the
     /// header this crate was written for, so that even then nothing is granted or delivered.
     Other(u8),
@@ -38,6 +40,7 @@ impl Refusal {
             Self::BadRegisters => 1,
             Self::WrongAddress => 2,
             Self::BadRecorder => 3,
+            Self::PageInInterruptRange => 4,
             Self::Other(number) => number,
         }
     }
@@ -49,6 +52,7 @@ impl From<u8> for Refusal {
             1 => Self::BadRegisters,
             2 => Self::WrongAddress,
             3 => Self::BadRecorder,
+            4 => Self::PageInInterruptRange,
             _ => Self::Other(number),
         }
     }
@@ -60,6 +64,7 @@ impl fmt::Display for Refusal {
             Self::BadRegisters => f.write_str("refusal 1: bad registers"),
             Self::WrongAddress => f.write_str("refusal 2: address of the wrong kind"),
             Self::BadRecorder => f.write_str("refusal 3: bad recorder, record buffer or slot"),
+            Self::PageInInterruptRange => f.write_str("refusal 4: page in the interrupt range"),
             Self::Other(number) => write!(f, "refusal {number}"),
         }
     }
@@ -378,5 +383,6 @@ mod tests {
             assert_eq!(Refusal::from(number).number(), number);
         }
         assert_eq!(Refusal::from(3), Refusal::BadRecorder);
+        assert_eq!(Refusal::from(4), Refusal::PageInInterruptRange);
     }
 }

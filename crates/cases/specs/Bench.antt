@@ -10,7 +10,7 @@ use Rattle.image.specs.Memory.{ofImage}
 use Rattle.image.specs.Rules.{run}
 use Rattle.registers.specs.declared.Registers.{Registers}
 use Rattle.faults.specs.Record.{FaultAnswer}
-use Rattle.dma.specs.Requests.{MemoryOutcome, granted, blocked, memoryRules}
+use Rattle.dma.specs.Requests.{MemoryOutcome, granted, blocked, refused, memoryRules}
 use Rattle.dma.specs.declared.MemoryRequest.{MemoryRequest}
 use Rattle.interrupts.specs.Descriptor.{silent, notice}
 use Rattle.interrupts.specs.Interrupts as interrupts
@@ -102,15 +102,17 @@ resultOf source (interrupt address message) image =
 abbrev pub faulted : (reason low high : ℕ) → FaultAnswer
 faulted reason low high = record { reason = reason; recordable = true; contents = spell (low ∷ high ∷ []) }
 
--- what a case answers: a host address, a fault, or an interrupt's outcome with the bytes that change
+-- what a case answers: a host address, a fault, a refusal of a memory request, or an interrupt's outcome with the bytes that change
 pub data Answer : Type 0 where
   host : ℕ → Answer
   fault : (reason low high : ℕ) → Answer
+  refusal : (number : ℕ) → Answer
   becomes : interrupts.InterruptOutcome → List (ℕ × ℕ) → Answer
 
 abbrev pub expected : Answer → (image : List ℕ) → Result
 expected (host address) image = memory (granted address)
 expected (fault reason low high) image = memory (blocked (faulted reason low high))
+expected (refusal number) image = memory (refused number)
 expected (becomes outcome bytes) image = interrupted outcome (changed bytes image)
 
 pub record Row : Type 0 where

@@ -5,6 +5,7 @@ use Rattle.faults.proofs.Totals.{one-length, total}
 use Rattle.dma.proofs.Access.{locality}
 use Rattle.dma.proofs.Nine.{at-most-nine, none-untaken}
 use Rattle.dma.proofs.Reached.{granted-by-own-walk}
+use Rattle.dma.proofs.NoInterrupt.{no-interrupt-granted, whole-frame-tested}
 use Rattle.dma.proofs.Rights.{rights-on, rights-off, unshared}
 use Rattle.dma.proofs.Unfetched.{access-means-unfetched}
 use Rattle.interrupts.proofs.Exact.{sets-exactly, leaves-all, stays-inside}
@@ -15,6 +16,7 @@ use Rattle.interrupts.proofs.Unfetched.{interrupt-access-means-unfetched}
 use Rattle.unit.proofs.Demand3.{isolation, more-memory}
 use Rattle.cases.proofs.Cases.{twelve-cases}
 use Rattle.cases.proofs.Instances.{premises-met}
+use Rattle.cases.proofs.InterruptFrames.{interrupt-frames}
 use Rattle.claims.specs.Everything.{Everything}
 use Rattle.claims.proofs.OneAnswer.{one-memory-answer, one-interrupt-answer, one-reason}
 
@@ -35,6 +37,9 @@ everything =
       one-length = one-length;
       total = total;
       twelve-cases = twelve-cases;
+      no-interrupt-granted = no-interrupt-granted;
+      whole-frame-tested = whole-frame-tested;
+      interrupt-frames = interrupt-frames;
       isolation = isolation;
       locality = locality;
       access-means-unfetched = access-means-unfetched;

@@ -6,11 +6,13 @@ use Rattle.faults.specs.Slots.{SlotCounts}
 use Rattle.faults.specs.Total.{OneLength, Total}
 use Rattle.dma.specs.Isolation.{Locality, AccessMeansUnfetched, RightsOn, RightsOff, Unshared}
 use Rattle.dma.specs.Named.{AtMostNine, NoneUntaken}
+use Rattle.dma.specs.NoInterrupt.{NoInterruptGranted, WholeFrameTested}
 use Rattle.dma.specs.Reached.{GrantedByOwnWalk}
 use Rattle.interrupts.specs.Claims.{SetsExactly, NoticeExactly, LeavesAll, StaysInside, IndexBound, EntryOfIndex, NoWrap, AtMostTen, NoneBeforeTable, InterruptAccessMeansUnfetched, Isolated}
 use Rattle.unit.specs.Isolation.{Isolation, MoreMemory}
 use Rattle.cases.specs.Bench.{TwelveCases}
 use Rattle.cases.specs.Instances.{PremisesMet}
+use Rattle.cases.specs.InterruptFrames.{InterruptFrames}
 use Rattle.claims.specs.OneAnswer.{OneMemoryAnswer, OneInterruptAnswer, OneReason}
 
 pub record Everything : Type 0 where
@@ -30,6 +32,10 @@ pub record Everything : Type 0 where
   pub one-length : OneLength
   pub total : Total
   pub twelve-cases : TwelveCases
+  -- document 02, Ask 10: no memory request raises an interrupt
+  pub no-interrupt-granted : NoInterruptGranted
+  pub whole-frame-tested : WholeFrameTested
+  pub interrupt-frames : InterruptFrames
   -- demand 3: memory, rights, and the words that are named
   pub isolation : Isolation
   pub locality : Locality

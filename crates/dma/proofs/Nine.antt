@@ -1,4 +1,4 @@
--- Document 01: never more than nine words for a memory request; and with TE off, or refused, none.
+-- Document 01: never more than nine words for a memory request; and with TE off, or refused by 1 or 2, none.
 use Prim.Native.Nat.{ℕ}
 use mathlib.Core.Bool.{Bool, true, false}
 use mathlib.Core.Path.{_≡_, refl, ap, sym, _∙_}

@@ -16,7 +16,7 @@ AtMostNine =
     (registers : Registers) (request : MemoryRequest) (image : List ℕ)
     → length (named (memoryRules registers request) (ofImage image)) ≤ 9
 
--- none where the request is refused or TE is off
+-- none where the request is refused by 1 or 2, or TE is off
 abbrev pub NoneUntaken : Type 0
 NoneUntaken =
     (registers : Registers) (request : MemoryRequest) (image : List ℕ)

@@ -110,6 +110,7 @@ impl Read {
     pub fn outcome(&self, registers: &Registers, request: &Request, outcome: &Outcome) -> Met {
         let memory = matches!(request, Request::Memory { .. });
         match outcome {
+            Outcome::Refused(4) if memory => self.refused_page(),
             Outcome::Refused(number) if memory => Met::MemoryRefused(*number),
             Outcome::Refused(number) => Met::InterruptRefused(*number),
             Outcome::Blocked(fault) => {
@@ -148,6 +149,14 @@ impl Read {
                 leaf: levels + 1 - walked,
                 levels,
             },
+        }
+    }
+
+    /// Number 4 is told of the page that a walk ended with.
+    fn refused_page(&self) -> Met {
+        match self.granted() {
+            Met::GrantedPage { leaf, levels } => Met::RefusedPage { leaf, levels },
+            _ => Met::MemoryRefused(4),
         }
     }
 

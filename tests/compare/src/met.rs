@@ -13,6 +13,8 @@ pub enum Met {
     GrantedThrough { levels: u64 },
     /// Granted by a walk that ended at this level.
     GrantedPage { leaf: u64, levels: u64 },
+    /// Refused with number 4: a walk that ended at this level, on the interrupt range.
+    RefusedPage { leaf: u64, levels: u64 },
     /// A memory request blocked.
     MemoryBlocked { reason: u8, recordable: bool },
     /// An interrupt refused, by number.
@@ -108,8 +110,10 @@ impl fmt::Display for Met {
                 write!(f, "memory: granted, pass-through, {levels} levels")
             }
             Met::GrantedPage { leaf, levels } => {
-                let size = ["4 KiB", "2 MiB", "1 GiB"][leaf as usize - 1];
-                write!(f, "memory: granted, {size} page, {levels} levels")
+                write!(f, "memory: granted, {} page, {levels} levels", size(leaf))
+            }
+            Met::RefusedPage { leaf, levels } => {
+                write!(f, "memory: refused 4, {} page, {levels} levels", size(leaf))
             }
             Met::MemoryBlocked { reason, recordable } => {
                 write!(f, "memory: {reason:02X}h, {}", recorded(recordable))
@@ -176,6 +180,11 @@ fn on(switch: bool) -> &'static str {
     } else {
         "off"
     }
+}
+
+/// The size of a page, by the level of its entry.
+fn size(leaf: u64) -> &'static str {
+    ["4 KiB", "2 MiB", "1 GiB"][leaf as usize - 1]
 }
 
 fn recorded(recordable: bool) -> &'static str {

@@ -10,11 +10,12 @@ const SILENCED_MEMORY: [u8; 8] = [0x02, 0x03, 0x04, 0x05, 0x06, 0x07, 0x0B, 0x0C
 const SILENCED_INTERRUPT: [u8; 5] = [0x22, 0x24, 0x26, 0x27, 0x28];
 
 fn memory(wanted: &mut Vec<Met>) {
-    wanted.extend([1, 2, 4].map(Met::MemoryRefused));
+    wanted.extend([1, 2].map(Met::MemoryRefused));
     wanted.push(Met::GrantedOff);
     for levels in 3..=5 {
         wanted.push(Met::GrantedThrough { levels });
         wanted.extend((1..=3).map(|leaf| Met::GrantedPage { leaf, levels }));
+        wanted.extend((1..=3).map(|leaf| Met::RefusedPage { leaf, levels }));
     }
     for reason in 0x01..=0x0C {
         let recordable = true;
