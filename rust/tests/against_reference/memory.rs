@@ -20,7 +20,10 @@ fn pages(
         let shift = 12 + 9 * (level - 1);
         let large = (level == 2 || level == 3) && random.below(4) == 0;
         let leaf = large || level == 1;
-        let host = random.word() & ((1 << registers.haw.clamp(36, 52)) - 1);
+        let host = match random.below(8) {
+            0 => 0xFEE0_0000 + random.below(1 << 20),
+            _ => random.word() & ((1 << registers.haw.clamp(36, 52)) - 1),
+        };
         let next = page(random);
         let frame = if leaf { host >> shift << shift } else { next };
         let rights = random.pick(&[3, 3, 3, 3, 3, 3, 3, 1, 2, 0]);
@@ -82,7 +85,10 @@ fn memory_requests() {
         assert_eq!(ours, expected, "{registers:?} {request:?}");
         meet(&mut met, &ours);
     }
-    expect_met(&met, &["granted", "silent", "refused 1", "refused 2"]);
+    expect_met(
+        &met,
+        &["granted", "silent", "refused 1", "refused 2", "refused 4"],
+    );
     let reasons = [
         "01", "02", "03", "04", "05", "06", "07", "08", "09", "0A", "0B", "0C",
     ];
