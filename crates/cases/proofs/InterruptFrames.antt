@@ -6,7 +6,7 @@ use Rattle.image.specs.Entries.{spell}
 use Rattle.image.specs.Memory.{wordAt, ofImage, entry}
 use Rattle.image.specs.Rules.{run, mapRules}
 use Rattle.registers.specs.Admission.{admission}
-use Rattle.registers.specs.Registers.{badRegisters}
+use Rattle.registers.specs.Registers.{registersBad}
 use Rattle.faults.specs.Record.{silenced, memoryRecord, fromBit64, memoryFault}
 use Rattle.dma.specs.Context.{contextReserved, contextInvalid, contextCheck}
 use Rattle.dma.specs.Page.{pageReserved, pageCheck}
@@ -19,5 +19,5 @@ use Rattle.cases.specs.Bench.{layout, resultOf, answers, said}
 use Rattle.cases.specs.InterruptFrames.{frames, InterruptFrames}
 
 pub interrupt-frames : InterruptFrames
-unfolding frames answers said resultOf layout bytesOf littleEndian bits spell wordAt ofImage entry run mapRules admission badRegisters silenced memoryRecord fromBit64 memoryFault contextReserved contextInvalid contextCheck pageReserved pageCheck memoryRules rootReserved rootCheck widthRules contextRules rootRules walkRules
+unfolding frames answers said resultOf layout bytesOf littleEndian bits spell wordAt ofImage entry run mapRules admission registersBad silenced memoryRecord fromBit64 memoryFault contextReserved contextInvalid contextCheck pageReserved pageCheck memoryRules rootReserved rootCheck widthRules contextRules rootRules walkRules
 interrupt-frames = refl
