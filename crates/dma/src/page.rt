@@ -139,14 +139,16 @@ pub(crate) fn host_address(level: u32, frame: u64, address: u64) -> u64
     frame + offset(level, address)
 }
 
-// Some byte of the page lies in the interrupt range.
+// Some byte of the page lies in the interrupt range. A page has at most 1 GiB, so most frames are told by themselves.
 pub(crate) fn meets_interrupt_range(level: u32, frame: u64) -> bool
     requires { ⌜ Reachable (leaf frame level) ⌝ }
     ensures { λ r. ⌜ r ≡ meetsInterruptRange frame (spanAt level) ⌝ }
 {
-    let span = 1u64 << (Page4K::SHIFT + 9 * (level - 1));
-    if frame + span <= 0xFEE0_0000 {
+    if frame <= 0xFEE0_0000 - Page1G::SPAN {
         return false;
     }
-    frame <= 0xFEEF_FFFF
+    if 0xFEEF_FFFF < frame {
+        return false;
+    }
+    0xFEE0_0000 < frame + (1u64 << (Page4K::SHIFT + 9 * (level - 1)))
 }

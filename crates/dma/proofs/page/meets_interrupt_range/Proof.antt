@@ -1,6 +1,9 @@
 use Prim.Native.Nat.{ℕ, _+_, _*_, _-_, _^_, _≤_, _<_}
+use mathlib.Core.Bool.{Bool, true, false, _&&_}
+use mathlib.Core.Path.{_≡_, refl}
 use native.Mathlib.Omega.{arith}
-use borrow.Author.Tests.{lt-ltb, le-ltb}
+use borrow.Author.Tests.{le-ltb, le-leb, lt-leb}
+use lib.Dec.{ltb}
 use Rattle.image.proofs.Fields.{shifted-one}
 use Rattle.dma.specs.InterruptRange.{spanAt}
 use Rattle.dma.proofs.Steps.{span-le}
@@ -8,38 +11,55 @@ use borrow.Author.Needs.{needs}
 use Rattle.dma.proofs.page.meets_interrupt_range.Statement.{statement}
 use Rattle.dma.proofs.page.meets_interrupt_range.Tie as tie
 
-sub-span : tie.Need-sub-span
-sub-span c = search needs
+and-false : (t : Bool) → false ≡ (t && false)
+and-false true = refl
+and-false false = refl
 
-mul-span : tie.Need-mul-span
-mul-span c = search needs
+and-true : (t : Bool) → t ≡ (t && true)
+and-true true = refl
+and-true false = refl
 
-add-span : tie.Need-add-span
-add-span c = search needs
-
-cast-span : tie.Need-cast-span
-cast-span c = search needs
-
-shl-span : tie.Need-shl-span
-shl-span c = search needs
-
-add-if1 : tie.Need-add-if1
-add-if1 c =
-    let a = c .args in
-    rw (shifted-one (12 + 9 * (a .level - 1)) (omega arith)) (omega (arith, span-le (a .level) (c .pre .2)))
+sub-if1 : tie.Need-sub-if1
+sub-if1 c = search needs
 
 returns : tie.Need-returns
 returns c =
     let a = c .before .args in
-    let ended : a .frame + spanAt (a .level) ≤ 0xFEE0_0000 = rw (shifted-one (12 + 9 * (a .level - 1)) (omega arith)) at (c .if1 .taken) in
+    let ended : a .frame + spanAt (a .level) ≤ 0xFEE0_0000 = omega (arith, c .if1 .taken, span-le (a .level) (c .before .pre .2)) in
     rw (le-ltb 0xFEE0_0000 (a .frame + spanAt (a .level)) ended)
 
 returns-2 : tie.Need-returns-2
 returns-2 c =
-    let a = c .before .args in
-    let later : 0xFEE0_0000 < a .frame + spanAt (a .level) = rw (shifted-one (12 + 9 * (a .level - 1)) (omega arith)) at (c .if1 .left) in
-    rw (lt-ltb 0xFEE0_0000 (a .frame + spanAt (a .level)) later)
+    let a = c .before .before .args in
+    rw (lt-leb (a .frame) 0xFEEF_FFFF (c .if2 .taken)) (and-false (ltb 0xFEE0_0000 (a .frame + spanAt (a .level))))
+
+sub-result : tie.Need-sub-result
+sub-result c = search needs
+
+mul-result : tie.Need-mul-result
+mul-result c = search needs
+
+add-result : tie.Need-add-result
+add-result c = search needs
+
+cast-result : tie.Need-cast-result
+cast-result c = search needs
+
+shl-result : tie.Need-shl-result
+shl-result c = search needs
+
+add-result-2 : tie.Need-add-result-2
+add-result-2 c =
+    let a = c .before .before .args in
+    rw (shifted-one (12 + 9 * (a .level - 1)) (omega (arith, c .before .before .pre .2)))
+    (omega (arith, c .before .before .pre .0, span-le (a .level) (c .before .before .pre .2)))
+
+returns-3 : tie.Need-returns-3
+returns-3 c =
+    let a = c .before .before .args in
+    rw (shifted-one (12 + 9 * (a .level - 1)) (omega (arith, c .before .before .pre .2)), le-leb (a .frame) 0xFEEF_FFFF (omega (arith, c .if2 .left)))
+    (and-true (ltb 0xFEE0_0000 (a .frame + spanAt (a .level))))
 
 pub meets-interrupt-range-spec : {M : Type 1} → statement M
 meets-interrupt-range-spec =
-    tie.close (tie.spec sub-span mul-span add-span cast-span shl-span add-if1 returns returns-2)
+    tie.close (tie.spec sub-if1 returns returns-2 sub-result mul-result add-result cast-result shl-result add-result-2 returns-3)
