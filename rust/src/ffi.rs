@@ -31,6 +31,7 @@ pub(crate) const SLOT_CLEAR: u32 = 0x20;
 pub(crate) const SLOT_CLEARED: u32 = 0x21;
 pub(crate) const OVERFLOW_CLEAR: u32 = 0x30;
 pub(crate) const OVERFLOW_CLEARED: u32 = 0x31;
+pub(crate) const METERS_REFUSED: u32 = 0x60;
 
 extern "C" {
     fn galitzaf_memory_request(
@@ -80,6 +81,23 @@ extern "C" {
         recorder: *mut u8,
         recorder_len: usize,
     ) -> u32;
+
+    fn galitzaf_tick_meters(
+        kinds: *const u8,
+        kinds_len: usize,
+        lows: *const f64,
+        lows_len: usize,
+        highs: *const f64,
+        highs_len: usize,
+        loads: *mut f64,
+        loads_len: usize,
+        counts: *const u32,
+        counts_len: usize,
+        bytes: *mut u8,
+        bytes_len: usize,
+    ) -> u32;
+
+    fn galitzaf_reset_meters(loads: *mut f64, loads_len: usize) -> u32;
 }
 
 /// The answer bytes, or none where the library called an argument malformed.
@@ -184,4 +202,39 @@ pub(crate) fn clear_overflow(records: &[u8], recorder: &mut [u8; RECORDER_SIZE])
             recorder.len(),
         )
     }
+}
+
+/// What the library said to a tick of a row of meters.
+pub(crate) fn tick_meters(
+    kinds: &[u8],
+    [lows, highs]: [&[f64]; 2],
+    loads: &mut [f64],
+    counts: &[u32],
+    bytes: &mut [u8],
+) -> u32 {
+    // SAFETY: each pointer and length is that of a live slice. `loads` and `bytes`, which are
+    // written, are lent by `&mut`, so that neither overlaps another. None is kept after the call.
+    unsafe {
+        galitzaf_tick_meters(
+            kinds.as_ptr(),
+            kinds.len(),
+            lows.as_ptr(),
+            lows.len(),
+            highs.as_ptr(),
+            highs.len(),
+            loads.as_mut_ptr(),
+            loads.len(),
+            counts.as_ptr(),
+            counts.len(),
+            bytes.as_mut_ptr(),
+            bytes.len(),
+        )
+    }
+}
+
+/// Makes all loads 0.
+pub(crate) fn reset_meters(loads: &mut [f64]) {
+    // SAFETY: pointer and length are those of a live slice, lent by `&mut` for the call alone.
+    // There is nothing that it could say but OK.
+    unsafe { galitzaf_reset_meters(loads.as_mut_ptr(), loads.len()) };
 }

@@ -60,6 +60,7 @@ mod answer;
 mod bytes;
 mod fault;
 mod ffi;
+mod meters;
 mod recorder;
 mod registers;
 mod request;
@@ -71,6 +72,7 @@ pub use answer::{
     TriggerMode,
 };
 pub use fault::{Fault, FaultRecord, Reason};
+pub use meters::{Gate, Meters, MetersError};
 pub use recorder::{Recorded, Recorder, RecorderState};
 pub use registers::{Levels, Registers};
 pub use request::{Access, InterruptRequest, MemoryRequest};

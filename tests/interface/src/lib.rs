@@ -7,6 +7,10 @@
 // Links the library.
 use galitzaf as _;
 
+mod meters;
+
+pub use meters::{reset_meters, tick_meters, Gates};
+
 /// Bytes of the registers.
 pub const REGISTERS_SIZE: usize = 24;
 /// Bytes of an answer.
