@@ -39,7 +39,7 @@ unfoldable pub some : {A : Type 0} → (A → Bool) → List A → Bool
 some test [] = false
 some test (x ∷ xs) = test x || some test xs
 
--- counts and bytes one per meter, each count and each meter good
+-- counts or bytes not one per meter, a bad count, or a bad meter
 abbrev pub refused : List Meter → List ℕ → List ℕ → Bool
 refused row counts bytes =
     not (eqb (length counts) (length row) && eqb (length bytes) (length row))
