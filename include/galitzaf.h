@@ -61,7 +61,9 @@ extern "C" {
 
 /* What a call answers. */
 #define GALITZAF_OK 0x00             /* a request: the answer buffer holds its answer */
+#define GALITZAF_REFUSED_1 0x01      /* take: bad registers */
 #define GALITZAF_REFUSED_3 0x03      /* recorder: length of records or state, next slot or slot out of range */
+#define GALITZAF_REFUSED_5 0x05      /* take: the descriptor isn't 64-aligned, or not whole in the image */
 #define GALITZAF_NO_FAULT 0x10       /* record: the answer holds no fault */
 #define GALITZAF_NOT_RECORDABLE 0x11 /* record: FPD silenced the fault */
 #define GALITZAF_DROPPED 0x12        /* record: overflow was set already */
@@ -71,12 +73,14 @@ extern "C" {
 #define GALITZAF_SLOT_CLEARED 0x21   /* clear a slot: a record stood there */
 #define GALITZAF_OVERFLOW_CLEAR 0x30 /* clear overflow: it was clear */
 #define GALITZAF_OVERFLOW_CLEARED 0x31 /* clear overflow: it was set */
+#define GALITZAF_NONE_STANDS 0x40    /* take: no request bit stands */
 #define GALITZAF_METERS_REFUSED 0x60 /* meters: something in row, counts or bytes is bad */
 #define GALITZAF_BAD_REGISTERS 0x101 /* not 24 bytes, or a bit set that has to be zero */
 #define GALITZAF_BAD_ANSWER 0x102    /* not 24 bytes, or, to be recorded, of no kind above */
 #define GALITZAF_BAD_KIND 0x103      /* write is neither 0 nor 1 */
 #define GALITZAF_BAD_RECORDER 0x104  /* overflow is neither 0 nor 1 */
 #define GALITZAF_BAD_METERS 0x106    /* parts of different lengths, or a kind above 2 */
+#define GALITZAF_TAKEN 0x200         /* take: 200h to 2FFh, the vector handed out is added */
 
 /* Where an untranslated request may go. source has the bus in 15:8, device and function in 7:0; write
  * is 1 for a write, 0 for a read. */
@@ -91,6 +95,13 @@ uint32_t galitzaf_interrupt_request(const uint8_t *registers, size_t registers_l
                                     uint8_t *image, size_t image_len,
                                     uint16_t source, uint64_t address, uint32_t data,
                                     uint8_t *answer, size_t answer_len);
+
+/* Takes from the posted interrupt descriptor at a host address: its highest request bit is cleared and the
+ * vector answered, or that none stands; the ON bit is cleared either way. A refused call leaves the image
+ * as it came. Of the descriptor nothing but its place and alignment is looked at. */
+uint32_t galitzaf_take(const uint8_t *registers, size_t registers_len,
+                       uint8_t *image, size_t image_len,
+                       uint64_t descriptor);
 
 /* Records the fault of a request's answer. Every recorder call tells refusal 3 first: records or a state
  * of another length, a next slot or a slot to clear above the last. Here a malformed answer comes next, then

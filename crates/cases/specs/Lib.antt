@@ -1,3 +1,4 @@
 pub mod Bench
 pub mod Instances
 pub mod InterruptFrames
+pub mod Takes

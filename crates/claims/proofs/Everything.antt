@@ -13,10 +13,16 @@ use Rattle.interrupts.proofs.Isolation.{isolated}
 use Rattle.interrupts.proofs.Named.{index-bound, entry-of-index, no-wrap, at-most-ten, none-before-table}
 use Rattle.interrupts.proofs.Notices.{notice-exactly}
 use Rattle.interrupts.proofs.Unfetched.{interrupt-access-means-unfetched}
+use Rattle.interrupts.proofs.RaisedBy.{remapped-by-entry, posted-by-entry, one-source, exact-source}
+use Rattle.takes.proofs.Conserved.{conserved, none-invented}
+use Rattle.takes.proofs.HandedOut.{fewer-until-handed-out, handed-out-within, handed-out-within-256}
+use Rattle.takes.proofs.Orders.{either-order}
+use Rattle.takes.proofs.Takes.{clears-exactly, hands-highest, none-stands}
 use Rattle.unit.proofs.Demand3.{isolation, more-memory}
 use Rattle.cases.proofs.Cases.{twelve-cases}
 use Rattle.cases.proofs.Instances.{premises-met}
 use Rattle.cases.proofs.InterruptFrames.{interrupt-frames}
+use Rattle.cases.proofs.Takes.{takes-met}
 use Rattle.claims.specs.Everything.{Everything}
 use Rattle.claims.proofs.OneAnswer.{one-memory-answer, one-interrupt-answer, one-reason}
 
@@ -27,6 +33,10 @@ everything =
       one-memory-answer = one-memory-answer;
       one-interrupt-answer = one-interrupt-answer;
       one-reason = one-reason;
+      remapped-by-entry = remapped-by-entry;
+      posted-by-entry = posted-by-entry;
+      one-source = one-source;
+      exact-source = exact-source;
       sets-exactly = sets-exactly;
       notice-exactly = notice-exactly;
       stays-inside = stays-inside;
@@ -60,4 +70,14 @@ everything =
       never-above = never-above;
       stays-in-range = stays-in-range;
       bytes-tell = bytes-tell;
+      clears-exactly = clears-exactly;
+      hands-highest = hands-highest;
+      none-stands = none-stands;
+      fewer-until-handed-out = fewer-until-handed-out;
+      handed-out-within = handed-out-within;
+      handed-out-within-256 = handed-out-within-256;
+      conserved = conserved;
+      none-invented = none-invented;
+      either-order = either-order;
+      takes-met = takes-met;
     }

@@ -9,10 +9,13 @@ use Rattle.dma.specs.Named.{AtMostNine, NoneUntaken}
 use Rattle.dma.specs.NoInterrupt.{NoInterruptGranted, WholeFrameTested}
 use Rattle.dma.specs.Reached.{GrantedByOwnWalk}
 use Rattle.interrupts.specs.Claims.{SetsExactly, NoticeExactly, LeavesAll, StaysInside, IndexBound, EntryOfIndex, NoWrap, AtMostTen, NoneBeforeTable, InterruptAccessMeansUnfetched, Isolated}
+use Rattle.interrupts.specs.RaisedBy.{RemappedByEntry, PostedByEntry, OneSource, ExactSource}
+use Rattle.takes.specs.Claims.{ClearsExactly, HandsHighest, NoneStands, FewerUntilHandedOut, HandedOutWithin, HandedOutWithin256, Conserved, NoneInvented, EitherOrder}
 use Rattle.unit.specs.Isolation.{Isolation, MoreMemory}
 use Rattle.cases.specs.Bench.{TwelveCases}
 use Rattle.cases.specs.Instances.{PremisesMet}
 use Rattle.cases.specs.InterruptFrames.{InterruptFrames}
+use Rattle.cases.specs.Takes.{TakesMet}
 use Rattle.claims.specs.OneAnswer.{OneMemoryAnswer, OneInterruptAnswer, OneReason}
 
 pub record Everything : Type 0 where
@@ -22,6 +25,11 @@ pub record Everything : Type 0 where
   pub one-memory-answer : OneMemoryAnswer
   pub one-interrupt-answer : OneInterruptAnswer
   pub one-reason : OneReason
+  -- which interrupt is raised, and by whom
+  pub remapped-by-entry : RemappedByEntry
+  pub posted-by-entry : PostedByEntry
+  pub one-source : OneSource
+  pub exact-source : ExactSource
   pub sets-exactly : SetsExactly
   pub notice-exactly : NoticeExactly
   pub stays-inside : StaysInside
@@ -58,3 +66,14 @@ pub record Everything : Type 0 where
   pub never-above : NeverAbove
   pub stays-in-range : StaysInRange
   pub bytes-tell : BytesTell
+  -- takes: one, and runs of posts and takes
+  pub clears-exactly : ClearsExactly
+  pub hands-highest : HandsHighest
+  pub none-stands : NoneStands
+  pub fewer-until-handed-out : FewerUntilHandedOut
+  pub handed-out-within : HandedOutWithin
+  pub handed-out-within-256 : HandedOutWithin256
+  pub conserved : Conserved
+  pub none-invented : NoneInvented
+  pub either-order : EitherOrder
+  pub takes-met : TakesMet

@@ -5,3 +5,4 @@ pub mod Meters
 pub mod Recording
 pub mod Registers
 pub mod Status
+pub mod Takes

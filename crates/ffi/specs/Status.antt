@@ -24,3 +24,11 @@ badMeters = 0x106
 
 abbrev pub metersRefused : ℕ
 metersRefused = 0x60
+
+-- a take: no request bit stands
+abbrev pub noneStands : ℕ
+noneStands = 0x40
+
+-- a take: the vector is added to it
+abbrev pub taken : ℕ
+taken = 0x200

@@ -5,6 +5,7 @@ mod meters;
 mod recorder;
 mod requests;
 mod status;
+mod taking;
 mod unpack;
 
 pub use meters::galitzaf_reset_meters;
@@ -14,3 +15,4 @@ pub use recorder::galitzaf_clear_slot;
 pub use recorder::galitzaf_record;
 pub use requests::galitzaf_interrupt_request;
 pub use requests::galitzaf_memory_request;
+pub use taking::galitzaf_take;

@@ -5,6 +5,8 @@ pub const REFUSED_3: u32 = 0x03;
 
 pub const NO_FAULT: u32 = 0x10;
 
+pub const NONE_STANDS: u32 = 0x40;
+
 pub const METERS_REFUSED: u32 = 0x60;
 
 pub const BAD_REGISTERS: u32 = 0x101;
@@ -16,3 +18,6 @@ pub const BAD_KIND: u32 = 0x103;
 pub const BAD_RECORDER: u32 = 0x104;
 
 pub const BAD_METERS: u32 = 0x106;
+
+// Plus the vector.
+pub const TAKEN: u32 = 0x200;

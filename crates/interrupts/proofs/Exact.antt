@@ -48,7 +48,7 @@ power-other place other h = one-bit (2 ^ place) other ∙ go (decLe other place)
     go (no above) = ap (λ (n : ℕ). n % 2) (div-eq-of-lt (pow-lt {i = place} {j = other} (omega arith)))
 
 -- a byte with a bit set, bit by bit
-bit-with : (byte place other : ℕ) → bit (withBit place byte) other ≡ (bit byte other || eqb other place)
+pub bit-with : (byte place other : ℕ) → bit (withBit place byte) other ≡ (bit byte other || eqb other place)
 bit-with byte place other = ap (λ (n : ℕ). bit n other) (sym (or-power byte place)) ∙ go (eqb other place) refl
   where
     small : bits byte other other < 2
@@ -68,7 +68,7 @@ bit-with byte place other = ap (λ (n : ℕ). bit n other) (sym (or-power byte p
         ap (λ (n : ℕ). eqb n 1) (or-bit byte (2 ^ place) other ∙ ap (bitOr (bits byte other other)) (power-other place other (eqb-false other place e)) ∙ or-zero-r (bits byte other other))
         ∙ sym (or-false (bit byte other))
 
-length-setBit : (image : List ℕ) (descriptor place : ℕ) → length (setBit descriptor place image) ≡ length image
+pub length-setBit : (image : List ℕ) (descriptor place : ℕ) → length (setBit descriptor place image) ≡ length image
 unfolding setBit
 length-setBit image descriptor place = simp length-set
 
@@ -117,7 +117,7 @@ module _ (image : List ℕ) (descriptor vector : ℕ) (inside : descriptor + 64 
       ∙ ap (λ (t : Bool). t || eqb n (8 * descriptor + 256)) (set-at image descriptor vector n (omega arith))
       ∙ or-assoc (bitAt image n) (eqb n (8 * descriptor + vector)) (eqb n (8 * descriptor + 256))
 
-outcome-at : (image : List ℕ) (o : InterruptOutcome) → Within image o → (n : ℕ)
+pub outcome-at : (image : List ℕ) (o : InterruptOutcome) → Within image o → (n : ℕ)
     → bitAt (written o image) n ≡ (bitAt image n || sets o n)
 outcome-at image (posted descriptor vector m) h n = post-at image descriptor vector (h .0) (h .1) m n
 outcome-at image passed h n = sym (or-false (bitAt image n))
@@ -129,7 +129,7 @@ pub sets-exactly : SetsExactly
 sets-exactly registers request image n =
     outcome-at image (outcome registers request image) (within image registers request) n
 
-length-written : (image : List ℕ) (o : InterruptOutcome) → length (written o image) ≡ length image
+pub length-written : (image : List ℕ) (o : InterruptOutcome) → length (written o image) ≡ length image
 length-written image (posted descriptor vector silent) = length-setBit image descriptor vector
 length-written image (posted descriptor vector (notice v d)) =
     length-setBit (setBit descriptor vector image) descriptor 256 ∙ length-setBit image descriptor vector

@@ -7,6 +7,7 @@ pub mod Named
 pub mod Notices
 pub mod Posts
 pub mod Raised
+pub mod RaisedBy
 pub mod Requests
 pub mod Stages
 pub mod Unfetched

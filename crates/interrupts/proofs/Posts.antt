@@ -27,7 +27,7 @@ one-bit byte place = let width : suc place - place ≡ 1 = omega arith in rw wid
 
 -- `|` with a power of two sets that bit
 module _ (byte place : ℕ) where
-  common : bitAnd byte (2 ^ place) ≡ bits byte place place * 2 ^ place
+  pub common : bitAnd byte (2 ^ place) ≡ bits byte place place * 2 ^ place
   common =
       let double : 2 ^ (1 + place) ≡ 2 * 2 ^ place = pow-add 2 1 place in
       let mask : 2 ^ (1 + place) - 2 ^ place ≡ 2 ^ place = omega arith in

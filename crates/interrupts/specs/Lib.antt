@@ -4,4 +4,5 @@ pub mod Claims
 pub mod Descriptor
 pub mod Interrupts
 pub mod Post
+pub mod RaisedBy
 pub mod Request

@@ -12,3 +12,5 @@ pub use interrupts::Remapped;
 pub use interrupts::interrupt_request;
 pub use registers::Registers;
 pub use registers::SourceId;
+pub use takes::TakeAnswer;
+pub use takes::take;

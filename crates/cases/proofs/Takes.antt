@@ -1,0 +1,89 @@
+-- Ask 13's claims at concrete images, by computing them.
+use Prim.Native.Nat.{ℕ, zero, suc, _<_}
+use mathlib.Core.Bool.{Bool, true, false, _&&_}
+use mathlib.Core.List.{List, [], _∷_}
+use mathlib.Core.Logic.{inr}
+use mathlib.Core.Path.{_≡_, refl}
+use native.Mathlib.Omega.{arith}
+use borrow.Author.Tests.{ltb-true}
+use lib.Dec.{lit≤, ltb}
+use lib.ListN.{getD}
+use Rattle.image.specs.Bits.{bits}
+use Rattle.image.specs.Bytes.{littleEndian, bytesOf}
+use Rattle.image.specs.Memory.{wordAt, ofImage, entry}
+use Rattle.image.specs.Rules.{run, mapRules}
+use Rattle.registers.specs.Admission.{admission}
+use Rattle.registers.specs.Registers.{registersBad}
+use Rattle.irte.specs.Irte.{reservedIrte, irteCheck}
+use Rattle.irte.specs.Source.{sourceAllowed}
+use Rattle.interrupts.specs.Claims.{outcome}
+use Rattle.interrupts.specs.Descriptor.{notice, descriptorCheck}
+use Rattle.interrupts.specs.Interrupts.{posted, descriptorRules, indexRules, requestRules, interruptRules}
+use Rattle.interrupts.specs.Post.{setBit}
+use Rattle.interrupts.specs.Request.{requestCheck}
+use Rattle.takes.specs.Claims.{Apart}
+use Rattle.takes.specs.Runs.{after, left, count, countFrom}
+use Rattle.takes.specs.Take.{highest, takeRules, clearBit}
+use Rattle.cases.specs.Takes.{registers, withRequests, full, empty, posts31, postsF0, TakesMet}
+
+-- bytes, by looking at each
+small : List ℕ → Bool
+small [] = true
+small (x ∷ xs) = ltb x 256 && small xs
+
+both : (a b : Bool) → (a && b) ≡ true → (a ≡ true) × (b ≡ true)
+both true b h = (refl, h)
+both false b h = let z : _≡_ {A = ℕ} 0 1 = cc in absurd (omega arith)
+
+below : (l : List ℕ) → small l ≡ true → (n : ℕ) → getD l n 0 < 256
+unfolding small
+below [] h n = omega arith
+below (x ∷ xs) h zero = ltb-true x 256 (both (ltb x 256) (small xs) h .0)
+below (x ∷ xs) h (suc n) = below xs (both (ltb x 256) (small xs) h .1) n
+
+full-bytes : (n : ℕ) → getD full n 0 < 256
+unfolding small withRequests bytesOf
+full-bytes = below full refl
+
+-- both post to the descriptor at 64, behind the entries
+posts-to-64 : (outcome registers posts31 empty ≡ posted 64 0x31 (notice 0 0)) × (outcome registers postsF0 empty ≡ posted 64 0xF0 (notice 0 0))
+unfolding withRequests bytesOf littleEndian bits wordAt ofImage entry run mapRules admission registersBad descriptorRules indexRules requestRules interruptRules reservedIrte irteCheck requestCheck sourceAllowed descriptorCheck
+posts-to-64 = (refl, refl)
+
+apart : Apart registers posts31 postsF0 empty
+unfolding bits
+apart d v n h = let here : d ≡ 64 = cc (posts-to-64 .0) in inr (rw here (lit≤ tt))
+
+apart-back : Apart registers postsF0 posts31 empty
+unfolding bits
+apart-back d v n h = let here : d ≡ 64 = cc (posts-to-64 .1) in inr (rw here (lit≤ tt))
+
+pub takes-met : TakesMet
+unfolding withRequests bytesOf littleEndian bits wordAt ofImage entry run mapRules admission registersBad descriptorRules indexRules requestRules interruptRules reservedIrte irteCheck requestCheck sourceAllowed descriptorCheck setBit clearBit highest takeRules after left count countFrom
+takes-met =
+    record {
+      hands-255 = refl;
+      hands-none = refl;
+      odd = refl;
+      outside = refl;
+      full-bytes = full-bytes;
+      lowest-stands = refl;
+      nothing-posted = refl;
+      takes-made = refl;
+      not-by-255 = refl;
+      by-256 = refl;
+      one-stands = refl;
+      one-posted = refl;
+      not-by-first = refl;
+      by-second = refl;
+      found-clear = refl;
+      handed-once = refl;
+      still-stands = refl;
+      apart = apart;
+      apart-back = apart-back;
+      one-notice = refl;
+      its-post = refl;
+      its-entry = refl;
+      its-svt = refl;
+      its-sq = refl;
+    }

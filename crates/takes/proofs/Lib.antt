@@ -1,0 +1,13 @@
+pub mod Bitwise
+pub mod Bools
+pub mod Commute
+pub mod Conserved
+pub mod Counting
+pub mod Decide
+pub mod HandedOut
+pub mod Highest
+pub mod Orders
+pub mod Places
+pub mod Stable
+pub mod Stores
+pub mod Takes

@@ -1,0 +1,107 @@
+-- Runs of interrupt requests and takes over one image, each made on what the one before it left.
+use Prim.Native.Nat.{ℕ, zero, suc, _+_, _*_}
+use mathlib.Core.Bool.{Bool, true, false, not, _&&_}
+use mathlib.Core.List.{List, [], _∷_}
+use lib.Dec.{eqb, leb}
+use Rattle.image.specs.Choice.{if_then_else_}
+use Rattle.registers.specs.declared.Registers.{Registers}
+use Rattle.interrupts.specs.Claims.{outcome, bitAt, due}
+use Rattle.interrupts.specs.Interrupts.{InterruptOutcome, passed, remapped, posted, blocked, refused}
+use Rattle.interrupts.specs.Post.{written}
+use Rattle.interrupts.specs.declared.InterruptRequest.{InterruptRequest}
+use Rattle.takes.specs.Take as rules
+use Rattle.takes.specs.Take.{TakeOutcome, taken, takeOutcome}
+
+-- an operation with its arguments, whatever they are: each brings its own registers
+pub data Operation : Type 0 where
+  -- an interrupt request, which may post
+  request : Registers → InterruptRequest → Operation
+  take : Registers → (descriptor : ℕ) → Operation
+
+unfoldable pub after : Operation → List ℕ → List ℕ
+after (request registers r) image = written (outcome registers r image) image
+after (take registers descriptor) image = taken descriptor (takeOutcome registers descriptor image) image
+
+-- what a run leaves
+unfoldable pub left : List Operation → List ℕ → List ℕ
+left [] image = image
+left (o ∷ os) image = left os (after o image)
+
+abbrev pub one-if : Bool → ℕ
+one-if test = if test then 1 else 0
+
+-- how many operations of a run are of a kind, each judged on the image that it met
+unfoldable pub count : (Operation → List ℕ → Bool) → List Operation → List ℕ → ℕ
+count kind [] image = 0
+count kind (o ∷ os) image = one-if (kind o image) + count kind os (after o image)
+
+-- whether a vector's request bit stands in a descriptor
+abbrev pub stands : (descriptor : ℕ) → List ℕ → (vector : ℕ) → Bool
+stands descriptor image vector = bitAt image (8 * descriptor + vector)
+
+-- how many places from low to below n a test holds of
+unfoldable pub countFrom : (low n : ℕ) → (ℕ → Bool) → ℕ
+countFrom low zero test = 0
+countFrom low (suc n) test = countFrom low n test + one-if (leb low n && test n)
+
+-- how many request bits stand in a descriptor at or above a vector
+abbrev pub standingFrom : (descriptor vector : ℕ) → List ℕ → ℕ
+standingFrom descriptor vector image = countFrom vector 256 (stands descriptor image)
+
+-- by its answer, a take was not refused; it handed out this vector
+abbrev pub unrefused : TakeOutcome → Bool
+unrefused (rules.handed v) = true
+unrefused rules.none = true
+unrefused (rules.refused number) = false
+
+abbrev pub hands : (vector : ℕ) → TakeOutcome → Bool
+hands vector (rules.handed v) = eqb v vector
+hands vector rules.none = false
+hands vector (rules.refused number) = false
+
+-- by its answer, a request posted to this descriptor at or above this vector; it has a notice
+abbrev pub postsFrom : (descriptor vector : ℕ) → InterruptOutcome → Bool
+postsFrom descriptor vector (posted d v n) = eqb d descriptor && leb vector v
+postsFrom descriptor vector passed = false
+postsFrom descriptor vector (remapped r) = false
+postsFrom descriptor vector (blocked f) = false
+postsFrom descriptor vector (refused number) = false
+
+-- it posted this vector to this descriptor
+abbrev pub postsVector : (descriptor vector : ℕ) → InterruptOutcome → Bool
+postsVector descriptor vector (posted d v n) = eqb d descriptor && eqb v vector
+postsVector descriptor vector passed = false
+postsVector descriptor vector (remapped r) = false
+postsVector descriptor vector (blocked f) = false
+postsVector descriptor vector (refused number) = false
+
+abbrev pub noticed : InterruptOutcome → Bool
+noticed (posted d v n) = due n
+noticed passed = false
+noticed (remapped r) = false
+noticed (blocked f) = false
+noticed (refused number) = false
+
+-- the kinds that the claims count: an unrefused take at a descriptor, one that hands out the vector, a post to the descriptor
+-- at or above the vector, and a post with a notice
+abbrev pub takesAt : (descriptor : ℕ) → Operation → List ℕ → Bool
+takesAt descriptor (request registers r) image = false
+takesAt descriptor (take registers d) image = eqb d descriptor && unrefused (takeOutcome registers d image)
+
+abbrev pub handsOut : (descriptor vector : ℕ) → Operation → List ℕ → Bool
+handsOut descriptor vector (request registers r) image = false
+handsOut descriptor vector (take registers d) image = eqb d descriptor && hands vector (takeOutcome registers d image)
+
+abbrev pub postsAt : (descriptor vector : ℕ) → Operation → List ℕ → Bool
+postsAt descriptor vector (request registers r) image = postsFrom descriptor vector (outcome registers r image)
+postsAt descriptor vector (take registers d) image = false
+
+-- a post of the vector to the descriptor that found its request bit clear
+abbrev pub postsClear : (descriptor vector : ℕ) → Operation → List ℕ → Bool
+postsClear descriptor vector (request registers r) image =
+    postsVector descriptor vector (outcome registers r image) && not (stands descriptor image vector)
+postsClear descriptor vector (take registers d) image = false
+
+abbrev pub notices : Operation → List ℕ → Bool
+notices (request registers r) image = noticed (outcome registers r image)
+notices (take registers d) image = false
