@@ -18,6 +18,7 @@ mod record;
 mod recorder;
 mod registers;
 pub mod slips;
+mod take;
 
 pub use interrupts::{interrupt_request, interrupt_request_with, named_words_interrupt};
 pub use memory::{memory_request, memory_request_with, named_words_memory, walked_entries};
@@ -28,6 +29,7 @@ pub use record::Fault;
 pub use recorder::{clear_overflow, clear_slot, record, Call, Recorder};
 pub use registers::Registers;
 pub use slips::Slip;
+pub use take::{take, Take};
 
 /// What a request is answered.
 #[derive(Clone, Debug, PartialEq, Eq)]
