@@ -2,9 +2,9 @@
  *
  * Link with target/staticlib/libffi.a, which `rt staticlib ffi` writes. No function allocates, blocks,
  * keeps a pointer or reads anything but its arguments, and each may be called from any thread. Every
- * length is checked: a call with a malformed argument answers GALITZAF_BAD_... and changes nothing. A
- * length of 0 may come with any pointer that isn't null. Buffers of one call must not overlap where one
- * of them is written.
+ * length is checked: a call with a malformed argument answers GALITZAF_BAD_... and changes nothing; records
+ * and a recorder's state of another length are GALITZAF_REFUSED_3. A length of 0 may come with any pointer
+ * that isn't null. Buffers of one call must not overlap where one of them is written.
  */
 #ifndef GALITZAF_H
 #define GALITZAF_H
