@@ -26,11 +26,11 @@ fn passes(load: &Load) -> usize {
 }
 
 /// Instructions of a run of this program by itself.
-fn collected(row: usize, side: &str) -> Option<u64> {
+pub fn collected(arguments: &[&str]) -> Option<u64> {
     let run = Command::new("valgrind")
         .args(["--tool=callgrind", "--callgrind-out-file=/dev/null"])
         .arg(env::current_exe().ok()?)
-        .args([ARGUMENT, &row.to_string(), side])
+        .args(arguments)
         .output()
         .ok()?;
     let said = String::from_utf8_lossy(&run.stderr);
@@ -41,10 +41,12 @@ fn collected(row: usize, side: &str) -> Option<u64> {
 /// Instructions for each request of a row, for each side: less those of a run without requests.
 pub fn instructions(row: usize, load: &Load) -> Option<[f64; 3]> {
     let requests = (passes(load) * load.requests.len()) as f64;
-    let empty = collected(row, "none")?;
+    let row = row.to_string();
+    let collected = |side| collected(&[ARGUMENT, &row, side]);
+    let empty = collected("none")?;
     let mut counts = [0.0; 3];
     for (count, side) in counts.iter_mut().zip(Side::ALL) {
-        let whole = collected(row, side.name())?;
+        let whole = collected(side.name())?;
         *count = whole.saturating_sub(empty) as f64 / requests;
     }
     Some(counts)

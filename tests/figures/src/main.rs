@@ -1,14 +1,17 @@
 //! Measures the proved unit beside the ordinary translator, in one process, over the same registers,
-//! images and requests, and prints a table.
+//! images and requests, and prints a table; then rows of meters beside a plain loop.
 //!
-//!     figures                  the table
-//!     figures --load ROW SIDE  one row's requests, some thousand of them, for valgrind to count
+//!     figures                    the tables
+//!     figures --meters           the meters' table alone
+//!     figures --load ROW SIDE    one row's requests, some thousand of them, for valgrind to count
+//!     figures --meters ROW SIDE  one row's ticks, likewise
 
 #![forbid(unsafe_code)]
 
 mod agree;
 mod count;
 mod load;
+mod meters;
 mod rows;
 mod sides;
 mod time;
@@ -48,6 +51,14 @@ fn print(number: usize, row: &Row) -> bool {
     true
 }
 
+fn status(good: bool) -> ExitCode {
+    if good {
+        ExitCode::SUCCESS
+    } else {
+        ExitCode::FAILURE
+    }
+}
+
 fn main() -> ExitCode {
     let arguments: Vec<String> = std::env::args().skip(1).collect();
     let arguments: Vec<&str> = arguments.iter().map(String::as_str).collect();
@@ -55,11 +66,13 @@ fn main() -> ExitCode {
         [] => {
             println!("{HEAD}");
             let good = ROWS.iter().enumerate().all(|(n, row)| print(n, row));
-            if good {
-                ExitCode::SUCCESS
-            } else {
-                ExitCode::FAILURE
-            }
+            println!();
+            status(meters::print() && good)
+        }
+        [meters::ARGUMENT] => status(meters::print()),
+        [meters::ARGUMENT, row, side] => {
+            let ticked = row.parse().ok().and_then(|n| meters::counted(n, side));
+            ticked.map_or(ExitCode::from(2), |()| ExitCode::SUCCESS)
         }
         [count::ARGUMENT, row, side] => {
             let Some(row) = row.parse().ok().and_then(|n: usize| ROWS.get(n)) else {

@@ -41,6 +41,42 @@ fn round(mut work: impl FnMut()) -> f64 {
     seconds
 }
 
+/// Two sides in turns: the first's seconds beside the second's, round by round.
+pub struct Spread(Vec<[f64; 2]>);
+
+impl Spread {
+    /// Measures.
+    pub fn measure(mut work: impl FnMut(usize)) -> Self {
+        let mut rounds = Vec::new();
+        // The first round warms up; the order turns from round to round.
+        for number in 0..=ROUNDS {
+            let mut seconds = [0.0; 2];
+            for turn in 0..2 {
+                let side = (number + turn) % 2;
+                seconds[side] = round(|| work(side));
+            }
+            rounds.push(seconds);
+        }
+        rounds.remove(0);
+        Self(rounds)
+    }
+
+    /// The best round of each side.
+    pub fn best(&self) -> [f64; 2] {
+        [0, 1].map(|side| {
+            let rounds = self.0.iter().map(|seconds| seconds[side]);
+            rounds.fold(f64::INFINITY, f64::min)
+        })
+    }
+
+    /// Of the rounds' own ratios, those with a tenth below and with a tenth above.
+    pub fn ratios(&self) -> (f64, f64) {
+        let mut ratios: Vec<f64> = self.0.iter().map(|[one, other]| one / other).collect();
+        ratios.sort_by(f64::total_cmp);
+        (ratios[ratios.len() / 10], ratios[ratios.len() * 9 / 10])
+    }
+}
+
 /// Measures a load.
 pub fn measure(load: &Load, prepared: &Prepared, passes: usize) -> Times {
     let mut image = load.image.clone();

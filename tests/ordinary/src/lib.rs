@@ -10,6 +10,7 @@ mod fault;
 mod fetch;
 mod interrupt;
 mod memory;
+pub mod meters;
 mod registers;
 mod unit;
 
