@@ -26,11 +26,19 @@ pub enum Flaw {
     OverflowWithSlot,
     /// A refused call forgets overflow.
     RefusalForgets,
+    /// A meter's count is added before its load is halved.
+    AddedThenHalved,
+    /// A meter trips at its limit.
+    LimitTripsAtEquality,
+    /// A meter trips at either end of its band.
+    BandEndsOutside,
+    /// A refused tick ticks the meters before the bad one.
+    RefusalTicks,
 }
 
 impl Flaw {
     /// Each of them.
-    pub const ALL: [Flaw; 12] = [
+    pub const ALL: [Flaw; 16] = [
         Flaw::Known(Slip::Index16),
         Flaw::Known(Slip::LastEntryRights),
         Flaw::Known(Slip::MaskLargeFrame),
@@ -43,6 +51,10 @@ impl Flaw {
         Flaw::RecordWiped,
         Flaw::OverflowWithSlot,
         Flaw::RefusalForgets,
+        Flaw::AddedThenHalved,
+        Flaw::LimitTripsAtEquality,
+        Flaw::BandEndsOutside,
+        Flaw::RefusalTicks,
     ];
 
     /// Whether it can make a difference in a part.
@@ -51,6 +63,13 @@ impl Flaw {
             (_, Part::Malformed) => false,
             (Flaw::None, _) => true,
             (Flaw::Known(_) | Flaw::StrayBit, part) => matches!(part, Part::Worlds(_)),
+            (
+                Flaw::AddedThenHalved
+                | Flaw::LimitTripsAtEquality
+                | Flaw::BandEndsOutside
+                | Flaw::RefusalTicks,
+                part,
+            ) => matches!(part, Part::Meters),
             (_, part) => matches!(part, Part::Recorder),
         }
     }

@@ -16,6 +16,7 @@ mod judge;
 mod lent;
 mod malformed;
 mod met;
+mod meters;
 mod parts;
 mod pool;
 mod print;

@@ -1,5 +1,6 @@
 //! What was met: each outcome that document 01 has, told apart further by how it came about.
 
+use crate::meters::Seen;
 use std::fmt;
 
 /// A kind of answer, of a call, or of an entry that a request read.
@@ -69,6 +70,8 @@ pub enum Met {
     AtTheEnd(Kind),
     /// An entry couldn't be fetched for want of one byte.
     OneByteShort(Kind),
+    /// A call on meters.
+    Meters(Seen),
 }
 
 /// A call of the C interface.
@@ -131,7 +134,10 @@ impl fmt::Display for Met {
             } => {
                 let notice = if notice { "notice" } else { "no notice" };
                 let [urg, sn, on] = [urg, sn, on].map(u8::from);
-                write!(f, "interrupt: posted, {notice}, URG {urg}, SN {sn}, ON {on}")
+                write!(
+                    f,
+                    "interrupt: posted, {notice}, URG {urg}, SN {sn}, ON {on}"
+                )
             }
             Met::InterruptBlocked { reason, recordable } => {
                 write!(f, "interrupt: {reason:02X}h, {}", recorded(recordable))
@@ -170,6 +176,7 @@ impl fmt::Display for Met {
             Met::DescriptorOverEntry => write!(f, "descriptor over its own entry"),
             Met::AtTheEnd(kind) => write!(f, "ends with the image: {kind}"),
             Met::OneByteShort(kind) => write!(f, "one byte short: {kind}"),
+            Met::Meters(seen) => write!(f, "meters: {seen}"),
         }
     }
 }

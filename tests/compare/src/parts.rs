@@ -1,8 +1,9 @@
-//! The parts of a run: the suites of worlds, the recorder's sequences, the malformed calls.
+//! The parts of a run: the suites of worlds, the recorder's sequences, the malformed calls, the rows of meters.
 
 use crate::flaw::Flaw;
 use crate::judge::Judge;
 use crate::malformed;
+use crate::meters::{self, Row};
 use crate::pool::Pool;
 use crate::print::print_world;
 use crate::recorder::{self, Sequence};
@@ -18,12 +19,14 @@ pub enum Part {
     Recorder,
     /// Malformed calls.
     Malformed,
+    /// Calls on meters.
+    Meters,
 }
 
 impl Part {
     /// Each of them.
     pub fn all() -> impl Iterator<Item = Part> {
-        let others = [Part::Recorder, Part::Malformed];
+        let others = [Part::Recorder, Part::Malformed, Part::Meters];
         SUITES.iter().map(Part::Worlds).chain(others)
     }
 
@@ -33,6 +36,7 @@ impl Part {
             Part::Worlds(suite) => suite.name,
             Part::Recorder => recorder::NAME,
             Part::Malformed => malformed::NAME,
+            Part::Meters => meters::NAME,
         }
     }
 
@@ -42,6 +46,7 @@ impl Part {
             Part::Worlds(suite) => suite.worlds,
             Part::Recorder => recorder::SEQUENCES,
             Part::Malformed => malformed::CALLS,
+            Part::Meters => meters::ROWS,
         }
     }
 }
@@ -79,6 +84,7 @@ impl Runner {
             }
             Part::Recorder => Sequence::build(number, &self.pool).run(self.flaw, tally),
             Part::Malformed => malformed::run(number, tally),
+            Part::Meters => Row::build(number).run(self.flaw, tally),
         }
     }
 
@@ -91,6 +97,7 @@ impl Runner {
             }
             Part::Recorder => Sequence::build(number, &self.pool).print(),
             Part::Malformed => {}
+            Part::Meters => Row::build(number).print(),
         }
     }
 }

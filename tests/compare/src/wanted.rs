@@ -1,6 +1,7 @@
 //! All that has to be met: document 01's outcomes, and its entries in each form.
 
 use crate::met::{Call, Kind, Met};
+use crate::meters::Seen;
 use crate::recorder::SLOTS;
 
 /// The fault reasons of memory requests that FPD silences.
@@ -135,5 +136,6 @@ pub fn all() -> Vec<Met> {
     recorder(&mut wanted);
     malformed(&mut wanted);
     entries(&mut wanted);
+    wanted.extend(Seen::all().map(Met::Meters));
     wanted
 }
