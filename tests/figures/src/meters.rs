@@ -15,21 +15,31 @@ const HEAD: &str = "\
 instructions a meter: proved | plain |
 |---|---|---|---|---|---|---|---|---|";
 
-/// A row: its meters, the ticks of a round, and those of a counted run.
+/// A row: its meters, whether their gates are in order of their kinds, the ticks of a round, and
+/// those of a counted run.
 struct Row {
     meters: usize,
+    sorted: bool,
     ticks: usize,
     counted: usize,
 }
 
-const ROWS: [Row; 2] = [
+const ROWS: [Row; 3] = [
     Row {
         meters: 16,
+        sorted: false,
         ticks: 4000,
         counted: 20_000,
     },
     Row {
         meters: 65_536,
+        sorted: false,
+        ticks: 1,
+        counted: 20,
+    },
+    Row {
+        meters: 65_536,
+        sorted: true,
         ticks: 1,
         counted: 20,
     },
@@ -37,7 +47,7 @@ const ROWS: [Row; 2] = [
 
 const SIDES: [&str; 2] = ["proved", "plain"];
 
-/// The arrays, all gates good, of every kind and in no order.
+/// The arrays, all gates good and of every kind.
 #[derive(Clone, PartialEq)]
 struct Arrays {
     kinds: Vec<u8>,
@@ -49,7 +59,8 @@ struct Arrays {
 }
 
 impl Arrays {
-    fn of(meters: usize) -> Self {
+    fn of(row: &Row) -> Self {
+        let meters = row.meters;
         let mut state = 0x2545_F491_4F6C_DD1Du64;
         let mut below = |end: u64| {
             state ^= state << 13;
@@ -71,6 +82,9 @@ impl Arrays {
             arrays.lows.push(one.min(other));
             arrays.highs.push(one.max(other));
             arrays.counts.push(below(65_536) as u32);
+        }
+        if row.sorted {
+            arrays.kinds.sort();
         }
         arrays
     }
@@ -107,7 +121,7 @@ impl Arrays {
 }
 
 /// Whether both sides leave the same, over some ticks, and with each of a few things bad.
-fn agree(meters: usize) -> bool {
+fn agree(row: &Row) -> bool {
     let spoil: [fn(&mut Arrays); 6] = [
         |_| {},
         |arrays| arrays.counts[7] = 65_536,
@@ -117,7 +131,7 @@ fn agree(meters: usize) -> bool {
         |arrays| arrays.kinds[7] = 3,
     ];
     spoil.into_iter().all(|spoil| {
-        let mut ours = Arrays::of(meters);
+        let mut ours = Arrays::of(row);
         spoil(&mut ours);
         let mut theirs = ours.clone();
         (0..40).all(|_| ours.tick(0) == theirs.tick(1) && ours == theirs)
@@ -127,7 +141,7 @@ fn agree(meters: usize) -> bool {
 /// Ticks a row some times: what a counted run does. Any other side's name ticks it never.
 pub fn counted(row: usize, side: &str) -> Option<()> {
     let row = ROWS.get(row)?;
-    let mut arrays = Arrays::of(row.meters);
+    let mut arrays = Arrays::of(row);
     if let Some(side) = SIDES.iter().position(|known| *known == side) {
         arrays.run(side, row.counted);
     }
@@ -151,11 +165,11 @@ fn instructions(number: usize, row: &Row) -> Option<[f64; 2]> {
 pub fn print() -> bool {
     println!("{HEAD}");
     ROWS.iter().enumerate().all(|(number, row)| {
-        if !agree(row.meters) {
+        if !agree(row) {
             println!("{} meters: the two sides differ", row.meters);
             return false;
         }
-        let mut arrays = [(); 2].map(|()| Arrays::of(row.meters));
+        let mut arrays = [(); 2].map(|()| Arrays::of(row));
         let spread = Spread::measure(|side| arrays[side].run(side, row.ticks));
         let [proved, plain] = spread.best().map(|seconds| seconds / row.ticks as f64);
         let (low, high) = spread.ratios();
@@ -164,8 +178,9 @@ pub fn print() -> bool {
             counts.map(|count| format!("{count:.1}"))
         });
         println!(
-            "| {} | {} | {:.1} | {:.1} | {:.2} | {low:.2} to {high:.2} | {:.0} | {} |",
+            "| {}{} | {} | {:.1} | {:.1} | {:.2} | {low:.2} to {high:.2} | {:.0} | {} |",
             row.meters,
+            if row.sorted { ", sorted by kind" } else { "" },
             ROUNDS * row.ticks,
             proved * 1e9,
             plain * 1e9,
