@@ -109,7 +109,7 @@ fn memory(image: &[u8], source: SourceId, address: u64, write: bool) {
             hex(host);
             text(b"\n");
         }
-        MemoryAnswer::Blocked(fault) => print_fault(fault),
+        MemoryAnswer::Blocked(fault, _) => print_fault(fault),
         MemoryAnswer::Refused(number) => print_refusal(number),
     }
 }
@@ -158,7 +158,7 @@ fn interrupt(image: &mut [u8], source: SourceId, address: u64, data: u32) {
         InterruptAnswer::Passed => text(b"passed\n"),
         InterruptAnswer::Remapped(remapped) => print_remapped(remapped),
         InterruptAnswer::Posted(posted) => print_posted(posted),
-        InterruptAnswer::Blocked(fault) => print_fault(fault),
+        InterruptAnswer::Blocked(fault, _) => print_fault(fault),
         InterruptAnswer::Refused(number) => print_refusal(number),
     }
 }

@@ -7,10 +7,11 @@ use lib.ListN.{length, take, replicate, set}
 use Rattle.image.specs.Bytes.{bytesOf}
 use Rattle.image.specs.Entries.{spell}
 use Rattle.image.specs.Memory.{ofImage}
+use Rattle.image.specs.Place.{Place, noEntry, entryAt}
 use Rattle.image.specs.Rules.{run}
 use Rattle.registers.specs.declared.Registers.{Registers}
 use Rattle.faults.specs.Record.{FaultAnswer}
-use Rattle.dma.specs.Requests.{MemoryOutcome, granted, blocked, refused, memoryRules}
+use Rattle.dma.specs.Requests.{MemoryOutcome, granted, blocked, refused, memoryRules, memoryPlace}
 use Rattle.dma.specs.declared.MemoryRequest.{MemoryRequest}
 use Rattle.interrupts.specs.Descriptor.{silent, notice}
 use Rattle.interrupts.specs.Interrupts as interrupts
@@ -74,10 +75,10 @@ pub data Ask : Type 0 where
   write : ℕ → Ask
   interrupt : (address message : ℕ) → Ask
 
--- what becomes of it: a memory request's outcome, or an interrupt's with the image at exit
+-- what becomes of it: a memory request's outcome with the entry concerned, or an interrupt's with the image at exit too
 pub data Result : Type 0 where
-  memory : MemoryOutcome → Result
-  interrupted : interrupts.InterruptOutcome → List ℕ → Result
+  memory : MemoryOutcome → Place → Result
+  interrupted : interrupts.InterruptOutcome → Place → List ℕ → Result
 
 abbrev pub memoryRequest : (source address : ℕ) (writes : Bool) → MemoryRequest
 memoryRequest source address writes = record { source = record { id = source }; address = address; write = writes }
@@ -86,34 +87,40 @@ abbrev pub interruptRequest : (source address message : ℕ) → InterruptReques
 interruptRequest source address message =
     record { source = record { id = source }; address = address; «data» = message }
 
-abbrev pub interruptedBy : interrupts.InterruptOutcome → (image : List ℕ) → Result
-interruptedBy outcome image = interrupted outcome (written outcome image)
+abbrev pub memoryResult : MemoryRequest → (image : List ℕ) → Result
+memoryResult request image =
+    memory (run (memoryRules benchRegisters request) (ofImage image)) (memoryPlace benchRegisters request (ofImage image))
+
+abbrev pub interruptedBy : interrupts.InterruptOutcome → Place → (image : List ℕ) → Result
+interruptedBy outcome place image = interrupted outcome place (written outcome image)
 
 -- the rules' answer under the bench registers
 unfoldable pub resultOf : (source : ℕ) → Ask → (image : List ℕ) → Result
-resultOf source (read address) image =
-    memory (run (memoryRules benchRegisters (memoryRequest source address false)) (ofImage image))
-resultOf source (write address) image =
-    memory (run (memoryRules benchRegisters (memoryRequest source address true)) (ofImage image))
+resultOf source (read address) image = memoryResult (memoryRequest source address false) image
+resultOf source (write address) image = memoryResult (memoryRequest source address true) image
 resultOf source (interrupt address message) image =
-    interruptedBy (run (interrupts.interruptRules benchRegisters (interruptRequest source address message)) (ofImage image)) image
+    interruptedBy (run (interrupts.interruptRules benchRegisters (interruptRequest source address message)) (ofImage image))
+    (interrupts.interruptPlace benchRegisters (interruptRequest source address message) (ofImage image)) image
 
 -- a recordable fault by its reason and its record's two words
 abbrev pub faulted : (reason low high : ℕ) → FaultAnswer
 faulted reason low high = record { reason = reason; recordable = true; contents = spell (low ∷ high ∷ []) }
 
--- what a case answers: a host address, a fault, a refusal of a memory request, or an interrupt's outcome with the bytes that change
+-- what a case answers: a host address, a fault with the address of the entry concerned, a refusal of a memory request, an interrupt's
+-- outcome with the bytes that change, or an interrupt's fault
 pub data Answer : Type 0 where
   host : ℕ → Answer
-  fault : (reason low high : ℕ) → Answer
+  fault : (reason low high entry : ℕ) → Answer
   refusal : (number : ℕ) → Answer
   becomes : interrupts.InterruptOutcome → List (ℕ × ℕ) → Answer
+  stopped : (reason low high : ℕ) → Place → Answer
 
 abbrev pub expected : Answer → (image : List ℕ) → Result
-expected (host address) image = memory (granted address)
-expected (fault reason low high) image = memory (blocked (faulted reason low high))
-expected (refusal number) image = memory (refused number)
-expected (becomes outcome bytes) image = interrupted outcome (changed bytes image)
+expected (host address) image = memory (granted address) noEntry
+expected (fault reason low high entry) image = memory (blocked (faulted reason low high)) (entryAt entry)
+expected (refusal number) image = memory (refused number) noEntry
+expected (becomes outcome bytes) image = interrupted outcome noEntry (changed bytes image)
+expected (stopped reason low high place) image = interrupted (interrupts.blocked (faulted reason low high)) place image
 
 pub record Row : Type 0 where
   pub number : ℕ
@@ -139,26 +146,26 @@ delivers vector destination =
       destination = destination;
     })
 
--- document 01's rows; record words that it doesn't give follow from its rule
+-- document 01's rows, with document 02's entry addresses; record words that document 01 doesn't give follow from its rule
 abbrev pub rows : List ℕ → List Row
 rows image =
     row 1 image 0x0310 (read 0x40201ABC) (host 0x12345ABC)
-    ∷ row 2 image 0x0310 (write 0x40201ABC) (fault 0x05 0x40201000 0x8000000500000310)
-    ∷ row 3 image 0x0310 (read 0x40202000) (fault 0x06 0x40202000 0xC000000600000310)
+    ∷ row 2 image 0x0310 (write 0x40201ABC) (fault 0x05 0x40201000 0x8000000500000310 0x5008)
+    ∷ row 3 image 0x0310 (read 0x40202000) (fault 0x06 0x40202000 0xC000000600000310 0x5010)
     ∷ row 4 image 0x0310 (read 0x40412345) (host 0x40612345)
-    ∷ row 5 image 0x0310 (read 0x40600000) (fault 0x07 0x40600000 0xC000000700000310)
-    ∷ row 6 image 0x0310 (read 0x40800000) (fault 0x0C 0x40800000 0xC000000C00000310)
+    ∷ row 5 image 0x0310 (read 0x40600000) (fault 0x07 0x40600000 0xC000000700000310 0x9000)
+    ∷ row 6 image 0x0310 (read 0x40800000) (fault 0x0C 0x40800000 0xC000000C00000310 0x4020)
     -- its second row: with the image one byte shorter
     ∷ row 7 image 0x0310 (read 0x40BFF000) (host 0x23456000)
-    ∷ row 7 (take 32767 image) 0x0310 (read 0x40BFF000) (fault 0x07 0x40BFF000 0xC000000700000310)
-    ∷ row 8 image 0x0310 (read 0x7FFFFFFFFF) (fault 0x06 0x7FFFFFF000 0xC000000600000310)
-    ∷ row 8 image 0x0310 (read 0x8000000000) (fault 0x04 0x8000000000 0xC000000400000310)
-    ∷ row 9 image 0x0410 (read 0x40201ABC) (fault 0x01 0x40201000 0xC000000100000410)
-    ∷ row 9 image 0x0311 (read 0x40201ABC) (fault 0x02 0x40201000 0xC000000200000311)
+    ∷ row 7 (take 32767 image) 0x0310 (read 0x40BFF000) (fault 0x07 0x40BFF000 0xC000000700000310 0x7FF8)
+    ∷ row 8 image 0x0310 (read 0x7FFFFFFFFF) (fault 0x06 0x7FFFFFF000 0xC000000600000310 0x3FF8)
+    ∷ row 8 image 0x0310 (read 0x8000000000) (fault 0x04 0x8000000000 0xC000000400000310 0x2100)
+    ∷ row 9 image 0x0410 (read 0x40201ABC) (fault 0x01 0x40201000 0xC000000100000410 0x1040)
+    ∷ row 9 image 0x0311 (read 0x40201ABC) (fault 0x02 0x40201000 0xC000000200000311 0x2110)
     ∷ row 10 image 0x0310 (interrupt 0xFEE00050 0) (becomes (delivers 0x41 7) [])
-    ∷ row 10 image 0x0311 (interrupt 0xFEE00050 0) (becomes (interrupts.blocked (faulted 0x26 0x0002000000000000 0x8000002600000311)) [])
+    ∷ row 10 image 0x0311 (interrupt 0xFEE00050 0) (stopped 0x26 0x0002000000000000 0x8000002600000311 (entryAt 0x6020))
     -- index 65,538
-    ∷ row 11 image 0x0310 (interrupt 0xFEEFFFFC 3) (becomes (interrupts.blocked (faulted 0x21 0xFFFF000000000000 0x8000002100000310)) [])
+    ∷ row 11 image 0x0310 (interrupt 0xFEEFFFFC 3) (stopped 0x21 0xFFFF000000000000 0x8000002100000310 noEntry)
     -- its second row: again, over what the first left
     ∷ row 12 image 0x0310 (interrupt 0xFEE00090 0)
     (becomes (interrupts.posted 0x6400 0x31 (notice 0xF2 7)) ((0x6406, 2) ∷ (0x6420, 1) ∷ []))

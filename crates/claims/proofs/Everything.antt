@@ -4,6 +4,7 @@ use Rattle.faults.proofs.Recording.{slot-counts}
 use Rattle.faults.proofs.Totals.{one-length, total}
 use Rattle.dma.proofs.Access.{locality}
 use Rattle.dma.proofs.Nine.{at-most-nine, none-untaken}
+use Rattle.dma.proofs.Places.{always-an-entry}
 use Rattle.dma.proofs.Reached.{granted-by-own-walk}
 use Rattle.dma.proofs.NoInterrupt.{no-interrupt-granted, whole-frame-tested}
 use Rattle.dma.proofs.Rights.{rights-on, rights-off, unshared}
@@ -43,6 +44,7 @@ everything =
       index-bound = index-bound;
       entry-of-index = entry-of-index;
       no-wrap = no-wrap;
+      always-an-entry = always-an-entry;
       slot-counts = slot-counts;
       one-length = one-length;
       total = total;

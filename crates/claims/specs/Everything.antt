@@ -4,7 +4,7 @@
 use Rattle.meter.specs.Runs.{FirstTicks, Decays, NeverAbove, StaysInRange, BytesTell}
 use Rattle.faults.specs.Slots.{SlotCounts}
 use Rattle.faults.specs.Total.{OneLength, Total}
-use Rattle.dma.specs.Isolation.{Locality, AccessMeansUnfetched, RightsOn, RightsOff, Unshared}
+use Rattle.dma.specs.Isolation.{Locality, AlwaysAnEntry, AccessMeansUnfetched, RightsOn, RightsOff, Unshared}
 use Rattle.dma.specs.Named.{AtMostNine, NoneUntaken}
 use Rattle.dma.specs.NoInterrupt.{NoInterruptGranted, WholeFrameTested}
 use Rattle.dma.specs.Reached.{GrantedByOwnWalk}
@@ -21,7 +21,7 @@ use Rattle.claims.specs.OneAnswer.{OneMemoryAnswer, OneInterruptAnswer, 
 pub record Everything : Type 0 where
   -- demand 1: nothing is changed by an answer that is no post
   pub leaves-all : LeavesAll
-  -- demand 2: one answer, the post, the index, the recorder, the bench cases
+  -- demand 2: one answer, the post, the index, the entry concerned, the recorder, the bench cases
   pub one-memory-answer : OneMemoryAnswer
   pub one-interrupt-answer : OneInterruptAnswer
   pub one-reason : OneReason
@@ -36,6 +36,7 @@ pub record Everything : Type 0 where
   pub index-bound : IndexBound
   pub entry-of-index : EntryOfIndex
   pub no-wrap : NoWrap
+  pub always-an-entry : AlwaysAnEntry
   pub slot-counts : SlotCounts
   pub one-length : OneLength
   pub total : Total

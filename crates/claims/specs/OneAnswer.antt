@@ -1,5 +1,5 @@
--- The contracts of the requests are equations of what the code's answer says (`outcomeOf`) with what the rules say. No two answers, and
--- no two reasons, say the same: so each contract leaves one answer. Proved in proofs/OneAnswer.antt.
+-- The contracts of the requests are equations of what the code's answer says (`outcomeOf`, `entryOf`) with what the rules say. No two
+-- answers, and no two reasons, say the same: so each contract leaves one answer. Proved in proofs/OneAnswer.antt.
 use Prim.Native.Nat.{_^_, _<_}
 use mathlib.Core.Path.{_≡_}
 use Rattle.faults.specs.Reason.{numberOf}
@@ -14,21 +14,22 @@ use Rattle.interrupts.specs.declared.answer.InterruptAnswer.the-variants as ans
 -- an answer whose fault has words of 64 bits, as every answer of the code has
 abbrev pub Sized : MemoryAnswer → Type 0
 Sized (Granted address) = Unit {0}
-Sized (Blocked f) = f .low < 2 ^ 64
+Sized (Blocked f at) = f .low < 2 ^ 64
 Sized (Refused number) = Unit {0}
 
 abbrev pub SizedInterrupt : InterruptAnswer → Type 0
 SizedInterrupt answer.Passed = Unit {0}
 SizedInterrupt (answer.Remapped r) = Unit {0}
 SizedInterrupt (answer.Posted p) = Unit {0}
-SizedInterrupt (answer.Blocked f) = f .low < 2 ^ 64
+SizedInterrupt (answer.Blocked f at) = f .low < 2 ^ 64
 SizedInterrupt (answer.Refused number) = Unit {0}
 
 abbrev pub OneMemoryAnswer : Type 0
-OneMemoryAnswer = (r s : MemoryAnswer) → Sized r → Sized s → memory.outcomeOf r ≡ memory.outcomeOf s → r ≡ s
+OneMemoryAnswer = (r s : MemoryAnswer) → Sized r → Sized s → memory.outcomeOf r ≡ memory.outcomeOf s → memory.entryOf r ≡ memory.entryOf s → r ≡ s
 
 abbrev pub OneInterruptAnswer : Type 0
-OneInterruptAnswer = (r s : InterruptAnswer) → SizedInterrupt r → SizedInterrupt s → interrupts.outcomeOf r ≡ interrupts.outcomeOf s → r ≡ s
+OneInterruptAnswer = (r s : InterruptAnswer) → SizedInterrupt r → SizedInterrupt s → interrupts.outcomeOf r ≡ interrupts.outcomeOf s
+    → interrupts.entryOf r ≡ interrupts.entryOf s → r ≡ s
 
 abbrev pub OneReason : Type 0
 OneReason = (r s : Reason) → numberOf r ≡ numberOf s → r ≡ s

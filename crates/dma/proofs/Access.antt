@@ -2,14 +2,15 @@
 -- answer is settled by the named words.
 use Prim.Native.Nat.{ℕ}
 use mathlib.Core.Bool.{Bool, true, false}
-use mathlib.Core.Path.{_≡_, sym, _∙_}
+use mathlib.Core.Path.{_≡_, ap, ap₂, sym, _∙_}
 use native.Mathlib.Omega.{arith}
 use Rattle.image.specs.Rules.{run, Outside}
 use Rattle.image.proofs.Forks.{every-outside}
 use Rattle.image.proofs.Isolated.{isolated}
+use Rattle.image.proofs.Places.{isolated-place}
 use Rattle.registers.specs.declared.Registers.{Registers}
 use Rattle.dma.specs.Isolation.{accessFault, answerOver, Locality}
-use Rattle.dma.specs.Requests.{memoryRules}
+use Rattle.dma.specs.Requests.{memoryRules, concerned}
 use Rattle.dma.specs.declared.MemoryRequest.{MemoryRequest}
 use Rattle.dma.proofs.Forks.{Fork, Ends, memory-forks}
 
@@ -20,7 +21,8 @@ outside-memory registers request =
 
 pub locality : Locality
 locality registers request image image′ answered same =
-    sym
-    (isolated (λ o. accessFault o ≡ true) (memoryRules registers request) image image′ (outside-memory registers request)
-    (λ ended. let z : _≡_ {A = Bool} true false = sym ended ∙ answered in let y : _≡_ {A = ℕ} 0 1 = cc in omega arith)
-    same)
+    let q = memoryRules registers request in
+    let met : accessFault (answerOver registers request image) ≡ true → ⊥ = λ ended. let z : _≡_ {A = Bool} true false = sym ended ∙ answered in let y : _≡_ {A = ℕ} 0 1 = cc in omega arith in
+    let alike = isolated (λ o. accessFault o ≡ true) q image image′ (outside-memory registers request) met same in
+    let place = isolated-place (λ o. accessFault o ≡ true) q image image′ (outside-memory registers request) met same in
+    (sym alike, sym (ap₂ concerned alike place))

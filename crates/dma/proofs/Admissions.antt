@@ -1,15 +1,22 @@
 -- A memory request by what becomes of it at admission.
-use Prim.Native.Nat.{ℕ}
+use Prim.Native.Nat.{ℕ, _%_}
 use mathlib.Core.Bool.{Bool}
 use mathlib.Core.Path.{_≡_, refl, ap, sym, _∙_}
 use Rattle.image.specs.Memory.{Memory}
+use Rattle.image.specs.Place.{noEntry, stoppedAt}
 use Rattle.image.specs.Rules.{run}
+use Rattle.image.proofs.Places.{tried-map}
 use Rattle.image.proofs.Trees.{run-map}
+use Rattle.registers.proofs.Good.{taken-good}
 use Rattle.registers.specs.Admission.{Admitted, refusal, pass, take, admission, inInterruptRange}
 use Rattle.registers.specs.declared.Registers.{Registers}
 use Rattle.dma.specs.Requests.{MemoryOutcome, granted, refused, memoryOutcome, memoryRules}
 use Rattle.dma.specs.Translation.{translationRules}
 use Rattle.dma.specs.declared.MemoryRequest.{MemoryRequest}
+
+-- registers under which a request is taken up have a root table that begins a page
+pub taken-root : (registers : Registers) (wrong on : Bool) → take ≡ admission registers wrong on → registers .«root_table» % 4096 ≡ 0
+taken-root registers wrong on h = taken-good registers wrong on h .root .aligned
 
 module _ (registers : Registers) (request : MemoryRequest) (m : Memory) where
   -- admission with the address's kind as the code found it
@@ -29,3 +36,10 @@ module _ (registers : Registers) (request : MemoryRequest) (m : Memory) where
         → memoryOutcome request (run (translationRules registers (request .address) (request .write) (request .source .id)) m) ≡ run (memoryRules registers request) m
     unfolding memoryRules
     takes h = rw (← kind, ← h) (sym (run-map (memoryOutcome request) (translationRules registers (request .address) (request .write) (request .source .id)) m))
+
+    pub takes-at : take ≡ admitted wrong
+        → stoppedAt (translationRules registers (request .address) (request .write) (request .source .id)) m ≡ stoppedAt (memoryRules registers request) m
+    unfolding memoryRules
+    takes-at h =
+        rw (← kind, ← h)
+        (sym (tried-map (memoryOutcome request) noEntry (translationRules registers (request .address) (request .write) (request .source .id)) m))

@@ -25,7 +25,7 @@ use Rattle.dma.proofs.Leaves.{leaf-no-access}
 use Rattle.dma.proofs.Lookups.{every-lookup}
 use Rattle.dma.proofs.Reasons.{Otherwise, root-otherwise, context-otherwise, page-otherwise}
 use Rattle.dma.proofs.Steps.{page-frame-lt, leaf-low}
-use Rattle.dma.proofs.Stepped.{leads, leads-aligned}
+use Rattle.dma.proofs.Stepped.{leads, leads-aligned, more-levels}
 use Rattle.dma.proofs.Walks.{every-walk}
 
 -- an entry that can't be fetched is answered with an access fault; a page entry is a word, at a multiple of 8
@@ -35,11 +35,6 @@ Fork kind at o = (accessFault o ≡ true) × (isPage kind ≡ true → at % 8 �
 -- and no other answer is an access fault
 abbrev pub Ends : MemoryOutcome → Type 0
 Ends o = accessFault o ≡ true → ⊥
-
--- level 1 has no table below
-more-levels : (n e : ℕ) → leafAt (suc n) e ≡ false → 0 < n
-more-levels zero e h = let z : _≡_ {A = ℕ} 0 1 = cc in absurd (omega arith)
-more-levels (suc n) e h = omega arith
 
 module _ (registers : Registers) (request : MemoryRequest) where
   abbrev rules : Rules Translation

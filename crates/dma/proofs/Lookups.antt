@@ -6,8 +6,10 @@ use native.Mathlib.Omega.{arith}
 use Rattle.image.specs.Check.{Check, stop, go, onCheck}
 use Rattle.image.specs.EntryKind.{EntryKind, rootEntry, contextEntry}
 use Rattle.image.specs.Memory.{Memory, Fetched, missing, found, entry, onFetch}
+use Rattle.image.specs.Place.{Place, entryAt, lastTried}
 use Rattle.image.specs.Rules.{Rules, answer, run}
 use Rattle.image.proofs.Forks.{Every, every-answer, every-fetch, every-run}
+use Rattle.image.proofs.Places.{only-at}
 use Rattle.image.proofs.Stages.{check-cases}
 use Rattle.registers.specs.Source.{busOf, devfnOf}
 use Rattle.registers.specs.declared.Registers.{Registers}
@@ -85,6 +87,98 @@ module _ {A : Type 0} (registers : Registers) (faulted : (reason : ℕ) (fpd : B
           (λ c. run (next c) m)
       at-root missing = refl
       at-root (found e) = passed (rootCheck (registers .haw) e)
+
+  -- it stops where the lookup does, or where what follows stops
+  pub looked-up-at : (before : Place) → lastTried before (rootRules registers faulted next source) m
+      ≡ onLookup (run (lookupRules registers source) m) (λ reason fpd. lastTried before (lookupRules registers source) m)
+      (λ c. lastTried (lastTried before (lookupRules registers source) m) (next c) m)
+  unfolding rootRules contextRules run lastTried
+  looked-up-at before = at-root (entry 2 m (registers .«root_table» + 16 * busOf source))
+    where
+      root : Place
+      root = entryAt (registers .«root_table» + 16 * busOf source)
+
+      alone : Rules Lookup → Rules A → Place → Type 0
+      alone lookup whole place =
+          lastTried place whole m
+          ≡ onLookup (run lookup m) (λ reason fpd. lastTried place lookup m) (λ c. lastTried (lastTried place lookup m) (next c) m)
+
+      told : (e : ℕ) (place : Place) (k : Check Context)
+          → alone (onCheck k (λ reason. answer (noContext reason (faultProcessingDisabled e))) (λ c. answer (context c)))
+          (onCheck k (λ reason. answer (faulted reason (faultProcessingDisabled e))) next) place
+      told e place (stop reason) = refl
+      told e place (go c) = refl
+
+      at-context : (table : ℕ) (f : Fetched)
+          → onFetch f (entryAt (table + 16 * devfnOf source))
+          (λ e.
+          lastTried (entryAt (table + 16 * devfnOf source))
+          (onCheck (contextCheck registers e) (λ reason. answer (faulted reason (faultProcessingDisabled e))) next) m)
+          ≡ onLookup
+          (onFetch f (noContext 0x09 false)
+          (λ e. run (onCheck (contextCheck registers e) (λ reason. answer (noContext reason (faultProcessingDisabled e))) (λ c. answer (context c))) m))
+          (λ reason fpd.
+          onFetch f (entryAt (table + 16 * devfnOf source))
+          (λ e.
+          lastTried (entryAt (table + 16 * devfnOf source))
+          (onCheck (contextCheck registers e) (λ reason. answer (noContext reason (faultProcessingDisabled e))) (λ c. answer (context c))) m))
+          (λ c.
+          lastTried
+          (onFetch f (entryAt (table + 16 * devfnOf source))
+          (λ e.
+          lastTried (entryAt (table + 16 * devfnOf source))
+          (onCheck (contextCheck registers e) (λ reason. answer (noContext reason (faultProcessingDisabled e))) (λ c. answer (context c))) m))
+          (next c) m)
+      at-context table missing = refl
+      at-context table (found e) = told e (entryAt (table + 16 * devfnOf source)) (contextCheck registers e)
+
+      passed : (k : Check ℕ)
+          → alone
+          (onCheck k (λ reason. answer (noContext reason false)) (contextRules registers noContext (λ c. answer (context c)) source))
+          (onCheck k (λ reason. answer (faulted reason false)) (contextRules registers faulted next source)) root
+      passed (stop reason) = refl
+      passed (go table) = at-context table (entry 2 m (table + 16 * devfnOf source))
+
+      at-root : (f : Fetched)
+          → onFetch f root
+          (λ e. lastTried root (onCheck (rootCheck (registers .haw) e) (λ reason. answer (faulted reason false)) (contextRules registers faulted next source)) m)
+          ≡ onLookup
+          (onFetch f (noContext 0x08 false)
+          (λ e.
+          run
+          (onCheck (rootCheck (registers .haw) e) (λ reason. answer (noContext reason false))
+          (contextRules registers noContext (λ c. answer (context c)) source)) m))
+          (λ reason fpd.
+          onFetch f root
+          (λ e.
+          lastTried root
+          (onCheck (rootCheck (registers .haw) e) (λ reason. answer (noContext reason false))
+          (contextRules registers noContext (λ c. answer (context c)) source)) m))
+          (λ c.
+          lastTried
+          (onFetch f root
+          (λ e.
+          lastTried root
+          (onCheck (rootCheck (registers .haw) e) (λ reason. answer (noContext reason false))
+          (contextRules registers noContext (λ c. answer (context c)) source)) m))
+          (next c) m)
+      at-root missing = refl
+      at-root (found e) = passed (rootCheck (registers .haw) e)
+
+-- a context entry is the last that a lookup tries
+pub context-place : (registers : Registers) (before : Place) (m : Memory) (source table : ℕ)
+    → entryAt (table + 16 * devfnOf source) ≡ lastTried before (contextRules registers noContext (λ c. answer (context c)) source table) m
+unfolding contextRules lastTried
+context-place registers before m source table = by (entry 2 m (table + 16 * devfnOf source))
+  where
+    by : (f : Fetched)
+        → entryAt (table + 16 * devfnOf source)
+        ≡ onFetch f (entryAt (table + 16 * devfnOf source))
+        (λ e.
+        lastTried (entryAt (table + 16 * devfnOf source))
+        (onCheck (contextCheck registers e) (λ reason. answer (noContext reason (faultProcessingDisabled e))) (λ c. answer (context c))) m)
+    by missing = refl
+    by (found e) = only-at (entryAt (table + 16 * devfnOf source)) m (contextCheck registers e) _ context
 
 -- a context that a lookup finds is usable
 abbrev pub Finds : Lookup → Type 0

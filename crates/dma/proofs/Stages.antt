@@ -1,5 +1,5 @@
 -- The stages before the page walk: where their entries are, and what a context entry's check ensures.
-use Prim.Native.Nat.{ℕ, _+_, _*_, _≤_, _<_}
+use Prim.Native.Nat.{ℕ, _+_, _-_, _*_, _%_, _≤_, _<_}
 use mathlib.Core.Bool.{Bool, true, false, not, _||_}
 use mathlib.Core.Path.{_≡_, refl, ap, sym, _∙_}
 use mathlib.Core.List.{List}
@@ -11,17 +11,28 @@ use Rattle.image.specs.Bits.{bits, bit, inPlace}
 use Rattle.image.specs.Check.{Check, stop, go, onCheck}
 use Rattle.image.specs.Choice.{if_then_else_}
 use Rattle.image.specs.Memory.{Fetched, ofImage, entry}
-use Rattle.image.proofs.Pages.{in-page}
+use Rattle.image.proofs.Pages.{of-page}
 use Rattle.registers.specs.declared.Registers.{Registers}
 use Rattle.dma.specs.Context.{addressWidth, levelsOf, translationType, widthSupported, contextReserved, contextInvalid, contextOf, contextCheck, Usable}
+use Rattle.dma.specs.Root.{rootReserved, rootCheck}
 use Rattle.dma.specs.declared.context.Context.{Context}
 use Rattle.dma.proofs.Steps.{past}
 
 -- an entry taken from its table's page is the one that the rules name
-pub placed : (image : List ℕ) (table : ℕ) {k : ℕ} {f : Fetched} → k < 256
-    → f ≡ entry 2 (ofImage (take 4096 (drop table image))) (16 * k)
+pub placed : (image : List ℕ) (table k : ℕ) {f : Fetched} → table % 4096 ≡ 0 → k < 256
+    → f ≡ entry 2 (ofImage (take 4096 (drop (table + 16 * k - (table + 16 * k) % 4096) image))) ((table + 16 * k) % 4096)
     → f ≡ entry 2 (ofImage image) (table + 16 * k)
-placed image table {k} h fetched = fetched ∙ in-page 4096 image table 2 (16 * k) (omega arith)
+placed image table k aligned h fetched = fetched ∙ of-page image 2 (table + 16 * k) (omega arith)
+
+-- the table that a root entry leads to begins a page
+pub root-aligned : (haw e : ℕ) {a : ℕ} → rootCheck haw e ≡ go a → a % 4096 ≡ 0
+unfolding rootCheck
+root-aligned haw e {a} h =
+    let h1 = past (not (bit e 0)) 0x01 _ a h in
+    let h2 = past (rootReserved haw e) 0x0A _ a (h1 .1) in
+    let leads : go (inPlace e 63 12) ≡ go a = h2 .1 in
+    let same : a ≡ inPlace e 63 12 = cc in
+    rw same (omega arith)
 
 -- a context entry that its check lets pass is past 03h, and the context is what it says
 pub valid : (registers : Registers) (e : ℕ) {c : Context} → contextCheck registers e ≡ go c

@@ -1,7 +1,7 @@
 -- What one level of the walk makes of the entry that the code fetched and checked.
 use Prim.Native.Nat.{ℕ, zero, suc, _+_, _-_, _*_, _%_, _<_, _≤_}
 use mathlib.Core.Bool.{Bool, true, false}
-use mathlib.Core.Path.{_≡_, refl, ap, sym, _∙_}
+use mathlib.Core.Path.{_≡_, refl, ap, sym, _∙_, subst}
 use mathlib.Core.List.{List}
 use native.Mathlib.Omega.{arith}
 use mathlib.Core.Logic.{_⊎_, ⊎-elim}
@@ -10,29 +10,32 @@ use Rattle.image.specs.Bits.{bits}
 use Rattle.image.specs.Check.{Check, stop, go, onCheck}
 use Rattle.image.specs.Choice.{if_then_else_}
 use Rattle.image.specs.Memory.{Memory, Fetched, missing, found, ofImage, entry, onFetch}
+use Rattle.image.specs.Place.{Place, entryAt, lastTried}
 use Rattle.image.specs.Rules.{run}
-use Rattle.image.proofs.Pages.{in-page}
+use Rattle.image.proofs.Pages.{of-page}
 use Rattle.registers.specs.declared.Registers.{Registers}
 use Rattle.dma.specs.Page.{pageCheck, leafAt}
 use Rattle.dma.specs.Translation.{Translation, leaf, fault, checked, pageStep, pageOver, pageRules}
 use Rattle.dma.specs.Walk.{Step, done, down, onStep, placeIn, walkRules, stepOver}
-use Rattle.dma.specs.Answers.{stepOf}
+use Rattle.dma.specs.Answers.{stepOf, Names}
+use Rattle.dma.specs.declared.translation.Translation.{Translation as TranslationCode}
 use denote.Enum.Declared.{tagOf}
 use Rattle.dma.proofs.page.Step.{the-type}
 use Rattle.dma.specs.declared.page.Step.{Step as StepCode}
 use Rattle.dma.specs.declared.page.Step.the-variants as step
 use Rattle.dma.proofs.Steps.{index-lt, page-frame}
-use Rattle.dma.proofs.Walks.{walk-step}
+use Rattle.dma.proofs.Walks.{walk-step, walk-tried, walk-anew}
 
 -- an entry taken from its table's page is the one that the rules name
-pub placed : (image : List ℕ) (address table n : ℕ) {index : ℕ} {f : Fetched}
-    → index ≡ bits address (20 + 9 * n) (12 + 9 * n)
-    → f ≡ entry 1 (ofImage (take 4096 (drop table image))) (8 * index)
+pub placed : (image : List ℕ) (address table n : ℕ) {at : ℕ} {f : Fetched} → table % 4096 ≡ 0 → at ≡ placeIn address table n
+    → f ≡ entry 1 (ofImage (take 4096 (drop (at - at % 4096) image))) (at % 4096)
     → f ≡ entry 1 (ofImage image) (placeIn address table n)
-placed image address table n {index} {f} indexed fetched =
-    let here = bits address (20 + 9 * n) (12 + 9 * n) in
-    rw indexed at fetched
-    ∙ in-page 4096 image table 1 (8 * here) (omega (arith, index-lt address n))
+placed image address table n {at} {f} aligned is fetched =
+    fetched ∙ of-page image 1 at (omega (arith, index-lt address n)) ∙ ap (entry 1 (ofImage image)) is
+
+-- a fault's entry by another name
+pub renamed : (t : TranslationCode) {place place′ : Place} → place ≡ place′ → Names t place → Names t place′
+renamed t is h = subst (λ (p : Place). Names t p) is h
 
 -- a check that goes on
 pub gone : (fpd : Bool) (k : Check ℕ) {frame : ℕ} → down frame tt ≡ checked fpd k → go frame ≡ k
@@ -57,8 +60,8 @@ module _ (registers : Registers) (address : ℕ) (write fpd : Bool) (image : Lis
         on (step.Down table) k other told = absurd (⊎-elim (λ x. omega arith) (λ x. omega arith) other)
         on (step.Leaf frame level) (stop reason) other told = told
         on (step.Leaf frame level) (go a) other told = let z : _≡_ {A = ℕ} 0 1 = cc in absurd (omega arith)
-        on (step.Fault reason f) (stop r) other told = told
-        on (step.Fault reason f) (go a) other told = let z : _≡_ {A = ℕ} 0 1 = cc in absurd (omega arith)
+        on (step.Fault reason f at) (stop r) other told = told
+        on (step.Fault reason f at) (go a) other told = let z : _≡_ {A = ℕ} 0 1 = cc in absurd (omega arith)
 
     module _ {frame : ℕ} (told : go frame ≡ pageCheck registers write (suc n) e) where
       pub at-leaf : leafAt (suc n) e ≡ true
@@ -88,6 +91,31 @@ module _ (registers : Registers) (address : ℕ) (write fpd : Bool) (m : Memory)
       → run (pageRules registers address write fpd (level - 1) next) m ≡ run (pageRules registers address write fpd level table) m
   onward h = sym (rw (← h) at first)
 
+  first-at : (before : Place) → lastTried before (pageRules registers address write fpd level table) m
+      ≡ onStep (pageOver registers address write fpd m (level - 1) table) (λ a. entryAt (placeIn address table (level - 1)))
+      (λ next s.
+      lastTried (entryAt (placeIn address table (level - 1)))
+      (walkRules address (λ s. fault 0x07 fpd) (pageStep registers address write fpd) (level - 1) next s) m)
+  first-at before =
+      let this : level ≡ suc (level - 1) = omega arith in
+      ap (λ (l : ℕ). lastTried before (pageRules registers address write fpd l table) m) this
+      ∙ walk-tried address (λ s. fault 0x07 fpd) (pageStep registers address write fpd) m before (level - 1) table tt
+
+  -- where the walk stopped, in either case
+  pub ended-at : (before : Place) {t : Translation} → done t ≡ pageOver registers address write fpd m (level - 1) table
+      → lastTried before (pageRules registers address write fpd level table) m ≡ entryAt (placeIn address table (level - 1))
+  ended-at before h = rw (← h) at first-at before
+
+  pub onward-at : (before : Place) {next : ℕ} → down next tt ≡ pageOver registers address write fpd m (level - 1) table
+      → lastTried before (pageRules registers address write fpd level table) m
+      ≡ lastTried (entryAt (placeIn address table (level - 1))) (pageRules registers address write fpd (level - 1) next) m
+  onward-at before h = rw (← h) at first-at before
+
+  pub anew : (before before′ : Place)
+      → lastTried before (pageRules registers address write fpd level table) m ≡ lastTried before′ (pageRules registers address write fpd level table) m
+  anew before before′ =
+      walk-anew address (λ s. fault 0x07 fpd) (pageStep registers address write fpd) m before before′ level table tt more
+
 -- an entry that leads on leads to its frame, and is no page's
 pub leads : (registers : Registers) (address : ℕ) (write fpd : Bool) (level place e : ℕ) {next : ℕ}
     → down next tt ≡ pageStep registers address write fpd level place tt e
@@ -102,15 +130,27 @@ leads registers address write fpd level place e {next} = on (pageCheck registers
     on (go frame) true h = let z : _≡_ {A = ℕ} 0 1 = cc in absurd (omega arith)
     on (go frame) false h = (cc, refl)
 
+-- level 1 has no table below
+pub more-levels : (n e : ℕ) → leafAt (suc n) e ≡ false → 0 < n
+more-levels zero e h = let z : _≡_ {A = ℕ} 0 1 = cc in absurd (omega arith)
+more-levels (suc n) e h = omega arith
+
 -- so it leads to a multiple of 8
 pub leads-aligned : (registers : Registers) (address : ℕ) (write fpd : Bool) (level place : ℕ) (s : Unit {0}) (e next : ℕ) (t : Unit {0})
     → down next t ≡ pageStep registers address write fpd level place s e → next % 8 ≡ 0
 leads-aligned registers address write fpd level place s e next t told =
     rw (page-frame registers write level e next (leads registers address write fpd level place e told .0)) (omega arith)
 
--- below level 1 there is no table
-pub past : (registers : Registers) (address : ℕ) (write fpd : Bool) (m : Memory) (level table : ℕ) → level ≤ 0
-    → fault 0x07 fpd ≡ run (pageRules registers address write fpd level table) m
-unfolding run walkRules
-past registers address write fpd m zero table none = refl
-past registers address write fpd m (suc n) table none = absurd (omega arith)
+-- a level leads to a table that begins a page, and is not the last
+pub down-to : (registers : Registers) (address : ℕ) (write fpd : Bool) (m : Memory) (n table : ℕ) {next : ℕ}
+    → down next tt ≡ pageOver registers address write fpd m n table → (next % 4096 ≡ 0) × (0 < n)
+unfolding stepOver
+down-to registers address write fpd m n table {next} = on (entry 1 m (placeIn address table n))
+  where
+    on : (f : Fetched)
+        → down next tt ≡ onFetch f (done (fault 0x07 fpd)) (pageStep registers address write fpd (suc n) (placeIn address table n) tt)
+        → (next % 4096 ≡ 0) × (0 < n)
+    on missing h = let z : _≡_ {A = ℕ} 0 1 = cc in absurd (omega arith)
+    on (found e) h =
+        let led = leads registers address write fpd (suc n) (placeIn address table n) e h in
+        (rw (page-frame registers write (suc n) e next (led .0)) (omega arith), more-levels n e (led .1))

@@ -5,6 +5,7 @@ use native.Mathlib.Omega.{arith}
 use Rattle.image.specs.Bits.{bits}
 use Rattle.image.specs.EntryKind.{EntryKind, pageEntry}
 use Rattle.image.specs.Memory.{Memory, Fetched, missing, found, entry, onFetch}
+use Rattle.image.specs.Place.{Place, entryAt, lastTried}
 use Rattle.image.specs.Rules.{Rules, answer, fetch, run}
 use Rattle.image.proofs.Forks.{Every, every-answer, every-fetch}
 use Rattle.dma.specs.Walk.{Step, done, down, onStep, placeIn, walkRules, stepOver}
@@ -41,6 +42,37 @@ module _ {S A : Type 0} (address : ℕ) (none : S → A) (step : (level place : 
           (λ next t. run (walkRules address none step n next t) m)
       go missing = refl
       go (found e) = on (step (suc n) (placeIn address table n) s e)
+
+  -- and it stops at its first entry, or where the walk of what that leads to stops
+  pub walk-tried : (m : Memory) (before : Place) (n table : ℕ) (s : S)
+      → lastTried before (walkRules address none step (suc n) table s) m
+      ≡ onStep (stepOver address none step m n table s) (λ a. entryAt (placeIn address table n))
+      (λ next t. lastTried (entryAt (placeIn address table n)) (walkRules address none step n next t) m)
+  unfolding lastTried walkRules stepOver
+  walk-tried m before n table s = go (entry 1 m (placeIn address table n))
+    where
+      here : Place
+      here = entryAt (placeIn address table n)
+
+      on : (x : Step S A)
+          → lastTried here (onStep x answer (walkRules address none step n)) m
+          ≡ onStep x (λ a. here) (λ next t. lastTried here (walkRules address none step n next t) m)
+      on (done a) = refl
+      on (down next t) = refl
+
+      go : (f : Fetched)
+          → onFetch f here (λ e. lastTried here (onStep (step (suc n) (placeIn address table n) s e) answer (walkRules address none step n)) m)
+          ≡ onStep (onFetch f (done (none s)) (step (suc n) (placeIn address table n) s)) (λ a. here)
+          (λ next t. lastTried here (walkRules address none step n next t) m)
+      go missing = refl
+      go (found e) = on (step (suc n) (placeIn address table n) s e)
+
+  -- whatever was tried before
+  pub walk-anew : (m : Memory) (before before′ : Place) (level table : ℕ) (s : S) → 0 < level
+      → lastTried before (walkRules address none step level table s) m ≡ lastTried before′ (walkRules address none step level table s) m
+  unfolding lastTried walkRules
+  walk-anew m before before′ zero table s more = absurd (omega arith)
+  walk-anew m before before′ (suc n) table s more = refl
 
   -- what holds of a walk's forks and answers: a table of a level is at an address of a kind, and answers are those of some levels at most
   pub every-walk : (Fork : EntryKind → ℕ → A → Type 0) (Ends : A → Type 0) (Table : (level table : ℕ) → Type 0) (most : ℕ)

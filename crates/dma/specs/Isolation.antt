@@ -10,15 +10,21 @@ use lib.ListN.{length, getD}
 use Rattle.image.specs.Alike.{SameWords}
 use Rattle.image.specs.Bits.{bits}
 use Rattle.image.specs.Memory.{ofImage}
+use Rattle.image.specs.Place.{Place, noEntry}
 use Rattle.image.specs.Rules.{run, named}
 use Rattle.image.specs.Unfetched.{Unfetched}
 use Rattle.registers.specs.declared.Registers.{Registers}
-use Rattle.dma.specs.Requests.{MemoryOutcome, granted, blocked, refused, memoryRules, walked, tableEntries}
+use Rattle.faults.specs.Record.{FaultAnswer}
+use Rattle.dma.specs.Requests.{MemoryOutcome, granted, blocked, refused, memoryRules, memoryPlace, walked, tableEntries}
 use Rattle.dma.specs.declared.MemoryRequest.{MemoryRequest}
 
 -- the answer that document 01's rules give over an image
 abbrev pub answerOver : Registers → MemoryRequest → List ℕ → MemoryOutcome
 answerOver registers request image = run (memoryRules registers request) (ofImage image)
+
+-- the entry concerned in it
+abbrev pub placeOver : Registers → MemoryRequest → List ℕ → Place
+placeOver registers request image = memoryPlace registers request (ofImage image)
 
 -- 07h, 08h and 09h
 abbrev pub accessReason : (reason : ℕ) → Bool
@@ -30,13 +36,21 @@ accessFault (blocked fault) = accessReason (fault .reason)
 accessFault (refused number) = false
 
 -- 1. Over a second image alike in the words that a request names, the same request under the same registers gets the same
--- answer, whatever else that image holds and however long it is, unless it ended in an access fault.
+-- answer, the entry concerned among its parts, whatever else that image holds and however long it is, unless it ended in an access fault.
 abbrev pub Locality : Type 0
 Locality =
     (registers : Registers) (request : MemoryRequest) (image image′ : List ℕ)
     → accessFault (answerOver registers request image) ≡ false
     → SameWords image image′ (named (memoryRules registers request) (ofImage image))
-    → answerOver registers request image′ ≡ answerOver registers request image
+    → (answerOver registers request image′ ≡ answerOver registers request image)
+    × (placeOver registers request image′ ≡ placeOver registers request image)
+
+-- A blocked memory request always has an entry concerned: its root entry was tried, if no other.
+abbrev pub AlwaysAnEntry : Type 0
+AlwaysAnEntry =
+    (registers : Registers) (request : MemoryRequest) (image : List ℕ) (f : FaultAnswer)
+    → answerOver registers request image ≡ blocked f
+    → placeOver registers request image ≡ noEntry → ⊥
 
 -- The exception is no wider than the demand's words: an access fault means an entry that couldn't be fetched, of which a byte lies
 -- outside the image.

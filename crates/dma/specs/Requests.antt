@@ -4,7 +4,8 @@ use mathlib.Core.List.{List}
 use Rattle.image.specs.Choice.{if_then_else_}
 use Rattle.image.specs.EntryKind.{isPage, isRootOrContext}
 use Rattle.image.specs.Memory.{Memory}
-use Rattle.image.specs.Rules.{Rules, mapRules, entriesOf}
+use Rattle.image.specs.Place.{Place, noEntry, stoppedAt}
+use Rattle.image.specs.Rules.{Rules, run, mapRules, entriesOf}
 use Rattle.registers.specs.Admission.{admission, onAdmission, inInterruptRange}
 use Rattle.registers.specs.declared.Registers.{Registers}
 use Rattle.faults.specs.Record.{FaultAnswer, memoryFault}
@@ -42,3 +43,12 @@ walked registers request = entriesOf isPage (memoryRules registers request)
 -- the root and context entries, where fetched
 abbrev pub tableEntries : Registers → MemoryRequest → Memory → List ℕ
 tableEntries registers request = entriesOf isRootOrContext (memoryRules registers request)
+
+-- the entry concerned in an answer: the one at which the rules stopped, where they ended in a fault
+abbrev pub concerned : MemoryOutcome → Place → Place
+concerned (granted address) place = noEntry
+concerned (blocked f) place = place
+concerned (refused number) place = noEntry
+
+abbrev pub memoryPlace : Registers → MemoryRequest → Memory → Place
+memoryPlace registers request m = concerned (run (memoryRules registers request) m) (stoppedAt (memoryRules registers request) m)

@@ -4,7 +4,8 @@ ghost use Prim.Native.Nat.{_<_};
 ghost use Rattle.image.specs.Bits.{bits};
 ghost use Rattle.image.specs.Entries.{number16};
 ghost use Rattle.dma.specs.Context.{addressWidth, levelsOf, translationType, widthSupported, contextReserved, contextInvalid, contextOf, faultProcessingDisabled};
-ghost use Rattle.dma.specs.Answers.{lookupOf};
+ghost use Rattle.image.specs.Place.{entryAt};
+ghost use Rattle.dma.specs.Answers.{lookupOf, lookupPlace};
 ghost use Rattle.dma.specs.Lookup.{checkedContext};
 use crate::entry::present;
 use crate::entry::table_address;
@@ -28,11 +29,11 @@ pub struct Context {
     pub domain: u16,
 }
 
-// What a lookup of a source's context finds.
+// What a lookup of a source's context finds, with the host address of the last entry that was tried.
 pub enum Lookup {
-    Found(Context),
+    Found(Context, u64),
     // Why there is none, and FPD as it was read by then.
-    Fault(Reason, bool),
+    Fault(Reason, bool, u64),
 }
 
 // AW, bits 66:64.
@@ -110,18 +111,19 @@ fn context_of(e: Entry16) -> Context
     }
 }
 
-pub(crate) fn context_check(registers: Registers, e: Entry16) -> Lookup
+pub(crate) fn context_check(registers: Registers, at: u64, e: Entry16) -> Lookup
     ensures { λ r. ⌜ lookupOf r ≡ checkedContext registers (number16 e) ⌝ }
+    ensures { λ r. ⌜ lookupPlace r ≡ entryAt at ⌝ }
 {
     let fpd = fault_processing_disabled(e);
     if !present(e) {
-        return Lookup::Fault(Reason::ContextNotPresent, fpd);
+        return Lookup::Fault(Reason::ContextNotPresent, fpd, at);
     }
     if context_reserved(registers.haw, e) {
-        return Lookup::Fault(Reason::ContextReserved, fpd);
+        return Lookup::Fault(Reason::ContextReserved, fpd, at);
     }
     if context_invalid(registers, e) {
-        return Lookup::Fault(Reason::ContextInvalid, fpd);
+        return Lookup::Fault(Reason::ContextInvalid, fpd, at);
     }
-    Lookup::Found(context_of(e))
+    Lookup::Found(context_of(e), at)
 }

@@ -9,8 +9,8 @@ use image::in_place;
 
 // What an entry's check says.
 pub enum Check {
-    // Why the request ends here.
-    Stop(Reason),
+    // Why the request ends here, and the entry's host address.
+    Stop(Reason, u64),
     // The address of the table, or at last the page, that the entry leads to.
     Go(u64),
 }

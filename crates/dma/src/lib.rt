@@ -1,11 +1,11 @@
 // Memory requests: untranslated reads and writes, from the root entry to a host address or a fault.
 ghost use mathlib.Core.Path.{_≡_};
 ghost use Rattle.image.specs.Memory.{ofImage};
+ghost use Rattle.image.specs.Place.{Place};
 ghost use Rattle.image.specs.Rules.{run};
-ghost use Rattle.dma.specs.Answers.{outcomeOf};
-ghost use Rattle.dma.specs.Answers.{translationOf};
+ghost use Rattle.dma.specs.Answers.{outcomeOf, entryOf, translationOf, Names};
 ghost use Rattle.dma.specs.Translation.{leaf, Reachable};
-ghost use Rattle.dma.specs.Requests.{memoryOutcome, memoryRules};
+ghost use Rattle.dma.specs.Requests.{memoryOutcome, memoryRules, concerned, memoryPlace};
 
 mod context;
 mod entry;
@@ -17,6 +17,7 @@ mod walk;
 
 use faults::Fault;
 use faults::memory_fault;
+pub use image::EntryAddress;
 use page::host_address;
 use page::meets_interrupt_range;
 use registers::Admission;
@@ -36,7 +37,8 @@ pub struct MemoryRequest {
 pub enum MemoryAnswer {
     // The host address.
     Granted(u64),
-    Blocked(Fault),
+    // With the entry concerned.
+    Blocked(Fault, EntryAddress),
     // By number: 1 bad registers, 2 an address in the interrupt range, 4 a page with a byte in it.
     Refused(u8),
 }
@@ -45,6 +47,7 @@ pub enum MemoryAnswer {
 fn page_answer(request: MemoryRequest, frame: u64, level: u32) -> MemoryAnswer
     requires { ⌜ Reachable (leaf frame level) ⌝ }
     ensures { λ r. ⌜ outcomeOf r ≡ memoryOutcome request (leaf frame level) ⌝ }
+    ensures { λ r. ⌜ ((place : Place) → entryOf r ≡ concerned (outcomeOf r) place) ⌝ }
 {
     if meets_interrupt_range(level, frame) {
         return MemoryAnswer::Refused(4);
@@ -55,23 +58,22 @@ fn page_answer(request: MemoryRequest, frame: u64, level: u32) -> MemoryAnswer
 fn answer(request: MemoryRequest, translated: Translation) -> MemoryAnswer
     requires { ⌜ Reachable (translationOf translated) ⌝ }
     ensures { λ r. ⌜ outcomeOf r ≡ memoryOutcome request (translationOf translated) ⌝ }
+    ensures { λ r. ⌜ ((place : Place) → Names translated place → entryOf r ≡ concerned (outcomeOf r) place) ⌝ }
 {
     match translated {
         Translation::Through => MemoryAnswer::Granted(request.address),
         Translation::Leaf(frame, level) => page_answer(request, frame, level),
-        Translation::Fault(reason, fpd) => MemoryAnswer::Blocked(memory_fault(
-            reason,
-            fpd,
-            request.source,
-            request.address,
-            request.write,
-        )),
+        Translation::Fault(reason, fpd, at) => MemoryAnswer::Blocked(
+            memory_fault(reason, fpd, request.source, request.address, request.write),
+            EntryAddress::At(at),
+        ),
     }
 }
 
 // Where a read or a write of a device may go.
 pub fn memory_request(registers: Registers, image: &[u8], request: MemoryRequest) -> MemoryAnswer
     ensures { λ r. ⌜ outcomeOf r ≡ run (memoryRules registers request) (ofImage (now (image .entry))) ⌝ }
+    ensures { λ r. ⌜ entryOf r ≡ memoryPlace registers request (ofImage (now (image .entry))) ⌝ }
 {
     match admit(registers, in_interrupt_range(request.address), registers.te) {
         Admission::Refused(number) => MemoryAnswer::Refused(number),

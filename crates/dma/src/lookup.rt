@@ -1,9 +1,12 @@
 // From the root entry to a source's context.
 ghost use mathlib.Core.Bool.{false};
 ghost use mathlib.Core.Path.{_≡_};
+ghost use Prim.Native.Nat.{_+_, _*_, _%_};
 ghost use Rattle.image.specs.Memory.{ofImage};
+ghost use Rattle.image.specs.Place.{entryAt, stoppedAt};
 ghost use Rattle.image.specs.Rules.{run, answer};
-ghost use Rattle.dma.specs.Answers.{checkOf, lookupOf};
+ghost use Rattle.registers.specs.Source.{devfnOf};
+ghost use Rattle.dma.specs.Answers.{checkOf, checkPlace, lookupOf, lookupPlace};
 ghost use Rattle.dma.specs.Lookup.{context, noContext, stoppedLookup, contextRules, lookupRules};
 use crate::context::Lookup;
 use crate::context::context_check;
@@ -18,31 +21,38 @@ use registers::SourceId;
 // A root entry's check that stopped, told as a lookup: a root entry has no FPD. The other arm is never taken.
 fn stopped(check: Check) -> Lookup
     ensures { λ r. ⌜ lookupOf r ≡ stoppedLookup (checkOf check) ⌝ }
+    ensures { λ r. ⌜ lookupPlace r ≡ checkPlace check ⌝ }
 {
     match check {
-        Check::Stop(reason) => Lookup::Fault(reason, false),
-        Check::Go(_) => Lookup::Fault(Reason::RootAccess, false),
+        Check::Stop(reason, at) => Lookup::Fault(reason, false, at),
+        Check::Go(table) => Lookup::Fault(Reason::RootAccess, false, table),
     }
 }
 
 fn context_in(image: &[u8], registers: Registers, source: SourceId, table: u64) -> Lookup
+    requires { ⌜ table % 4096 ≡ 0 ⌝ }
     ensures { λ r. ⌜ lookupOf r ≡ run (contextRules registers noContext (λ c. answer (context c)) (source .id) table) (ofImage (now (image .entry))) ⌝ }
+    ensures { λ r. ⌜ lookupPlace r ≡ entryAt (table + 16 * devfnOf (source .id)) ⌝ }
 {
     let devfn = source.devfn();
-    let Found16::Entry(e) = page_entry16(image, table, 16 * devfn as u64) else {
-        return Lookup::Fault(Reason::ContextAccess, false);
+    let at = table + 16 * devfn as u64;
+    let Found16::Entry(e) = page_entry16(image, at) else {
+        return Lookup::Fault(Reason::ContextAccess, false, at);
     };
-    context_check(registers, e)
+    context_check(registers, at, e)
 }
 
 pub(crate) fn find_context(image: &[u8], registers: Registers, source: SourceId) -> Lookup
+    requires { ⌜ registers .«root_table» % 4096 ≡ 0 ⌝ }
     ensures { λ r. ⌜ lookupOf r ≡ run (lookupRules registers (source .id)) (ofImage (now (image .entry))) ⌝ }
+    ensures { λ r. ⌜ lookupPlace r ≡ stoppedAt (lookupRules registers (source .id)) (ofImage (now (image .entry))) ⌝ }
 {
     let bus = source.bus();
-    let Found16::Entry(e) = page_entry16(image, registers.root_table, 16 * bus as u64) else {
-        return Lookup::Fault(Reason::RootAccess, false);
+    let at = registers.root_table + 16 * bus as u64;
+    let Found16::Entry(e) = page_entry16(image, at) else {
+        return Lookup::Fault(Reason::RootAccess, false, at);
     };
-    let check = root_check(registers.haw, e);
+    let check = root_check(registers.haw, at, e);
     let Check::Go(table) = check else {
         return stopped(check);
     };

@@ -1,13 +1,15 @@
 // A page entry: 8 bytes, at a level from 5 down to 1.
 ghost use mathlib.Core.Path.{_≡_};
-ghost use Prim.Native.Nat.{_+_, _*_, _-_, _^_, _<_, _≤_};
+ghost use Prim.Native.Nat.{_+_, _*_, _-_, _%_, _^_, _<_, _≤_};
 ghost use Rattle.image.specs.Bits.{bits};
 ghost use Rattle.image.specs.Memory.{ofImage};
+ghost use Rattle.image.specs.Place.{entryAt};
 ghost use Rattle.dma.specs.InterruptRange.{meetsInterruptRange, spanAt};
 ghost use Rattle.dma.specs.Page.{denied, ownRight, leafAt, pageReserved, pageCheck, hostAddress};
 ghost use Rattle.faults.specs.Reason.{numberOf};
-ghost use Rattle.dma.specs.Answers.{stepOf};
+ghost use Rattle.dma.specs.Answers.{stepOf, StepNames};
 ghost use Rattle.dma.specs.Translation.{leaf, Reachable, checked, pageOver};
+ghost use Rattle.dma.specs.Walk.{placeIn};
 use crate::MemoryRequest;
 use faults::Reason;
 use image::Found8;
@@ -26,8 +28,8 @@ pub enum Step {
     Down(u64),
     // The frame of a page, and the entry's level.
     Leaf(u64, u32),
-    // Why the walk ends here, and FPD.
-    Fault(Reason, bool),
+    // Why the walk ends here, FPD, and the entry's host address.
+    Fault(Reason, bool, u64),
 }
 
 // A page and no table: bit 7 at level 1 is not looked at.
@@ -75,17 +77,18 @@ fn denial(write: bool) -> Reason
 }
 
 // The frame, or the next table's address.
-fn page_check(registers: Registers, write: bool, fpd: bool, level: u32, e: u64) -> Step
+fn page_check(registers: Registers, write: bool, fpd: bool, level: u32, at: u64, e: u64) -> Step
     ensures { λ r. ⌜ stepOf r ≡ checked fpd (pageCheck registers write level e) ⌝ }
+    ensures { λ r. ⌜ StepNames r (entryAt at) ⌝ }
 {
     if field(e, 1, 0) == 0 {
-        return Step::Fault(denial(write), fpd);
+        return Step::Fault(denial(write), fpd, at);
     }
     if page_reserved(registers, level, e) {
-        return Step::Fault(Reason::PageEntryReserved, fpd);
+        return Step::Fault(Reason::PageEntryReserved, fpd, at);
     }
     if !own_right(write, e) {
-        return Step::Fault(denial(write), fpd);
+        return Step::Fault(denial(write), fpd, at);
     }
     Step::Down(in_place(e, 51, 12))
 }
@@ -99,16 +102,18 @@ pub(crate) fn page_step(
     below: u32,
     table: u64,
 ) -> Step
-    requires { ⌜ below < 5 ⌝ }
+    requires { ⌜ (below < 5) × (table % 4096 ≡ 0) ⌝ }
     ensures { λ r. ⌜ stepOf r ≡ pageOver registers (request .address) (request .write) fpd (ofImage (now (image .entry))) below table ⌝ }
+    ensures { λ r. ⌜ StepNames r (entryAt (placeIn (request .address) table below)) ⌝ }
 {
     let address = request.address;
     let index = (address >> (Page4K::SHIFT + 9 * below)) % 512;
-    let Found8::Entry(e) = page_entry8(image, table, 8 * index) else {
-        return Step::Fault(Reason::PageEntryAccess, fpd);
+    let at = table + 8 * index;
+    let Found8::Entry(e) = page_entry8(image, at) else {
+        return Step::Fault(Reason::PageEntryAccess, fpd, at);
     };
     let level = below + 1;
-    let check = page_check(registers, request.write, fpd, level, e);
+    let check = page_check(registers, request.write, fpd, level, at, e);
     let Step::Down(frame) = check else {
         return check;
     };

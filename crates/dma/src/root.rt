@@ -2,7 +2,8 @@
 ghost use mathlib.Core.Path.{_≡_};
 ghost use Rattle.image.specs.Entries.{number16};
 ghost use Rattle.dma.specs.Root.{rootReserved, rootCheck};
-ghost use Rattle.dma.specs.Answers.{checkOf};
+ghost use Rattle.image.specs.Place.{entryAt};
+ghost use Rattle.dma.specs.Answers.{checkOf, CheckNames};
 use crate::entry::Check;
 use crate::entry::present;
 use crate::entry::table_address;
@@ -19,14 +20,15 @@ fn root_reserved(haw: u8, e: Entry16) -> bool
 }
 
 // The context table's address.
-pub(crate) fn root_check(haw: u8, e: Entry16) -> Check
+pub(crate) fn root_check(haw: u8, at: u64, e: Entry16) -> Check
     ensures { λ r. ⌜ checkOf r ≡ rootCheck haw (number16 e) ⌝ }
+    ensures { λ r. ⌜ CheckNames r (entryAt at) ⌝ }
 {
     if !present(e) {
-        return Check::Stop(Reason::RootNotPresent);
+        return Check::Stop(Reason::RootNotPresent, at);
     }
     if root_reserved(haw, e) {
-        return Check::Stop(Reason::RootReserved);
+        return Check::Stop(Reason::RootReserved, at);
     }
     Check::Go(table_address(e))
 }

@@ -1,10 +1,11 @@
 // From the root entry to a page or a fault.
 ghost use mathlib.Core.Path.{_≡_};
-ghost use Prim.Native.Nat.{min};
+ghost use Prim.Native.Nat.{_%_, min};
 ghost use Rattle.dma.specs.Context.{Usable};
 ghost use Rattle.image.specs.Memory.{ofImage};
+ghost use Rattle.image.specs.Place.{entryAt, lastTried, stoppedAt};
 ghost use Rattle.image.specs.Rules.{run};
-ghost use Rattle.dma.specs.Answers.{lookupOf, translationOf};
+ghost use Rattle.dma.specs.Answers.{lookupOf, lookupPlace, translationOf, Names};
 ghost use Rattle.dma.specs.Translation.{withoutContext, widthRules, translationRules};
 use crate::MemoryRequest;
 use crate::context::Context;
@@ -21,8 +22,8 @@ pub enum Translation {
     Through,
     // The frame of a page, and the level of its entry.
     Leaf(u64, u32),
-    // Why, and FPD as it was read by then.
-    Fault(Reason, bool),
+    // Why, FPD as it was read by then, and the host address of the entry concerned.
+    Fault(Reason, bool, u64),
 }
 
 fn smaller(a: u32, b: u32) -> u32
@@ -31,22 +32,24 @@ fn smaller(a: u32, b: u32) -> u32
     if a < b { a } else { b }
 }
 
-// In a context: the width, then pass-through or the walk.
+// In a context, whose entry is at an address: the width, then pass-through or the walk.
 fn translate_in(
     image: &[u8],
     registers: Registers,
     request: MemoryRequest,
     context: Context,
+    at: u64,
 ) -> Translation
     requires { ⌜ Usable context ⌝ }
     ensures { λ r. ⌜ translationOf r ≡ run (widthRules registers (request .address) (request .write) context) (ofImage (now (image .entry))) ⌝ }
+    ensures { λ r. ⌜ Names r (lastTried (entryAt at) (widthRules registers (request .address) (request .write) context) (ofImage (now (image .entry)))) ⌝ }
 {
     let levels = context.levels;
     if at_or_above_power(
         request.address,
         smaller(registers.mgaw as u32, Page4K::SHIFT + 9 * levels),
     ) {
-        return Translation::Fault(Reason::AddressOverflow, context.fpd);
+        return Translation::Fault(Reason::AddressOverflow, context.fpd, at);
     }
     if context.translation_type == 2 {
         return Translation::Through;
@@ -57,19 +60,22 @@ fn translate_in(
 // A lookup that found no context, told as a translation. The other arm is never taken.
 fn without_context(found: Lookup) -> Translation
     ensures { λ r. ⌜ translationOf r ≡ withoutContext (lookupOf found) ⌝ }
+    ensures { λ r. ⌜ Names r (lookupPlace found) ⌝ }
 {
     match found {
-        Lookup::Fault(reason, fpd) => Translation::Fault(reason, fpd),
-        Lookup::Found(_) => Translation::Through,
+        Lookup::Fault(reason, fpd, at) => Translation::Fault(reason, fpd, at),
+        Lookup::Found(_, _) => Translation::Through,
     }
 }
 
 pub(crate) fn translate(image: &[u8], registers: Registers, request: MemoryRequest) -> Translation
+    requires { ⌜ registers .«root_table» % 4096 ≡ 0 ⌝ }
     ensures { λ r. ⌜ translationOf r ≡ run (translationRules registers (request .address) (request .write) (request .source .id)) (ofImage (now (image .entry))) ⌝ }
+    ensures { λ r. ⌜ Names r (stoppedAt (translationRules registers (request .address) (request .write) (request .source .id)) (ofImage (now (image .entry)))) ⌝ }
 {
     let found = find_context(image, registers, request.source);
-    let Lookup::Found(context) = found else {
+    let Lookup::Found(context, at) = found else {
         return without_context(found);
     };
-    translate_in(image, registers, request, context)
+    translate_in(image, registers, request, context, at)
 }

@@ -1,9 +1,10 @@
 // The walk through the page tables, from the top level down.
 ghost use mathlib.Core.Path.{_≡_};
-ghost use Prim.Native.Nat.{_≤_};
+ghost use Prim.Native.Nat.{_%_, _<_, _≤_};
 ghost use Rattle.image.specs.Memory.{ofImage};
+ghost use Rattle.image.specs.Place.{Place, lastTried};
 ghost use Rattle.image.specs.Rules.{run};
-ghost use Rattle.dma.specs.Answers.{translationOf};
+ghost use Rattle.dma.specs.Answers.{translationOf, Names};
 ghost use Rattle.dma.specs.Translation.{pageRules};
 use crate::MemoryRequest;
 use crate::page::Step;
@@ -20,8 +21,9 @@ pub(crate) fn walk(
     levels: u32,
     table: u64,
 ) -> Translation
-    requires { ⌜ levels ≤ 5 ⌝ }
+    requires { ⌜ (0 < levels) × (levels ≤ 5) × (table % 4096 ≡ 0) ⌝ }
     ensures { λ r. ⌜ translationOf r ≡ run (pageRules registers (request .address) (request .write) fpd levels table) (ofImage (now (image .entry))) ⌝ }
+    ensures { λ r. ⌜ ((before : Place) → Names r (lastTried before (pageRules registers (request .address) (request .write) fpd levels table) (ofImage (now (image .entry))))) ⌝ }
 {
     let mut level = levels;
     let mut at = table;
@@ -29,7 +31,7 @@ pub(crate) fn walk(
         let step = page_step(image, registers, request, fpd, level - 1, at);
         match step {
             Step::Leaf(frame, of) => return Translation::Leaf(frame, of),
-            Step::Fault(reason, fpd) => return Translation::Fault(reason, fpd),
+            Step::Fault(reason, fpd, entry) => return Translation::Fault(reason, fpd, entry),
             Step::Down(next) => {
                 at = next;
                 level -= 1;
@@ -37,5 +39,5 @@ pub(crate) fn walk(
         }
     }
     // No step leads below level 1.
-    Translation::Fault(Reason::PageEntryAccess, fpd)
+    Translation::Fault(Reason::PageEntryAccess, fpd, at)
 }

@@ -91,7 +91,7 @@ pub(crate) fn pack_memory(answer: MemoryAnswer) -> Packed
             low: address,
             high: 0,
         },
-        MemoryAnswer::Blocked(fault) => pack_fault(fault),
+        MemoryAnswer::Blocked(fault, _) => pack_fault(fault),
         MemoryAnswer::Refused(number) => pack_refusal(number),
     }
 }
@@ -132,7 +132,7 @@ pub(crate) fn pack_interrupt(answer: InterruptAnswer) -> Packed
             let notice = posted.notice;
             pack_posted(notice)
         }
-        InterruptAnswer::Blocked(fault) => pack_fault(fault),
+        InterruptAnswer::Blocked(fault, _) => pack_fault(fault),
         InterruptAnswer::Refused(number) => pack_refusal(number),
     }
 }

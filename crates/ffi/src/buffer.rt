@@ -10,6 +10,6 @@ pub(crate) fn word(buffer: &[u8], at: u64) -> u64
 {
     match fetch8(buffer, at) {
         Found8::Entry(word) => word,
-        Found8::Missing => 0,
+        Found8::Missing(_) => 0,
     }
 }

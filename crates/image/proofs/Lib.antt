@@ -7,6 +7,7 @@ pub mod Local
 pub mod Longer
 pub mod OneByte
 pub mod Pages
+pub mod Places
 pub mod Same
 pub mod Stages
 pub mod Stores

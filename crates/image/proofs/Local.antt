@@ -6,12 +6,12 @@ use Rattle.image.specs.EntryKind.{EntryKind, wordsOf}
 use Rattle.image.specs.Memory.{Memory, Fetched, missing, found, entry, onFetch}
 use Rattle.image.specs.Rules.{Rules, answer, fetch, run, named, Complete, wordsFrom, SameIn}
 
-alike-left : (xs ys : List ℕ) (m m′ : Memory) → SameIn (xs ++ ys) m m′ → SameIn xs m m′
+pub alike-left : (xs ys : List ℕ) (m m′ : Memory) → SameIn (xs ++ ys) m m′ → SameIn xs m m′
 unfolding SameIn
 alike-left [] ys m m′ h = tt
 alike-left (a ∷ xs) ys m m′ h = (h .0, alike-left xs ys m m′ (h .1))
 
-alike-right : (xs ys : List ℕ) (m m′ : Memory) → SameIn (xs ++ ys) m m′ → SameIn ys m m′
+pub alike-right : (xs ys : List ℕ) (m m′ : Memory) → SameIn (xs ++ ys) m m′ → SameIn ys m m′
 unfolding SameIn
 alike-right [] ys m m′ h = h
 alike-right (a ∷ xs) ys m m′ h = alike-right xs ys m m′ (h .1)

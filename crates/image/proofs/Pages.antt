@@ -1,5 +1,5 @@
 -- The part of the image that a table's page is.
-use Prim.Native.Nat.{ℕ, zero, suc, _+_, _-_, _*_, _≤_, _<_, min}
+use Prim.Native.Nat.{ℕ, zero, suc, _+_, _-_, _*_, _%_, _≤_, _<_, min}
 use mathlib.Core.Path.{_≡_, refl, ap, sym, _∙_}
 use mathlib.Core.List.{List, [], _∷_}
 use native.Mathlib.Nat.{zero-add, suc-add, add-assoc}
@@ -78,3 +78,10 @@ in-page size image table (suc n) offset h =
 -- what a fetch says of a page that was handed on, it says of the page's promise
 pub handed : (n offset : ℕ) {f : Fetched} {page part : List ℕ} → f ≡ entry n (ofImage page) offset → page ≡ part → f ≡ entry n (ofImage part) offset
 handed n offset {f} {page} {part} said same = said ∙ ap (λ (l : List ℕ). entry n (ofImage l) offset) same
+
+-- an entry that doesn't leave the page it begins in, taken from that page
+pub of-page : (image : List ℕ) (n at : ℕ) → at % 4096 + 8 * n ≤ 4096
+    → entry n (ofImage (take 4096 (drop (at - at % 4096) image))) (at % 4096) ≡ entry n (ofImage image) at
+of-page image n at h =
+    let back : at - at % 4096 + at % 4096 ≡ at = omega arith in
+    in-page 4096 image (at - at % 4096) n (at % 4096) h ∙ ap (entry n (ofImage image)) back

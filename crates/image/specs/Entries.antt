@@ -2,6 +2,7 @@
 use Prim.Native.Nat.{ℕ, _+_, _*_, _^_}
 use mathlib.Core.List.{List, [], _∷_}
 use Rattle.image.specs.Memory.{Fetched, missing, found}
+use Rattle.image.specs.Place.{Place, noEntry, entryAt}
 use Rattle.image.specs.declared.Entry16.{Entry16}
 use Rattle.image.specs.declared.Entry64.{Entry64}
 use Rattle.image.specs.declared.Found8.{Found8}
@@ -10,6 +11,8 @@ use Rattle.image.specs.declared.Found16.{Found16}
 use Rattle.image.specs.declared.Found16.the-variants as found16
 use Rattle.image.specs.declared.Found64.{Found64}
 use Rattle.image.specs.declared.Found64.the-variants as found64
+use Rattle.image.specs.declared.EntryAddress.{EntryAddress}
+use Rattle.image.specs.declared.EntryAddress.the-variants as address
 
 -- the number that a run of words spells, lowest word first
 unfoldable pub spell : List ℕ → ℕ
@@ -30,12 +33,30 @@ number64 e = spell (words64 e)
 
 abbrev pub fetched8 : Found8 → Fetched
 fetched8 (found8.Entry e) = found e
-fetched8 found8.Missing = missing
+fetched8 (found8.Missing at) = missing
 
 abbrev pub fetched16 : Found16 → Fetched
 fetched16 (found16.Entry e) = found (number16 e)
-fetched16 found16.Missing = missing
+fetched16 (found16.Missing at) = missing
 
 abbrev pub fetched64 : Found64 → Fetched
 fetched64 (found64.Entry e) = found (number64 e)
-fetched64 found64.Missing = missing
+fetched64 (found64.Missing at) = missing
+
+-- the host address that a fetch names where it found nothing; where it found an entry, the one handed in
+abbrev pub missed8 : Found8 → (at : ℕ) → ℕ
+missed8 (found8.Entry e) at = at
+missed8 (found8.Missing wanted) at = wanted
+
+abbrev pub missed16 : Found16 → (at : ℕ) → ℕ
+missed16 (found16.Entry e) at = at
+missed16 (found16.Missing wanted) at = wanted
+
+abbrev pub missed64 : Found64 → (at : ℕ) → ℕ
+missed64 (found64.Entry e) at = at
+missed64 (found64.Missing wanted) at = wanted
+
+-- the entry concerned, as the code names it
+abbrev pub placeOf : EntryAddress → Place
+placeOf address.NoEntry = noEntry
+placeOf (address.At at) = entryAt at

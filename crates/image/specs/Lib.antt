@@ -6,6 +6,7 @@ pub mod Choice
 pub mod Entries
 pub mod EntryKind
 pub mod Memory
+pub mod Place
 pub mod Rules
 pub mod Stage
 pub mod Unfetched

@@ -2,13 +2,13 @@
 // table's page is handed on as a part of it, and no page is copied.
 ghost use mathlib.Core.Path.{_≡_};
 ghost use mathlib.Core.List.{_++_};
-ghost use Prim.Native.Nat.{_+_, _≤_, _<_, min};
+ghost use Prim.Native.Nat.{_+_, _-_, _%_, _≤_, _<_, min};
 ghost use lib.Dec.{leb};
 ghost use lib.ListN.{length, take, drop};
 ghost use Rattle.image.specs.Bits.{bits, inPlace};
 ghost use Rattle.image.specs.Bytes.{bytesOf};
 ghost use Rattle.image.specs.Memory.{wordAt, ofImage, entry, withWord};
-ghost use Rattle.image.specs.Entries.{fetched8, fetched16, fetched64};
+ghost use Rattle.image.specs.Entries.{fetched8, fetched16, fetched64, missed8, missed16, missed64};
 
 mod entry_fields;
 
@@ -36,19 +36,26 @@ pub struct Entry64 {
     pub w7: u64,
 }
 
+// The entry concerned in a fault: none, or the one at a host address.
+pub enum EntryAddress {
+    NoEntry,
+    At(u64),
+}
+
+// An entry, or the host address of one that can't be fetched.
 pub enum Found8 {
     Entry(u64),
-    Missing,
+    Missing(u64),
 }
 
 pub enum Found16 {
     Entry(Entry16),
-    Missing,
+    Missing(u64),
 }
 
 pub enum Found64 {
     Entry(Entry64),
-    Missing,
+    Missing(u64),
 }
 
 // The field of a word from bit high down to bit low; 0 where low is above high.
@@ -111,42 +118,60 @@ fn word(image: &[u8], at: usize) -> u64
     little_endian(image, at)
 }
 
+// The entry at an offset of a part of the image, whose host address is at.
+fn fetch8_of(part: &[u8], offset: u64, at: u64) -> Found8
+    ensures { λ r. ⌜ fetched8 r ≡ entry 1 (ofImage (now (part .entry))) offset ⌝ }
+    ensures { λ r. ⌜ missed8 r at ≡ at ⌝ }
+{
+    if part.len() < 8 {
+        return Found8::Missing(at);
+    }
+    if ((part.len() - 8) as u64) < offset {
+        return Found8::Missing(at);
+    }
+    Found8::Entry(word(part, offset as usize))
+}
+
 pub fn fetch8(image: &[u8], at: u64) -> Found8
     ensures { λ r. ⌜ fetched8 r ≡ entry 1 (ofImage (now (image .entry))) at ⌝ }
+    ensures { λ r. ⌜ missed8 r at ≡ at ⌝ }
 {
-    if image.len() < 8 {
-        return Found8::Missing;
+    fetch8_of(image, at, at)
+}
+
+fn fetch16_of(part: &[u8], offset: u64, at: u64) -> Found16
+    ensures { λ r. ⌜ fetched16 r ≡ entry 2 (ofImage (now (part .entry))) offset ⌝ }
+    ensures { λ r. ⌜ missed16 r at ≡ at ⌝ }
+{
+    if part.len() < 16 {
+        return Found16::Missing(at);
     }
-    if ((image.len() - 8) as u64) < at {
-        return Found8::Missing;
+    if ((part.len() - 16) as u64) < offset {
+        return Found16::Missing(at);
     }
-    Found8::Entry(word(image, at as usize))
+    let from = offset as usize;
+    Found16::Entry(Entry16 {
+        low: word(part, from),
+        high: word(part, from + 8),
+    })
 }
 
 pub fn fetch16(image: &[u8], at: u64) -> Found16
     ensures { λ r. ⌜ fetched16 r ≡ entry 2 (ofImage (now (image .entry))) at ⌝ }
+    ensures { λ r. ⌜ missed16 r at ≡ at ⌝ }
 {
-    if image.len() < 16 {
-        return Found16::Missing;
-    }
-    if ((image.len() - 16) as u64) < at {
-        return Found16::Missing;
-    }
-    let from = at as usize;
-    Found16::Entry(Entry16 {
-        low: word(image, from),
-        high: word(image, from + 8),
-    })
+    fetch16_of(image, at, at)
 }
 
 pub fn fetch64(image: &[u8], at: u64) -> Found64
     ensures { λ r. ⌜ fetched64 r ≡ entry 8 (ofImage (now (image .entry))) at ⌝ }
+    ensures { λ r. ⌜ missed64 r at ≡ at ⌝ }
 {
     if image.len() < 64 {
-        return Found64::Missing;
+        return Found64::Missing(at);
     }
     if ((image.len() - 64) as u64) < at {
-        return Found64::Missing;
+        return Found64::Missing(at);
     }
     let from = at as usize;
     Found64::Entry(Entry64 {
@@ -180,24 +205,30 @@ fn whole_page(image: &[u8], table: u64) -> &[u8]
     &image[from..from + 4096]
 }
 
-// An entry of a table's page, by its offset. Tables usually lie whole in the image, and an offset that is known to leave room
-// for the entry in 4096 bytes then needs no test of its own.
-pub fn page_entry8(image: &[u8], table: u64, offset: u64) -> Found8
-    ensures { λ r. ⌜ fetched8 r ≡ entry 1 (ofImage (take 4096 (drop table (now (image .entry))))) offset ⌝ }
+// An entry of a table, from the page in which it begins. Tables usually lie whole in the image, and an offset that is known to leave
+// room for the entry in 4096 bytes then needs no test of its own.
+pub fn page_entry8(image: &[u8], at: u64) -> Found8
+    ensures { λ r. ⌜ fetched8 r ≡ entry 1 (ofImage (take 4096 (drop (at - at % 4096) (now (image .entry))))) (at % 4096) ⌝ }
+    ensures { λ r. ⌜ missed8 r at ≡ at ⌝ }
 {
+    let offset = at % 4096;
+    let table = at - offset;
     if holds_page(image, table) {
-        return fetch8(whole_page(image, table), offset);
+        return fetch8_of(whole_page(image, table), offset, at);
     }
-    fetch8(table_page(image, table), offset)
+    fetch8_of(table_page(image, table), offset, at)
 }
 
-pub fn page_entry16(image: &[u8], table: u64, offset: u64) -> Found16
-    ensures { λ r. ⌜ fetched16 r ≡ entry 2 (ofImage (take 4096 (drop table (now (image .entry))))) offset ⌝ }
+pub fn page_entry16(image: &[u8], at: u64) -> Found16
+    ensures { λ r. ⌜ fetched16 r ≡ entry 2 (ofImage (take 4096 (drop (at - at % 4096) (now (image .entry))))) (at % 4096) ⌝ }
+    ensures { λ r. ⌜ missed16 r at ≡ at ⌝ }
 {
+    let offset = at % 4096;
+    let table = at - offset;
     if holds_page(image, table) {
-        return fetch16(whole_page(image, table), offset);
+        return fetch16_of(whole_page(image, table), offset, at);
     }
-    fetch16(table_page(image, table), offset)
+    fetch16_of(table_page(image, table), offset, at)
 }
 
 // A word into the 8 bytes from an index, lowest byte first.

@@ -1,31 +1,22 @@
 -- An interrupt request by what becomes of it at admission, and then by its format.
 use Prim.Native.Nat.{ℕ, _^_, _<_}
 use mathlib.Core.Bool.{Bool, true, false, not}
-use mathlib.Core.Path.{_≡_, refl, ap}
+use mathlib.Core.Path.{_≡_, refl, ap, sym}
 use native.Mathlib.Omega.{arith}
 use Rattle.image.specs.Check.{Check, stop, go}
 use Rattle.image.specs.Choice.{if_then_else_}
 use Rattle.image.specs.Memory.{Memory}
+use Rattle.image.specs.Place.{noEntry, lastTried, stoppedAt}
 use Rattle.image.specs.Rules.{run}
+use Rattle.image.proofs.Places.{tried-map}
 use Rattle.image.proofs.Trees.{run-map}
 use Rattle.registers.specs.Admission.{refusal, pass, take, admission, inInterruptRange}
-use Rattle.registers.specs.Registers.{registersBad}
 use Rattle.registers.specs.declared.Registers.{Registers}
-use Rattle.registers.proofs.Good.{Good, good, below-most}
+use Rattle.registers.proofs.Good.{taken-good, below-most}
 use Rattle.faults.specs.Record.{interruptFault}
 use Rattle.interrupts.specs.Request.{Format, compatibility, remappable, requestCheck}
 use Rattle.interrupts.specs.Interrupts.{Delivery, indexRules, passed, blocked, refused, delivered, requestRules, interruptRules}
 use Rattle.interrupts.specs.declared.InterruptRequest.{InterruptRequest}
-
--- registers under which a request is taken up are good
-pub taken-good : (registers : Registers) (wrong on : Bool) → take ≡ admission registers wrong on → Good registers
-unfolding admission
-taken-good registers wrong on h = go (registersBad registers) refl h
-  where
-    go : (t : Bool) → registersBad registers ≡ t
-        → take ≡ (if t then refusal 1 else if wrong then refusal 2 else if on then take else pass) → Good registers
-    go true e h = let z : _≡_ {A = ℕ} 0 1 = cc in absurd (omega arith)
-    go false e h = good registers e
 
 -- so that no address of an entry wraps
 pub table-below : (registers : Registers) (wrong on : Bool) → take ≡ admission registers wrong on
@@ -50,6 +41,11 @@ module _ (registers : Registers) (request : InterruptRequest) (m : Memory) where
     unfolding interruptRules
     takes h = rw (← kind, ← h)
 
+    pub takes-at : take ≡ admission registers (not inside) (registers .ire)
+        → stoppedAt (requestRules registers request) m ≡ stoppedAt (interruptRules registers request) m
+    unfolding interruptRules
+    takes-at h = rw (← kind, ← h)
+
   module _ {k : Check Format} (checked : k ≡ requestCheck registers (request .address) (request .«data»)) where
     pub stops : {reason : ℕ} → k ≡ stop reason
         → blocked (interruptFault reason false (request .source .id) 0) ≡ run (requestRules registers request) m
@@ -67,3 +63,15 @@ module _ (registers : Registers) (request : InterruptRequest) (m : Memory) where
     indexed {index} told comes =
         rw (← checked, told, run-map (delivered (request .source .id) index) (indexRules registers (request .source .id) index) m)
         (ap (delivered (request .source .id) index) comes)
+
+    -- where they stopped: before any fetch, and where the table's rules do
+    pub stops-at : {reason : ℕ} → k ≡ stop reason → noEntry ≡ stoppedAt (requestRules registers request) m
+    unfolding requestRules lastTried
+    stops-at told = rw (← checked, told)
+
+    pub indexed-at : {index : ℕ} → k ≡ go (remappable index)
+        → stoppedAt (indexRules registers (request .source .id) index) m ≡ stoppedAt (requestRules registers request) m
+    unfolding requestRules
+    indexed-at {index} told =
+        rw (← checked, told)
+        (sym (tried-map (delivered (request .source .id) index) noEntry (indexRules registers (request .source .id) index) m))

@@ -1,11 +1,14 @@
 -- No two answers of the code stand for the same outcome.
 use Prim.Native.Nat.{ℕ, _^_, _<_}
-use mathlib.Core.Path.{_≡_, refl, ap, sym, _∙_}
+use mathlib.Core.Path.{_≡_, refl, ap, ap₂, sym, _∙_}
 use native.Mathlib.Omega.{arith}
+use Rattle.image.specs.declared.EntryAddress.{EntryAddress}
+use Rattle.image.specs.Entries.{placeOf}
+use Rattle.image.proofs.Places.{placeOf-injective}
 use Rattle.faults.specs.Fault.{faultOf}
 use Rattle.faults.specs.declared.fault.Fault.{Fault}
 use Rattle.faults.proofs.Contents.{faultOf-injective}
-use Rattle.interrupts.specs.Answers.{outcomeOf}
+use Rattle.interrupts.specs.Answers.{outcomeOf, entryOf}
 use Rattle.interrupts.specs.Checked.{dueOf}
 use Rattle.interrupts.specs.Descriptor as descriptor
 use Rattle.interrupts.specs.Interrupts as rules
@@ -17,7 +20,7 @@ use Rattle.interrupts.specs.declared.descriptor.Notice.the-variants.{Sil
 
 -- a fault's words are words
 abbrev pub Sized : InterruptAnswer → Type 0
-Sized (Blocked f) = f .low < 2 ^ 64
+Sized (Blocked f at) = f .low < 2 ^ 64
 Sized Passed = Unit {0}
 Sized (Remapped r) = Unit {0}
 Sized (Posted p) = Unit {0}
@@ -56,19 +59,20 @@ back : (r : InterruptAnswer) → answerBack r (outcomeOf r) ≡ r
 back Passed = refl
 back (Remapped r) = refl
 back (Posted p) = post-back (Posted p) p
-back (Blocked f) = refl
+back (Blocked f at) = refl
 back (Refused n) = refl
 
-same-fault : (r : InterruptAnswer) (g : Fault) → Sized r → g .low < 2 ^ 64 → outcomeOf r ≡ rules.blocked (faultOf g) → r ≡ Blocked g
-same-fault (Blocked f) g sf sg e = ap Blocked (faultOf-injective f g sf sg cc)
-same-fault Passed g sf sg e = let z : _≡_ {A = ℕ} 0 1 = cc in absurd (omega arith)
-same-fault (Remapped r) g sf sg e = let z : _≡_ {A = ℕ} 0 1 = cc in absurd (omega arith)
-same-fault (Posted p) g sf sg e = let z : _≡_ {A = ℕ} 0 1 = cc in absurd (omega arith)
-same-fault (Refused n) g sf sg e = let z : _≡_ {A = ℕ} 0 1 = cc in absurd (omega arith)
+same-fault : (r : InterruptAnswer) (g : Fault) (at : EntryAddress) → Sized r → g .low < 2 ^ 64 → outcomeOf r ≡ rules.blocked (faultOf g)
+    → entryOf r ≡ placeOf at → r ≡ Blocked g at
+same-fault (Blocked f at) g at′ sf sg e p = ap₂ Blocked (faultOf-injective f g sf sg cc) (placeOf-injective at at′ p)
+same-fault Passed g at sf sg e p = let z : _≡_ {A = ℕ} 0 1 = cc in absurd (omega arith)
+same-fault (Remapped r) g at sf sg e p = let z : _≡_ {A = ℕ} 0 1 = cc in absurd (omega arith)
+same-fault (Posted p) g at sf sg e q = let z : _≡_ {A = ℕ} 0 1 = cc in absurd (omega arith)
+same-fault (Refused n) g at sf sg e p = let z : _≡_ {A = ℕ} 0 1 = cc in absurd (omega arith)
 
-pub outcomeOf-injective : (r s : InterruptAnswer) → Sized r → Sized s → outcomeOf r ≡ outcomeOf s → r ≡ s
-outcomeOf-injective r (Blocked g) sr ss e = same-fault r g sr ss e
-outcomeOf-injective r Passed sr ss e = sym (back r) ∙ ap (answerBack r) e
-outcomeOf-injective r (Remapped x) sr ss e = sym (back r) ∙ ap (answerBack r) e
-outcomeOf-injective r (Posted p) sr ss e = sym (back r) ∙ ap (answerBack r) e ∙ post-back r p
-outcomeOf-injective r (Refused n) sr ss e = sym (back r) ∙ ap (answerBack r) e
+pub outcomeOf-injective : (r s : InterruptAnswer) → Sized r → Sized s → outcomeOf r ≡ outcomeOf s → entryOf r ≡ entryOf s → r ≡ s
+outcomeOf-injective r (Blocked g at) sr ss e p = same-fault r g at sr ss e p
+outcomeOf-injective r Passed sr ss e p = sym (back r) ∙ ap (answerBack r) e
+outcomeOf-injective r (Remapped x) sr ss e p = sym (back r) ∙ ap (answerBack r) e
+outcomeOf-injective r (Posted p) sr ss e q = sym (back r) ∙ ap (answerBack r) e ∙ post-back r p
+outcomeOf-injective r (Refused n) sr ss e p = sym (back r) ∙ ap (answerBack r) e

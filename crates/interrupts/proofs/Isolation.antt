@@ -1,11 +1,12 @@
 -- The customer's demand 3 for interrupts: what a request is answered, and what it writes, is settled by its named words.
 use Prim.Native.Nat.{ℕ, _+_, _^_}
 use mathlib.Core.Bool.{Bool, _||_}
-use mathlib.Core.Path.{refl, ap, sym, _∙_}
+use mathlib.Core.Path.{refl, ap, ap₂, sym, _∙_}
 use lib.Dec.{leb}
 use Rattle.image.specs.Rules.{answer, Outside}
 use Rattle.image.proofs.Choices.{either}
 use Rattle.image.proofs.Isolated.{isolated as same-answer}
+use Rattle.image.proofs.Places.{isolated-place}
 use Rattle.image.proofs.Stages.{check-cases}
 use Rattle.image.proofs.Trees.{outside-map}
 use Rattle.registers.specs.declared.Registers.{Registers}
@@ -13,7 +14,7 @@ use Rattle.faults.specs.Record.{interruptFault}
 use Rattle.irte.specs.Irte.{Irte, remaps, posts, irteCheck, faultProcessingDisabled}
 use Rattle.interrupts.specs.Claims.{bitAt, sets, wholeIndex, AccessFault, Isolated}
 use Rattle.interrupts.specs.Descriptor.{descriptorCheck}
-use Rattle.interrupts.specs.Interrupts.{Delivery, fault, post, onIrte, descriptorRules, indexRules, InterruptOutcome, delivered, interruptRules}
+use Rattle.interrupts.specs.Interrupts.{Delivery, fault, post, onIrte, descriptorRules, indexRules, InterruptOutcome, delivered, interruptRules, concerned}
 use Rattle.interrupts.specs.declared.InterruptRequest.{InterruptRequest}
 use Rattle.interrupts.proofs.Exact.{sets-exactly}
 use Rattle.interrupts.proofs.Requests.{request-cases}
@@ -46,4 +47,5 @@ access-outside registers request =
 pub isolated : Isolated
 isolated registers request image image′ answered same =
     let alike = same-answer AccessFault (interruptRules registers request) image image′ (access-outside registers request) answered same in
-    (alike, λ n. sets-exactly registers request image′ n ∙ ap (λ (o : InterruptOutcome). bitAt image′ n || sets o n) (sym alike))
+    let place = isolated-place AccessFault (interruptRules registers request) image image′ (access-outside registers request) answered same in
+    (alike, ap₂ concerned alike place, λ n. sets-exactly registers request image′ n ∙ ap (λ (o : InterruptOutcome). bitAt image′ n || sets o n) (sym alike))

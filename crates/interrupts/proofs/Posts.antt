@@ -58,5 +58,5 @@ unposted Passed image h = refl
 unposted (Remapped r) image h = refl
 unposted (Posted p) image h =
     absurd (⊎-elim (λ e. omega arith) (⊎-elim (λ e. omega arith) (⊎-elim (λ e. omega arith) (λ e. omega arith))) h)
-unposted (Blocked f) image h = refl
+unposted (Blocked f at) image h = refl
 unposted (Refused n) image h = refl

@@ -10,17 +10,22 @@ use Rattle.image.specs.Alike.{SameWords}
 use Rattle.image.specs.Bits.{bits, bit}
 use Rattle.image.specs.Choice.{if_then_else_}
 use Rattle.image.specs.Memory.{ofImage}
+use Rattle.image.specs.Place.{Place, noEntry}
 use Rattle.image.specs.Rules.{run, named}
 use Rattle.image.specs.Unfetched.{Unfetched}
 use Rattle.registers.specs.declared.Registers.{Registers}
 use Rattle.interrupts.specs.Descriptor.{Notice, silent, notice}
-use Rattle.interrupts.specs.Interrupts.{InterruptOutcome, passed, remapped, posted, blocked, refused, interruptRules}
+use Rattle.interrupts.specs.Interrupts.{InterruptOutcome, passed, remapped, posted, blocked, refused, interruptRules, interruptPlace}
 use Rattle.interrupts.specs.Post.{written}
 use Rattle.interrupts.specs.Request.{handleOf}
 use Rattle.interrupts.specs.declared.InterruptRequest.{InterruptRequest}
 
 abbrev pub outcome : Registers → InterruptRequest → (image : List ℕ) → InterruptOutcome
 outcome registers request image = run (interruptRules registers request) (ofImage image)
+
+-- the entry concerned in it
+abbrev pub placeOver : Registers → InterruptRequest → (image : List ℕ) → Place
+placeOver registers request image = interruptPlace registers request (ofImage image)
 
 abbrev pub namedWords : Registers → InterruptRequest → (image : List ℕ) → List ℕ
 namedWords registers request image = named (interruptRules registers request) (ofImage image)
@@ -123,12 +128,13 @@ abbrev pub InterruptAccessMeansUnfetched : Type 0
 InterruptAccessMeansUnfetched = (registers : Registers) (request : InterruptRequest) (image : List ℕ) →
     AccessFault (outcome registers request image) → Unfetched (interruptRules registers request) image
 
--- the customer's demand 3 for interrupts: over an image alike in the named words the same answer, unless it was an access fault,
--- and so the same bits are set
+-- the customer's demand 3 for interrupts: over an image alike in the named words the same answer, the entry concerned among its parts,
+-- unless it was an access fault, and so the same bits are set
 abbrev pub Isolated : Type 0
 Isolated = (registers : Registers) (request : InterruptRequest) (image image′ : List ℕ) →
     (AccessFault (outcome registers request image) → ⊥) →
     SameWords image image′ (namedWords registers request image) →
     (outcome registers request image ≡ outcome registers request image′)
+    × (placeOver registers request image ≡ placeOver registers request image′)
     × ((n : ℕ) → bitAt (written (outcome registers request image′) image′) n
     ≡ (bitAt image′ n || sets (outcome registers request image) n))

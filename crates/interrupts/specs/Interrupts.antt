@@ -6,7 +6,9 @@ use lib.Dec.{leb}
 use Rattle.image.specs.Check.{onCheck}
 use Rattle.image.specs.Choice.{if_then_else_}
 use Rattle.image.specs.EntryKind.{remappingEntry, postedDescriptor}
-use Rattle.image.specs.Rules.{Rules, answer, mapRules}
+use Rattle.image.specs.Memory.{Memory}
+use Rattle.image.specs.Place.{Place, noEntry, stoppedAt}
+use Rattle.image.specs.Rules.{Rules, answer, run, mapRules}
 use Rattle.image.specs.Stage.{stage}
 use Rattle.registers.specs.Admission.{admission, onAdmission, inInterruptRange}
 use Rattle.registers.specs.declared.Registers.{Registers}
@@ -67,3 +69,15 @@ unfoldable pub interruptRules : Registers → InterruptRequest → Rules Interru
 interruptRules registers request =
     onAdmission (admission registers (not (inInterruptRange (request .address))) (registers .ire))
     refused passed (requestRules registers request)
+
+-- the entry concerned in an answer: the one at which the rules stopped, where they ended in a fault; none with 20h, 21h and 25h, which
+-- end a request before its first fetch
+abbrev pub concerned : InterruptOutcome → Place → Place
+concerned (blocked f) place = place
+concerned passed place = noEntry
+concerned (remapped r) place = noEntry
+concerned (posted descriptor vector n) place = noEntry
+concerned (refused number) place = noEntry
+
+abbrev pub interruptPlace : Registers → InterruptRequest → Memory → Place
+interruptPlace registers request m = concerned (run (interruptRules registers request) m) (stoppedAt (interruptRules registers request) m)

@@ -1,11 +1,13 @@
 // What an interrupt request is answered.
 ghost use mathlib.Core.Path.{_≡_};
-ghost use Rattle.interrupts.specs.Answers.{deliveryOf, outcomeOf};
-ghost use Rattle.interrupts.specs.Interrupts.{delivered};
+ghost use Rattle.image.specs.Place.{Place};
+ghost use Rattle.interrupts.specs.Answers.{deliveryOf, outcomeOf, entryOf, DeliveryNames};
+ghost use Rattle.interrupts.specs.Interrupts.{delivered, concerned};
 use crate::descriptor::Notice;
 use faults::Fault;
 use faults::Reason;
 use faults::interrupt_fault;
+pub use image::EntryAddress;
 use irte::Remapped;
 use registers::SourceId;
 
@@ -17,9 +19,9 @@ pub struct Posted {
     pub descriptor: u64,
 }
 
-// What the table makes of a request. A fault has FPD as it was read by then.
+// What the table makes of a request. A fault has FPD as it was read by then, and the entry concerned.
 pub enum Delivery {
-    Fault(Reason, bool),
+    Fault(Reason, bool, EntryAddress),
     Remap(Remapped),
     Post(Posted),
 }
@@ -29,16 +31,18 @@ pub enum InterruptAnswer {
     Passed,
     Remapped(Remapped),
     Posted(Posted),
-    Blocked(Fault),
+    // With the entry concerned.
+    Blocked(Fault, EntryAddress),
     Refused(u8),
 }
 
 pub(crate) fn answer_of(source: SourceId, index: u32, delivery: Delivery) -> InterruptAnswer
     ensures { λ r. ⌜ outcomeOf r ≡ delivered (source .id) index (deliveryOf delivery) ⌝ }
+    ensures { λ r. ⌜ ((place : Place) → DeliveryNames delivery place → entryOf r ≡ concerned (outcomeOf r) place) ⌝ }
 {
     match delivery {
-        Delivery::Fault(reason, fpd) => {
-            InterruptAnswer::Blocked(interrupt_fault(reason, fpd, source, index))
+        Delivery::Fault(reason, fpd, entry) => {
+            InterruptAnswer::Blocked(interrupt_fault(reason, fpd, source, index), entry)
         }
         Delivery::Remap(remapped) => InterruptAnswer::Remapped(remapped),
         Delivery::Post(posted) => InterruptAnswer::Posted(posted),

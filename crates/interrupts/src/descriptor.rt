@@ -3,7 +3,8 @@ ghost use mathlib.Core.Path.{_≡_};
 ghost use Rattle.image.specs.Bits.{anySet};
 ghost use Rattle.image.specs.Entries.{number64};
 ghost use Rattle.interrupts.specs.Descriptor.{reservedDescriptor, noticeDestination, noticeDue, noticeOf, descriptorCheck};
-ghost use Rattle.interrupts.specs.Checked.{dueOf, descriptorChecked};
+ghost use Rattle.image.specs.Place.{entryAt};
+ghost use Rattle.interrupts.specs.Checked.{dueOf, descriptorChecked, descriptorPlace};
 use image::Entry64;
 use image::any_set64;
 use image::bits64;
@@ -15,7 +16,8 @@ pub enum Notice {
 
 pub enum DescriptorCheck {
     Valid(Notice),
-    Reserved,
+    // With the descriptor's host address.
+    Reserved(u64),
 }
 
 // Bits 511:320.
@@ -64,11 +66,12 @@ fn notice_of(eime: bool, urgent: bool, d: Entry64) -> Notice
     }
 }
 
-pub(crate) fn descriptor_check(eime: bool, urgent: bool, d: Entry64) -> DescriptorCheck
+pub(crate) fn descriptor_check(eime: bool, urgent: bool, at: u64, d: Entry64) -> DescriptorCheck
     ensures { λ r. ⌜ descriptorChecked r ≡ descriptorCheck eime urgent (number64 d) ⌝ }
+    ensures { λ r. ⌜ descriptorPlace r (entryAt at) ≡ entryAt at ⌝ }
 {
     if reserved_descriptor(eime, d) {
-        return DescriptorCheck::Reserved;
+        return DescriptorCheck::Reserved(at);
     }
     DescriptorCheck::Valid(notice_of(eime, urgent, d))
 }

@@ -2,9 +2,10 @@
 ghost use mathlib.Core.Path.{_≡_};
 ghost use Prim.Native.Nat.{_^_, _<_};
 ghost use Rattle.image.specs.Memory.{ofImage};
+ghost use Rattle.image.specs.Place.{stoppedAt};
 ghost use Rattle.image.specs.Rules.{run};
-ghost use Rattle.interrupts.specs.Answers.{outcomeOf};
-ghost use Rattle.interrupts.specs.Interrupts.{requestRules, interruptRules};
+ghost use Rattle.interrupts.specs.Answers.{outcomeOf, entryOf};
+ghost use Rattle.interrupts.specs.Interrupts.{requestRules, interruptRules, concerned, interruptPlace};
 ghost use Rattle.interrupts.specs.Post.{written};
 
 mod answer;
@@ -13,6 +14,7 @@ mod post;
 mod remapping;
 mod request;
 
+pub use answer::EntryAddress;
 pub use answer::InterruptAnswer;
 pub use answer::Posted;
 use answer::answer_of;
@@ -40,6 +42,7 @@ pub struct InterruptRequest {
 fn decide_taken(image: &[u8], registers: Registers, request: InterruptRequest) -> InterruptAnswer
     requires { ⌜ registers .«interrupt_table» < 2 ^ 52 ⌝ }
     ensures { λ r. ⌜ outcomeOf r ≡ run (requestRules registers request) (ofImage (now (image .entry))) ⌝ }
+    ensures { λ r. ⌜ entryOf r ≡ concerned (outcomeOf r) (stoppedAt (requestRules registers request) (ofImage (now (image .entry)))) ⌝ }
 {
     match request_check(registers, request.address, request.data) {
         RequestCheck::Compatibility => InterruptAnswer::Passed,
@@ -48,7 +51,10 @@ fn decide_taken(image: &[u8], registers: Registers, request: InterruptRequest) -
             answer_of(request.source, index, delivery)
         }
         RequestCheck::Fault(reason) => {
-            InterruptAnswer::Blocked(interrupt_fault(reason, false, request.source, 0))
+            InterruptAnswer::Blocked(
+                interrupt_fault(reason, false, request.source, 0),
+                EntryAddress::NoEntry,
+            )
         }
     }
 }
@@ -56,6 +62,7 @@ fn decide_taken(image: &[u8], registers: Registers, request: InterruptRequest) -
 // The answer, with nothing written.
 fn decide(image: &[u8], registers: Registers, request: InterruptRequest) -> InterruptAnswer
     ensures { λ r. ⌜ outcomeOf r ≡ run (interruptRules registers request) (ofImage (now (image .entry))) ⌝ }
+    ensures { λ r. ⌜ entryOf r ≡ interruptPlace registers request (ofImage (now (image .entry))) ⌝ }
 {
     match admit(
         registers,
@@ -75,6 +82,7 @@ pub fn interrupt_request(
     request: InterruptRequest,
 ) -> InterruptAnswer
     ensures { λ r. ⌜ outcomeOf r ≡ run (interruptRules registers request) (ofImage (now (image .entry))) ⌝ }
+    ensures { λ r. ⌜ entryOf r ≡ interruptPlace registers request (ofImage (now (image .entry))) ⌝ }
     ensures { λ r. ⌜ now (image .exit) ≡ written (run (interruptRules registers request) (ofImage (now (image .entry)))) (now (image .entry)) ⌝ }
 {
     let answer = decide(image, registers, request);

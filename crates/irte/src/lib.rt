@@ -1,7 +1,8 @@
 // The interrupt remapping table entry (IRTE): a remapped one, or with bit 15 a posted one.
 ghost use mathlib.Core.Path.{_≡_};
 ghost use Rattle.image.specs.Entries.{number16};
-ghost use Rattle.irte.specs.Checked.{remappedOf, askedOf};
+ghost use Rattle.image.specs.Place.{Place, entryAt};
+ghost use Rattle.irte.specs.Checked.{remappedOf, askedOf, IrteNames};
 ghost use Rattle.irte.specs.Irte.{destinationOf, remappedBy, irteOf, asks, asked};
 
 mod reserved;
@@ -36,8 +37,8 @@ pub enum Irte {
         urgent: bool,
         fpd: bool,
     },
-    // FPD is read whether the entry is present or not.
-    Fault(Reason, bool),
+    // With FPD, which is read whether the entry is present or not, and the entry's host address.
+    Fault(Reason, bool, u64),
 }
 
 // All 32 bits only with EIME.
@@ -68,6 +69,7 @@ fn remapped_by(eime: bool, e: Entry16) -> Remapped
 // What an entry that its check lets pass asks for.
 fn irte_of(eime: bool, e: Entry16) -> Irte
     ensures { λ r. ⌜ askedOf r ≡ asks (irteOf eime (number16 e)) ⌝ }
+    ensures { λ r. ⌜ ((place : Place) → IrteNames r place) ⌝ }
 {
     if bit16(e, 15) {
         let vector = bits16(e, 23, 16) as u8;
@@ -84,18 +86,19 @@ fn irte_of(eime: bool, e: Entry16) -> Irte
     Irte::Remaps(remapped_by(eime, e))
 }
 
-pub fn irte_check(registers: Registers, source: SourceId, e: Entry16) -> Irte
+pub fn irte_check(registers: Registers, source: SourceId, at: u64, e: Entry16) -> Irte
     ensures { λ r. ⌜ askedOf r ≡ asked registers (source .id) (number16 e) ⌝ }
+    ensures { λ r. ⌜ IrteNames r (entryAt at) ⌝ }
 {
     let fpd = bit16(e, 1);
     if !bit16(e, 0) {
-        return Irte::Fault(Reason::IrteNotPresent, fpd);
+        return Irte::Fault(Reason::IrteNotPresent, fpd, at);
     }
     if reserved_irte(registers, e) {
-        return Irte::Fault(Reason::IrteReserved, fpd);
+        return Irte::Fault(Reason::IrteReserved, fpd, at);
     }
     if !source_allowed(source, e) {
-        return Irte::Fault(Reason::SourceRejected, fpd);
+        return Irte::Fault(Reason::SourceRejected, fpd, at);
     }
     irte_of(registers.eime, e)
 }

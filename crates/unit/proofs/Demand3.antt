@@ -14,4 +14,4 @@ isolation =
 
 pub more-memory : MoreMemory
 more-memory registers request image more address was =
-    locality registers request image (image ++ more) (rw was) (longer image more (memoryRules registers request)) ∙ was
+    locality registers request image (image ++ more) (rw was) (longer image more (memoryRules registers request)) .0 ∙ was

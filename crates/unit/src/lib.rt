@@ -4,6 +4,7 @@ pub use dma::MemoryRequest;
 pub use dma::memory_request;
 pub use faults::Fault;
 pub use faults::Reason;
+pub use image::EntryAddress;
 pub use interrupts::InterruptAnswer;
 pub use interrupts::InterruptRequest;
 pub use interrupts::Notice;

@@ -1,5 +1,5 @@
 use mathlib.Core.Path.{_≡_, refl, ap, sym, _∙_, subst}
-use Rattle.dma.specs.Answers.{translationOf}
+use Rattle.dma.specs.Answers.{translationOf, Names}
 use Rattle.dma.specs.Requests.{blocked, memoryOutcome}
 use Rattle.dma.specs.Translation.{Reachable}
 use borrow.Author.Needs.{needs}
@@ -22,13 +22,13 @@ memory-fault-requires : tie.Need-memory-fault-requires
 memory-fault-requires c κs = search needs
 
 returns : tie.Need-returns
-returns c = sym (ap (λ t. memoryOutcome (c .before .before .args .request) (translationOf t)) (c .enum-told .given .1))
+returns c = (sym (ap (λ t. memoryOutcome (c .before .before .args .request) (translationOf t)) (c .enum-told .given .1)), λ place names. refl)
 
 returns-2 : tie.Need-returns-2
-returns-2 c = c .page-answer .ensures ∙ sym (ap (λ t. memoryOutcome (c .before .before .before .before .args .request) (translationOf t)) (c .before .before .translated .given .1))
+returns-2 c = (c .page-answer .ensures .0 ∙ sym (ap (λ t. memoryOutcome (c .before .before .before .before .args .request) (translationOf t)) (c .before .before .translated .given .1)), λ place names. c .page-answer .ensures .1 place)
 
 returns-3 : tie.Need-returns-3
-returns-3 c = ap blocked (c .memory-fault .ensures) ∙ sym (ap (λ t. memoryOutcome (c .before .before .before .before .args .request) (translationOf t)) (c .before .before .translated2 .given .1))
+returns-3 c = (ap blocked (c .memory-fault .ensures) ∙ sym (ap (λ t. memoryOutcome (c .before .before .before .before .args .request) (translationOf t)) (c .before .before .translated2 .given .1)), λ place names. subst (λ t. Names t place) (c .before .before .translated2 .given .1) names)
 
 pub answer-spec : {M : Type 1} → statement M
 answer-spec =

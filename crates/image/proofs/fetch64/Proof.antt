@@ -1,6 +1,6 @@
 -- Assumes nothing.
 use native.Mathlib.Omega.{arith}
-use mathlib.Core.Path.{_≡_, ap, sym, _∙_}
+use mathlib.Core.Path.{_≡_, refl, ap, sym, _∙_}
 use mathlib.Core.List.{[], _∷_}
 use native.Mathlib.Nat.{add-assoc}
 use Rattle.image.proofs.Words.{wordsIn, fetched, outside}
@@ -9,16 +9,16 @@ use Rattle.image.proofs.fetch64.Statement.{statement}
 use Rattle.image.proofs.fetch64.Tie as tie
 
 returns : tie.Need-returns
-returns c = let a = c .before .before .args in sym (outside (a .image .now) 7 (a .at) (omega arith))
+returns c = let a = c .before .before .args in (sym (outside (a .image .now) 7 (a .at) (omega arith)), refl)
 
 returns-2 : tie.Need-returns-2
-returns-2 c = let a = c .before .before .before .args in sym (outside (a .image .now) 7 (a .at) (omega arith))
+returns-2 c = let a = c .before .before .before .args in (sym (outside (a .image .now) 7 (a .at) (omega arith)), refl)
 
 returns-3 : tie.Need-returns-3
 unfolding wordsIn
 returns-3 c =
     let a = c .before .before .before .before .before .before .before .before .before .before .before .args in
-    fetched (a .image .now) 8 (a .at) _ (omega arith) (simp add-assoc cc)
+    (fetched (a .image .now) 8 (a .at) _ (omega arith) (simp add-assoc cc), refl)
 
 pub fetch64-spec : {M : Type 1} → statement M
 fetch64-spec =

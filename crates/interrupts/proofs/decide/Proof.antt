@@ -1,9 +1,11 @@
 -- Each answer by what admission tells.
-use mathlib.Core.Path.{ap, sym, _∙_}
+use mathlib.Core.Path.{ap, ap₂, sym, _∙_}
 use borrow.Author.Needs.{needs}
 use Rattle.image.specs.Memory.{ofImage}
+use Rattle.image.specs.Place.{stoppedAt}
+use Rattle.interrupts.specs.Interrupts.{concerned, interruptRules}
 use Rattle.registers.specs.Admitted.{admittedOf}
-use Rattle.interrupts.proofs.Admissions.{table-below, refuses, passes, takes}
+use Rattle.interrupts.proofs.Admissions.{table-below, refuses, passes, takes, takes-at}
 use Rattle.interrupts.proofs.decide.Statement.{statement}
 use Rattle.interrupts.proofs.decide.Tie as tie
 
@@ -31,23 +33,26 @@ returns : tie.Need-returns
 returns c =
     let k = c .before .before .before in
     let a = k .before .before .before .args in
-    refuses (a .registers) (a .request) (ofImage (a .image .now)) (k .before .in-interrupt-range .ensures)
-    (sym (ap admittedOf (c .before .number .given .1)) ∙ k .admit .ensures)
+    let is = refuses (a .registers) (a .request) (ofImage (a .image .now)) (k .before .in-interrupt-range .ensures) (sym (ap admittedOf (c .before .number .given .1)) ∙ k .admit .ensures) in
+    (is, ap (λ o. concerned o (stoppedAt (interruptRules (a .registers) (a .request)) (ofImage (a .image .now)))) is)
 
 returns-2 : tie.Need-returns-2
 returns-2 c =
     let k = c .before .before in
     let a = k .before .before .before .args in
-    passes (a .registers) (a .request) (ofImage (a .image .now)) (k .before .in-interrupt-range .ensures)
-    (sym (ap admittedOf (c .enum-told .given .1)) ∙ k .admit .ensures)
+    let is = passes (a .registers) (a .request) (ofImage (a .image .now)) (k .before .in-interrupt-range .ensures) (sym (ap admittedOf (c .enum-told .given .1)) ∙ k .admit .ensures) in
+    (is, ap (λ o. concerned o (stoppedAt (interruptRules (a .registers) (a .request)) (ofImage (a .image .now)))) is)
 
 returns-3 : tie.Need-returns-3
 returns-3 c =
     let k = c .before .before .before in
     let a = k .before .before .before .args in
-    c .decide-taken .ensures
-    ∙ takes (a .registers) (a .request) (ofImage (a .image .now)) (k .before .in-interrupt-range .ensures)
-    (sym (ap admittedOf (c .before .enum-told2 .given .1)) ∙ k .admit .ensures)
+    let taken = sym (ap admittedOf (c .before .enum-told2 .given .1)) ∙ k .admit .ensures in
+    let is = c .decide-taken .ensures .0 ∙ takes (a .registers) (a .request) (ofImage (a .image .now)) (k .before .in-interrupt-range .ensures) taken in (
+      is,
+      c .decide-taken .ensures .1
+          ∙ ap₂ concerned is (takes-at (a .registers) (a .request) (ofImage (a .image .now)) (k .before .in-interrupt-range .ensures) taken),
+    )
 
 pub decide-spec : {M : Type 1} → statement M
 decide-spec =

@@ -1,10 +1,12 @@
 -- Each answer by what the request's check tells.
-use mathlib.Core.Path.{ap, _∙_}
+use mathlib.Core.Path.{refl, ap, ap₂, sym, _∙_, subst}
 use borrow.Author.Needs.{needs}
 use Rattle.image.specs.Memory.{ofImage}
+use Rattle.image.specs.Place.{Place}
+use Rattle.interrupts.specs.Answers.{DeliveryNames}
 use Rattle.interrupts.specs.Checked.{requestChecked}
 use Rattle.interrupts.specs.Interrupts.{blocked}
-use Rattle.interrupts.proofs.Admissions.{stops, compatible, indexed}
+use Rattle.interrupts.proofs.Admissions.{stops, stops-at, compatible, indexed, indexed-at}
 use Rattle.interrupts.proofs.decide_taken.Statement.{statement}
 use Rattle.interrupts.proofs.decide_taken.Tie as tie
 
@@ -32,27 +34,34 @@ interrupt-fault-requires c κs = search needs
 returns : tie.Need-returns
 returns c =
     let k = c .before .before in
-    let a = k .before .before .args in
-    compatible (a .registers) (a .request) (ofImage (a .image .now)) (k .request-check .ensures)
-    (ap requestChecked (c .enum-told .given .1))
+    let a = k .before .before .args in (
+      compatible (a .registers) (a .request) (ofImage (a .image .now)) (k .request-check .ensures)
+          (ap requestChecked (c .enum-told .given .1)),
+      refl,
+    )
 
 returns-2 : tie.Need-returns-2
 returns-2 c =
     let i = c .before .before .before in
     let k = i .before .before in
     let a = k .before .before .args in
-    c .answer-of .ensures
-    ∙ indexed (a .registers) (a .request) (ofImage (a .image .now)) (k .request-check .ensures)
-    (ap requestChecked (i .index .given .1)) (c .before .follow-index .ensures)
+    let told = ap requestChecked (i .index .given .1) in
+    let place = indexed-at (a .registers) (a .request) (ofImage (a .image .now)) (k .request-check .ensures) told in (
+      c .answer-of .ensures .0
+          ∙ indexed (a .registers) (a .request) (ofImage (a .image .now)) (k .request-check .ensures) told (c .before .follow-index .ensures .0),
+      c .answer-of .ensures .1 _ (subst (λ (p : Place). DeliveryNames (c .before .follow-index .result) p) place (c .before .follow-index .ensures .1)),
+    )
 
 returns-3 : tie.Need-returns-3
 returns-3 c =
     let i = c .before .before in
     let k = i .before .before in
     let a = k .before .before .args in
-    ap blocked (c .interrupt-fault .ensures)
-    ∙ stops (a .registers) (a .request) (ofImage (a .image .now)) (k .request-check .ensures)
-    (ap requestChecked (i .reason .given .1))
+    let told = ap requestChecked (i .reason .given .1) in (
+      ap blocked (c .interrupt-fault .ensures)
+          ∙ stops (a .registers) (a .request) (ofImage (a .image .now)) (k .request-check .ensures) told,
+      stops-at (a .registers) (a .request) (ofImage (a .image .now)) (k .request-check .ensures) told,
+    )
 
 pub decide-taken-spec : {M : Type 1} → statement M
 decide-taken-spec =

@@ -7,7 +7,7 @@ use lib.ListN.{length}
 use Rattle.image.specs.Memory.{ofImage}
 use Rattle.image.specs.Rules.{run}
 use Rattle.registers.specs.declared.Registers.{Registers}
-use Rattle.interrupts.specs.Answers.{outcomeOf}
+use Rattle.interrupts.specs.Answers.{outcomeOf, entryOf}
 use Rattle.interrupts.specs.Interrupts.{InterruptOutcome, interruptRules}
 use Rattle.interrupts.specs.Post.{written}
 use Rattle.interrupts.specs.declared.InterruptRequest.{InterruptRequest}
@@ -37,7 +37,7 @@ write-post-requires c κs =
     let told = c .before .before in
     let d = told .before .before in
     let a = d .before .before .before .args in
-    inside (a .image .now) (a .registers) (a .request) (told .answer .given .1) (d .decide .ensures)
+    inside (a .image .now) (a .registers) (a .request) (told .answer .given .1) (d .decide .ensures .0)
 
 same-length : tie.Need-same-length
 same-length c = search needs
@@ -47,8 +47,8 @@ returns c =
     let told = c .before .before .before .before .before in
     let d = told .before .before in
     let a = d .before .before .before .args in
-    let same = sym (ap outcomeOf (told .answer .given .1)) ∙ d .decide .ensures in
-    (same, c .before .before .write-post .ensures ∙ ap (λ (o : InterruptOutcome). written o (a .image .now)) same)
+    let same = sym (ap outcomeOf (told .answer .given .1)) ∙ d .decide .ensures .0 in
+    (same, (sym (ap entryOf (told .answer .given .1)) ∙ d .decide .ensures .1, c .before .before .write-post .ensures ∙ ap (λ (o : InterruptOutcome). written o (a .image .now)) same))
 
 same-length-2 : tie.Need-same-length-2
 same-length-2 c = search needs
@@ -57,7 +57,7 @@ returns-2 : tie.Need-returns-2
 returns-2 c =
     let d = c .before in
     let a = d .before .before .before .args in
-    (d .decide .ensures, unposted (d .decide .result) (a .image .now) (c .match .keys2) ∙ ap (λ (o : InterruptOutcome). written o (a .image .now)) (d .decide .ensures))
+    (d .decide .ensures .0, (d .decide .ensures .1, unposted (d .decide .result) (a .image .now) (c .match .keys2) ∙ ap (λ (o : InterruptOutcome). written o (a .image .now)) (d .decide .ensures .0)))
 
 pub interrupt-request-spec : {M : Type 1} → statement M
 interrupt-request-spec =

@@ -1,6 +1,6 @@
 -- Each answer by the tests on its way.
 use mathlib.Core.Bool.{not, true, false}
-use mathlib.Core.Path.{_≡_, ap, sym, _∙_}
+use mathlib.Core.Path.{_≡_, refl, ap, sym, _∙_}
 use borrow.Author.Needs.{needs}
 use Rattle.irte.specs.Irte.{irteCheck}
 use Rattle.irte.proofs.irte_check.Statement.{statement}
@@ -16,7 +16,7 @@ returns : tie.Need-returns
 unfolding irteCheck
 returns c =
     let b = c .before in
-    rw (← b .bit162 .ensures, c .if1 .taken, ← b .before .bit16 .ensures)
+    (rw (← b .bit162 .ensures, c .if1 .taken, ← b .before .bit16 .ensures), refl)
 
 reserved-irte-requires : tie.Need-reserved-irte-requires
 reserved-irte-requires c κs = search needs
@@ -27,7 +27,7 @@ returns-2 c =
     let k = c .before in
     let p = k .before in
     let b = p .before in
-    rw (← b .bit162 .ensures, p .if1 .left, ← k .reserved-irte .ensures, c .if2 .taken, ← b .before .bit16 .ensures)
+    (rw (← b .bit162 .ensures, p .if1 .left, ← k .reserved-irte .ensures, c .if2 .taken, ← b .before .bit16 .ensures), refl)
 
 source-allowed-requires : tie.Need-source-allowed-requires
 source-allowed-requires c κs = search needs
@@ -40,7 +40,7 @@ returns-3 c =
     let k = v .before in
     let p = k .before in
     let b = p .before in
-    rw (← b .bit162 .ensures, p .if1 .left, ← k .reserved-irte .ensures, v .if2 .left, ← s .source-allowed .ensures, c .if3 .taken, ← b .before .bit16 .ensures)
+    (rw (← b .bit162 .ensures, p .if1 .left, ← k .reserved-irte .ensures, v .if2 .left, ← s .source-allowed .ensures, c .if3 .taken, ← b .before .bit16 .ensures), refl)
 
 irte-of-requires : tie.Need-irte-of-requires
 irte-of-requires c κs = search needs
@@ -53,9 +53,11 @@ returns-4 c =
     let v = s .before in
     let k = v .before in
     let p = k .before in
-    let b = p .before in
-    rw (← b .bit162 .ensures, p .if1 .left, ← k .reserved-irte .ensures, v .if2 .left, ← s .source-allowed .ensures, a .if3 .left)
-    (c .irte-of .ensures)
+    let b = p .before in (
+      rw (← b .bit162 .ensures, p .if1 .left, ← k .reserved-irte .ensures, v .if2 .left, ← s .source-allowed .ensures, a .if3 .left)
+          (c .irte-of .ensures .0),
+      c .irte-of .ensures .1 _,
+    )
 
 pub irte-check-spec : {M : Type 1} → statement M
 irte-check-spec =

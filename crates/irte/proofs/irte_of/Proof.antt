@@ -1,5 +1,5 @@
 -- By bit 15; then what each field's callee says.
-use mathlib.Core.Path.{ap}
+use mathlib.Core.Path.{refl, ap}
 use native.Mathlib.Omega.{arith}
 use borrow.Author.Needs.{needs}
 use Rattle.image.specs.Bits.{bits}
@@ -27,15 +27,17 @@ bit16-requires-3 : tie.Need-bit16-requires-3
 bit16-requires-3 c κs = search needs
 
 returns : tie.Need-returns
-returns c = rw (← c .before .before .before .before .before .bit16 .ensures, c .before .before .before .before .if1 .taken) (cc)
+returns c = (rw (← c .before .before .before .before .before .bit16 .ensures, c .before .before .before .before .if1 .taken) (cc), λ place. refl)
 
 remapped-by-requires : tie.Need-remapped-by-requires
 remapped-by-requires c κs = search needs
 
 returns-2 : tie.Need-returns-2
-returns-2 c =
-    rw (← c .before .before .bit16 .ensures, c .before .if1 .left)
-    (ap (λ (r : irte.Remapped). irte.asks (irte.remaps r)) (c .remapped-by .ensures))
+returns-2 c = (
+  rw (← c .before .before .bit16 .ensures, c .before .if1 .left)
+      (ap (λ (r : irte.Remapped). irte.asks (irte.remaps r)) (c .remapped-by .ensures)),
+  λ place. refl,
+)
 
 pub irte-of-spec : {M : Type 1} → statement M
 irte-of-spec =

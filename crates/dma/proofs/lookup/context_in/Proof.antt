@@ -1,9 +1,10 @@
-use Prim.Native.Nat.{ℕ, _+_, _*_}
+use Prim.Native.Nat.{ℕ, _+_, _*_, _%_}
 use mathlib.Core.Bool.{Bool, false}
 use mathlib.Core.Path.{_≡_, refl, ap, sym, _∙_}
 use native.Mathlib.Omega.{arith}
 use Rattle.image.specs.Entries.{fetched16, number16}
 use Rattle.image.specs.Memory.{found, ofImage, entry}
+use Rattle.image.specs.Place.{entryAt}
 use Rattle.image.specs.Rules.{answer}
 use Rattle.image.specs.EntryKind.{contextEntry}
 use Rattle.image.proofs.Stages.{unfetched, checked, only}
@@ -18,11 +19,14 @@ use Rattle.dma.proofs.lookup.context_in.Tie as tie
 devfn-requires : tie.Need-devfn-requires
 devfn-requires c κs = search needs
 
-cast-page-entry16 : tie.Need-cast-page-entry16
-cast-page-entry16 c = search needs
+cast-at : tie.Need-cast-at
+cast-at c = search needs
 
-mul-page-entry16 : tie.Need-mul-page-entry16
-mul-page-entry16 c = search needs
+mul-at : tie.Need-mul-at
+mul-at c = search needs
+
+add-at : tie.Need-add-at
+add-at c = search needs
 
 page-entry16-requires : tie.Need-page-entry16-requires
 page-entry16-requires c κs = search needs
@@ -39,13 +43,13 @@ place : (c : tie.After-page-entry16)
 place c =
     let a = c .before .before .before .args in
     rw (← c .before .devfn .ensures)
-    (placed (a .image .now) (a .table) (omega arith) (c .page-entry16 .ensures))
+    (placed (a .image .now) (a .table) (c .before .devfn .result) (c .before .before .before .pre) (omega arith) (c .page-entry16 .ensures .0))
 
 returns : tie.Need-returns
 unfolding contextRules
 returns c =
     let a = c .before .before .before .before .before .args in
-    unfetched contextEntry (a .table + 16 * devfnOf (a .source .id)) (noContext 0x09 false) (contextCheck (a .registers)) (λ e reason. noContext reason (faultProcessingDisabled e)) (λ c. answer (context c)) (ofImage (a .image .now)) (sym (ap fetched16 (c .enum-told .given .1)) ∙ place (c .before .before))
+    (unfetched contextEntry (a .table + 16 * devfnOf (a .source .id)) (noContext 0x09 false) (contextCheck (a .registers)) (λ e reason. noContext reason (faultProcessingDisabled e)) (λ c. answer (context c)) (ofImage (a .image .now)) (sym (ap fetched16 (c .enum-told .given .1)) ∙ place (c .before .before)), ap (λ (n : ℕ). entryAt (a .table + 16 * n)) (c .before .before .before .devfn .ensures))
 
 context-check-requires : tie.Need-context-check-requires
 context-check-requires c κs = search needs
@@ -54,18 +58,21 @@ returns-2 : tie.Need-returns-2
 unfolding contextRules
 returns-2 c =
     let a = c .before .before .before .before .before .before .before .args in
-    let e = number16 (c .before .before .e .given .0 .0) in
-    c .context-check .ensures
-    ∙ only (ofImage (a .image .now)) (contextCheck (a .registers) e) (λ reason. noContext reason (faultProcessingDisabled e)) context
-    ∙ checked contextEntry (a .table + 16 * devfnOf (a .source .id)) (noContext 0x09 false) (contextCheck (a .registers)) (λ e reason. noContext reason (faultProcessingDisabled e)) (λ c. answer (context c)) (ofImage (a .image .now)) (sym (ap fetched16 (c .before .before .e .given .1)) ∙ place (c .before .before .before .before)) refl
+    let e = number16 (c .before .before .e .given .0 .0) in (
+      c .context-check .ensures .0
+          ∙ only (ofImage (a .image .now)) (contextCheck (a .registers) e) (λ reason. noContext reason (faultProcessingDisabled e)) context
+          ∙ checked contextEntry (a .table + 16 * devfnOf (a .source .id)) (noContext 0x09 false) (contextCheck (a .registers)) (λ e reason. noContext reason (faultProcessingDisabled e)) (λ c. answer (context c)) (ofImage (a .image .now)) (sym (ap fetched16 (c .before .before .e .given .1)) ∙ place (c .before .before .before .before)) refl,
+      c .context-check .ensures .1 ∙ ap (λ (n : ℕ). entryAt (a .table + 16 * n)) (c .before .before .before .before .before .devfn .ensures),
+    )
 
 pub context-in-spec : {M : Type 1} → statement M
 context-in-spec =
     tie.close
     (tie.spec
     devfn-requires
-    cast-page-entry16
-    mul-page-entry16
+    cast-at
+    mul-at
+    add-at
     page-entry16-requires
     enum-known-e
     enum-told

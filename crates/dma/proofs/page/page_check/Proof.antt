@@ -13,14 +13,14 @@ denial-requires c κs = search needs
 
 returns : tie.Need-returns
 unfolding pageCheck
-returns c = rw (← c .before .before .field .ensures, eq-eqb _ _ (c .before .if1 .taken), c .denial .ensures)
+returns c = (rw (← c .before .before .field .ensures, eq-eqb _ _ (c .before .if1 .taken), c .denial .ensures), refl)
 
 page-reserved-requires : tie.Need-page-reserved-requires
 page-reserved-requires c κs = search needs
 
 returns-2 : tie.Need-returns-2
 unfolding pageCheck
-returns-2 c = rw (← c .before .before .before .field .ensures, ne-eqb _ _ (c .before .before .if1 .left), ← c .before .page-reserved .ensures, c .if2 .taken)
+returns-2 c = (rw (← c .before .before .before .field .ensures, ne-eqb _ _ (c .before .before .if1 .left), ← c .before .page-reserved .ensures, c .if2 .taken), refl)
 
 own-right-requires : tie.Need-own-right-requires
 own-right-requires c κs = search needs
@@ -30,14 +30,14 @@ denial-requires-2 c κs = search needs
 
 returns-3 : tie.Need-returns-3
 unfolding pageCheck
-returns-3 c = rw (← c .before .before .before .before .before .before .field .ensures, ne-eqb _ _ (c .before .before .before .before .before .if1 .left), ← c .before .before .before .before .page-reserved .ensures, c .before .before .before .if2 .left, ← c .before .before .own-right .ensures, c .before .if3 .taken, c .denial2 .ensures)
+returns-3 c = (rw (← c .before .before .before .before .before .before .field .ensures, ne-eqb _ _ (c .before .before .before .before .before .if1 .left), ← c .before .before .before .before .page-reserved .ensures, c .before .before .before .if2 .left, ← c .before .before .own-right .ensures, c .before .if3 .taken, c .denial2 .ensures), refl)
 
 in-place-requires : tie.Need-in-place-requires
 in-place-requires c κs = search needs
 
 returns-4 : tie.Need-returns-4
 unfolding pageCheck
-returns-4 c = rw (← c .before .before .before .before .before .before .field .ensures, ne-eqb _ _ (c .before .before .before .before .before .if1 .left), ← c .before .before .before .before .page-reserved .ensures, c .before .before .before .if2 .left, ← c .before .before .own-right .ensures, c .before .if3 .left, c .in-place .ensures)
+returns-4 c = (rw (← c .before .before .before .before .before .before .field .ensures, ne-eqb _ _ (c .before .before .before .before .before .if1 .left), ← c .before .before .before .before .page-reserved .ensures, c .before .before .before .if2 .left, ← c .before .before .own-right .ensures, c .before .if3 .left, c .in-place .ensures), refl)
 
 pub page-check-spec : {M : Type 1} → statement M
 page-check-spec =

@@ -1,13 +1,14 @@
 -- One level of the walk: the entry that the code takes from the table's page is the one that the rules name, and each way out is the
 -- step that the rules make of it.
-use Prim.Native.Nat.{ℕ, suc, _+_, _*_}
-use mathlib.Core.Path.{_≡_, ap, sym, _∙_}
+use Prim.Native.Nat.{ℕ, suc, _+_, _*_, _/_, _%_, _^_}
+use mathlib.Core.Path.{_≡_, refl, ap, sym, _∙_, subst}
 use native.Mathlib.Omega.{arith}
 use native.Mathlib.Numerals.{add-one}
 use Rattle.image.specs.Entries.{fetched8}
 use Rattle.image.specs.Check.{go}
 use Rattle.image.specs.Memory.{found, ofImage, entry}
-use Rattle.dma.specs.Answers.{stepOf}
+use Rattle.image.specs.Place.{Place, entryAt}
+use Rattle.dma.specs.Answers.{stepOf, StepNames}
 use Rattle.dma.specs.Page.{pageCheck}
 use Rattle.dma.specs.Translation.{checked}
 use Rattle.dma.specs.Walk.{placeIn}
@@ -29,10 +30,15 @@ cast-index c = search needs
 shr-index : tie.Need-shr-index
 shr-index c = search needs
 
-mul-page-entry8 : tie.Need-mul-page-entry8
-mul-page-entry8 c =
+mul-at : tie.Need-mul-at
+mul-at c =
     let a = c .before .args in
     omega (arith, index-of (a .request .address) (a .below), index-lt (a .request .address) (a .below))
+
+add-at : tie.Need-add-at
+add-at c =
+    let a = c .before .args in
+    omega (arith, c .before .pre .1, index-of (a .request .address) (a .below), index-lt (a .request .address) (a .below))
 
 page-entry8-requires : tie.Need-page-entry8-requires
 page-entry8-requires c κs = search needs
@@ -43,17 +49,24 @@ enum-known-e c = search needs
 enum-told : tie.Need-enum-told
 enum-told c = search needs
 
+at-place : (c : tie.After-page-entry8)
+    → _≡_ {A = ℕ} (c .before .before .args .table + 8 * (c .before .before .args .request .address / 2 ^ (12 + 9 * c .before .before .args .below) % 512))
+    (placeIn (c .before .before .args .request .address) (c .before .before .args .table) (c .before .before .args .below))
+at-place c =
+    let a = c .before .before .args in
+    ap (λ (i : ℕ). a .table + 8 * i) (index-of (a .request .address) (a .below))
+
 place : (c : tie.After-page-entry8)
     → fetched8 (c .page-entry8 .result)
     ≡ entry 1 (ofImage (c .before .before .args .image .now)) (placeIn (c .before .before .args .request .address) (c .before .before .args .table) (c .before .before .args .below))
 place c =
     let a = c .before .before .args in
-    placed (a .image .now) (a .request .address) (a .table) (a .below) (index-of (a .request .address) (a .below)) (c .page-entry8 .ensures)
+    placed (a .image .now) (a .request .address) (a .table) (a .below) (c .before .before .pre .1) (at-place c) (c .page-entry8 .ensures .0)
 
 returns : tie.Need-returns
 returns c =
     let a = c .before .before .before .before .args in
-    unfetched (a .registers) (a .request .address) (a .request .write) (a .fpd) (a .image .now) (a .below) (a .table) (sym (ap fetched8 (c .enum-told .given .1)) ∙ place (c .before .before))
+    (unfetched (a .registers) (a .request .address) (a .request .write) (a .fpd) (a .image .now) (a .below) (a .table) (sym (ap fetched8 (c .enum-told .given .1)) ∙ place (c .before .before)), ap entryAt (at-place (c .before .before)))
 
 add-level : tie.Need-add-level
 add-level c = search needs
@@ -75,7 +88,7 @@ found-at c = sym (ap fetched8 (c .before .e .given .1)) ∙ place (c .before .be
 told : (c : tie.After-page-check)
     → stepOf (c .page-check .result)
     ≡ checked (c .before .before .before .before .before .before .args .fpd) (pageCheck (c .before .before .before .before .before .before .args .registers) (c .before .before .before .before .before .before .args .request .write) (suc (c .before .before .before .before .before .before .args .below)) (c .before .before .e .given .0 .0))
-told c = rw (← add-one (c .before .before .before .before .before .before .args .below)) (c .page-check .ensures)
+told c = rw (← add-one (c .before .before .before .before .before .before .args .below)) (c .page-check .ensures .0)
 
 went : (c : tie.After-check)
     → go (c .check .given .0 .0)
@@ -84,20 +97,22 @@ went c = gone (c .before .before .before .before .before .before .before .before
 
 returns-2 : tie.Need-returns-2
 returns-2 c =
-    let a = c .before .before .before .before .before .before .before .args in
-    stopped (a .registers) (a .request .address) (a .request .write) (a .fpd) (a .image .now) (a .below) (a .table) (found-at (c .before .before)) (c .before .page-check .result) (c .match2 .keys2) (told (c .before))
+    let a = c .before .before .before .before .before .before .before .args in (
+      stopped (a .registers) (a .request .address) (a .request .write) (a .fpd) (a .image .now) (a .below) (a .table) (found-at (c .before .before)) (c .before .page-check .result) (c .match2 .keys2) (told (c .before)),
+      subst (λ (p : Place). StepNames (c .before .page-check .result) p) (ap entryAt (at-place (c .before .before .before .before .before))) (c .before .page-check .ensures .1),
+    )
 
 returns-3 : tie.Need-returns-3
 returns-3 c =
     let a = c .before .before .before .before .before .before .before .before .before .before .before .args in
     let page = sym (c .before .is-leaf .ensures) ∙ c .if1 .taken in
-    rw (add-one (a .below)) (at-leaf (a .registers) (a .request .address) (a .request .write) (a .fpd) (a .image .now) (a .below) (a .table) (found-at (c .before .before .before .before .before .before)) (went (c .before .before .before)) (rw (add-one (a .below)) at page))
+    (rw (add-one (a .below)) (at-leaf (a .registers) (a .request .address) (a .request .write) (a .fpd) (a .image .now) (a .below) (a .table) (found-at (c .before .before .before .before .before .before)) (went (c .before .before .before)) (rw (add-one (a .below)) at page)), refl)
 
 returns-4 : tie.Need-returns-4
 returns-4 c =
     let a = c .before .before .before .before .before .before .before .before .before .before .before .args in
     let more = sym (c .before .is-leaf .ensures) ∙ c .if1 .left in
-    at-table (a .registers) (a .request .address) (a .request .write) (a .fpd) (a .image .now) (a .below) (a .table) (found-at (c .before .before .before .before .before .before)) (went (c .before .before .before)) (rw (add-one (a .below)) at more)
+    (at-table (a .registers) (a .request .address) (a .request .write) (a .fpd) (a .image .now) (a .below) (a .table) (found-at (c .before .before .before .before .before .before)) (went (c .before .before .before)) (rw (add-one (a .below)) at more), refl)
 
 pub page-step-spec : {M : Type 1} → statement M
 page-step-spec =
@@ -107,7 +122,8 @@ page-step-spec =
     add-index
     cast-index
     shr-index
-    mul-page-entry8
+    mul-at
+    add-at
     page-entry8-requires
     enum-known-e
     enum-told

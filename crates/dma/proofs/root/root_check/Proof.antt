@@ -9,21 +9,21 @@ present-requires c κs = search needs
 
 returns : tie.Need-returns
 unfolding rootCheck
-returns c = rw (← c .before .present .ensures, c .if1 .taken)
+returns c = (rw (← c .before .present .ensures, c .if1 .taken), refl)
 
 root-reserved-requires : tie.Need-root-reserved-requires
 root-reserved-requires c κs = search needs
 
 returns-2 : tie.Need-returns-2
 unfolding rootCheck
-returns-2 c = rw (← c .before .before .before .present .ensures, c .before .before .if1 .left, ← c .before .root-reserved .ensures, c .if2 .taken)
+returns-2 c = (rw (← c .before .before .before .present .ensures, c .before .before .if1 .left, ← c .before .root-reserved .ensures, c .if2 .taken), refl)
 
 table-address-requires : tie.Need-table-address-requires
 table-address-requires c κs = search needs
 
 returns-3 : tie.Need-returns-3
 unfolding rootCheck
-returns-3 c = rw (← c .before .before .before .before .present .ensures, c .before .before .before .if1 .left, ← c .before .before .root-reserved .ensures, c .before .if2 .left, c .table-address .ensures)
+returns-3 c = (rw (← c .before .before .before .before .present .ensures, c .before .before .before .if1 .left, ← c .before .before .root-reserved .ensures, c .before .if2 .left, c .table-address .ensures), refl)
 
 pub root-check-spec : {M : Type 1} → statement M
 root-check-spec =

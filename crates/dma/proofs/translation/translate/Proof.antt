@@ -1,17 +1,19 @@
 -- The lookup, then what follows a context.
 use mathlib.Core.Path.{_≡_, refl, ap, sym, _∙_, subst}
 use Rattle.image.specs.Memory.{ofImage}
+use Rattle.image.specs.Place.{noEntry, lastTried, stoppedAt}
 use Rattle.image.specs.Rules.{run}
-use Rattle.dma.specs.Answers.{lookupOf}
+use Rattle.dma.specs.Answers.{lookupOf, lookupPlace}
 use Rattle.dma.specs.Lookup.{Lookup, context, noContext, onLookup, lookupRules}
 use Rattle.dma.specs.Translation.{fault, widthRules}
-use Rattle.dma.proofs.Lookups.{looked-up, Finds, finds}
+use Rattle.dma.proofs.Lookups.{looked-up, looked-up-at, Finds, finds}
+use Rattle.dma.proofs.Stepped.{renamed}
 use borrow.Author.Needs.{needs}
 use Rattle.dma.proofs.translation.translate.Statement.{statement}
 use Rattle.dma.proofs.translation.translate.Tie as tie
 
 find-context-requires : tie.Need-find-context-requires
-find-context-requires c κs = search needs
+find-context-requires c κs = c .before .pre
 
 enum-known-found : tie.Need-enum-known-found
 enum-known-found c = search needs
@@ -25,18 +27,30 @@ without-context-requires c κs = search needs
 translate-in-requires : tie.Need-translate-in-requires
 translate-in-requires c κs =
     let a = c .before .before .before .before .before .args in
-    subst Finds (sym (c .before .before .before .find-context .ensures) ∙ ap lookupOf (c .before .found .given .1)) (finds (a .registers) (a .request .source .id) (ofImage (a .image .now)))
+    subst Finds (sym (c .before .before .before .find-context .ensures .0) ∙ ap lookupOf (c .before .found .given .1)) (finds (a .registers) (a .request .source .id) (ofImage (a .image .now)))
 
 returns : tie.Need-returns
 returns c =
     let a = c .before .before .before .before .before .args in
-    c .without-context .ensures
-    ∙ rw (looked-up (a .registers) fault (widthRules (a .registers) (a .request .address) (a .request .write)) (ofImage (a .image .now)) (a .request .source .id), ← c .before .before .before .find-context .ensures, c .before .enum-told .given .1)
+    let next = widthRules (a .registers) (a .request .address) (a .request .write) in
+    let m = ofImage (a .image .now) in
+    let found = sym (c .before .before .before .find-context .ensures .0) ∙ ap lookupOf (c .before .enum-told .given .1) in
+    let stopped = looked-up-at (a .registers) fault next m (a .request .source .id) noEntry in (
+      c .without-context .ensures .0 ∙ rw (looked-up (a .registers) fault next m (a .request .source .id), found, c .before .enum-told .given .1),
+      renamed (c .without-context .result) (c .before .before .before .find-context .ensures .1 ∙ sym (rw found at stopped)) (c .without-context .ensures .1),
+    )
 
 returns-2 : tie.Need-returns-2
 returns-2 c =
     let a = c .before .before .before .before .before .before .args in
-    rw (looked-up (a .registers) fault (widthRules (a .registers) (a .request .address) (a .request .write)) (ofImage (a .image .now)) (a .request .source .id), ← c .before .before .before .before .find-context .ensures, c .before .before .found .given .1) (c .translate-in .ensures)
+    let next = widthRules (a .registers) (a .request .address) (a .request .write) in
+    let m = ofImage (a .image .now) in
+    let found = sym (c .before .before .before .before .find-context .ensures .0) ∙ ap lookupOf (c .before .before .found .given .1) in
+    let at = sym (ap lookupPlace (c .before .before .found .given .1)) ∙ c .before .before .before .before .find-context .ensures .1 in
+    let stopped = looked-up-at (a .registers) fault next m (a .request .source .id) noEntry in (
+      rw (looked-up (a .registers) fault next m (a .request .source .id), found) (c .translate-in .ensures .0),
+      renamed (c .translate-in .result) (ap (λ p. lastTried p (next (c .before .before .found .given .0 .0)) m) at ∙ sym (rw found at stopped)) (c .translate-in .ensures .1),
+    )
 
 pub translate-spec : {M : Type 1} → statement M
 translate-spec =

@@ -1,7 +1,9 @@
 use mathlib.Core.Path.{_≡_, refl, ap, sym, _∙_}
 use borrow.Author.Tests.{eq-eqb, ne-eqb}
+use Rattle.image.specs.Place.{entryAt, lastTried}
 use Rattle.image.specs.Rules.{run}
 use Rattle.dma.specs.Translation.{widthRules}
+use Rattle.dma.proofs.Stepped.{renamed}
 use borrow.Author.Needs.{needs}
 use Rattle.dma.proofs.translation.translate_in.Statement.{statement}
 use Rattle.dma.proofs.translation.translate_in.Tie as tie
@@ -22,19 +24,23 @@ at-or-above-power-requires : tie.Need-at-or-above-power-requires
 at-or-above-power-requires c κs = search needs
 
 returns : tie.Need-returns
-unfolding widthRules run
-returns c = rw (← c .before .before .smaller .ensures, ← c .before .at-or-above-power .ensures, c .if1 .taken)
+unfolding widthRules run lastTried
+returns c =
+    (rw (← c .before .before .smaller .ensures, ← c .before .at-or-above-power .ensures, c .if1 .taken), rw (← c .before .before .smaller .ensures, ← c .before .at-or-above-power .ensures, c .if1 .taken))
 
 returns-2 : tie.Need-returns-2
-unfolding widthRules run
-returns-2 c = rw (← c .before .before .before .before .smaller .ensures, ← c .before .before .before .at-or-above-power .ensures, c .before .before .if1 .left, eq-eqb _ _ (c .if2 .taken))
+unfolding widthRules run lastTried
+returns-2 c = (rw (← c .before .before .before .before .smaller .ensures, ← c .before .before .before .at-or-above-power .ensures, c .before .before .if1 .left, eq-eqb _ _ (c .if2 .taken)), refl)
 
 walk-requires : tie.Need-walk-requires
-walk-requires c κs = search needs
+walk-requires c κs = c .before .before .before .before .before .before .before .pre
 
 returns-3 : tie.Need-returns-3
-unfolding widthRules run
-returns-3 c = rw (← c .before .before .before .before .before .smaller .ensures, ← c .before .before .before .before .at-or-above-power .ensures, c .before .before .before .if1 .left, ne-eqb _ _ (c .before .if2 .left)) (c .walk .ensures)
+unfolding widthRules run lastTried
+returns-3 c = (
+  rw (← c .before .before .before .before .before .smaller .ensures, ← c .before .before .before .before .at-or-above-power .ensures, c .before .before .before .if1 .left, ne-eqb _ _ (c .before .if2 .left)) (c .walk .ensures .0),
+  rw (← c .before .before .before .before .before .smaller .ensures, ← c .before .before .before .before .at-or-above-power .ensures, c .before .before .before .if1 .left, ne-eqb _ _ (c .before .if2 .left)) (c .walk .ensures .1 _),
+)
 
 pub translate-in-spec : {M : Type 1} → statement M
 translate-in-spec =

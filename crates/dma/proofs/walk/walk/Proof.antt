@@ -1,32 +1,42 @@
-use Prim.Native.Nat.{ℕ, _-_, _<_, _≤_}
+use Prim.Native.Nat.{ℕ, _-_, _%_, _<_, _≤_}
 use mathlib.Core.Path.{_≡_, refl, ap, sym, _∙_}
 use native.Mathlib.Omega.{arith}
 use borrow.Author.Needs.{needs}
 use Rattle.image.specs.Memory.{ofImage}
+use Rattle.image.specs.Place.{Place, entryAt, lastTried}
 use Rattle.image.specs.Rules.{run}
-use Rattle.dma.specs.Answers.{stepOf}
+use Rattle.dma.specs.Answers.{stepOf, stepPlace}
 use Rattle.dma.specs.Translation.{pageRules}
-use Rattle.dma.proofs.Stepped.{ended, onward, past}
+use Rattle.dma.specs.Walk.{placeIn}
+use Rattle.dma.proofs.Stepped.{ended, onward, ended-at, onward-at, anew, down-to, renamed}
 use Rattle.dma.proofs.walk.walk.Statement.{statement}
 use Rattle.dma.proofs.walk.walk.Tie as tie
 
 abbrev Inv-loop : tie.InvT-loop
 Inv-loop image registers request fpd levels table level₀ at₀ level at =
-    (level ≤ 5)
+    (0 < level)
+    × (level ≤ 5)
+    × (at % 4096 ≡ 0)
     × (run (pageRules registers (request .address) (request .write) fpd level at) (ofImage image)
     ≡ run (pageRules registers (request .address) (request .write) fpd levels table) (ofImage image))
+    × ((before before′ : Place)
+    → lastTried before (pageRules registers (request .address) (request .write) fpd level at) (ofImage image)
+    ≡ lastTried before′ (pageRules registers (request .address) (request .write) fpd levels table) (ofImage image))
 
 abbrev μ-loop : tie.MeasureT-loop
 μ-loop image registers request fpd levels table level₀ at₀ level at = level
 
 loop-holds : tie.Need-loop-holds Inv-loop μ-loop
-loop-holds c = (search needs, refl)
+loop-holds c =
+    let a = c .before .args in
+    let pre = c .before .pre in
+    (pre .0, pre .1, pre .2, refl, anew (a .registers) (a .request .address) (a .request .write) (a .fpd) (ofImage (a .image .now)) (a .levels) (a .table) (pre .0))
 
 sub-page-step : tie.Need-sub-page-step Inv-loop μ-loop
 sub-page-step c = search needs
 
 page-step-requires : tie.Need-page-step-requires Inv-loop μ-loop
-page-step-requires c κs = search needs
+page-step-requires c κs = let l = c .before .loop in (omega (arith, l .inv .1), l .inv .2)
 
 enum-known-step : tie.Need-enum-known-step Inv-loop μ-loop
 enum-known-step c = search needs
@@ -35,7 +45,8 @@ returns : tie.Need-returns Inv-loop μ-loop
 returns c =
     let a = c .before .before .before .before .before .before .before .args in
     let l = c .before .before .before .before .before .loop in
-    ended (a .registers) (a .request .address) (a .request .write) (a .fpd) (ofImage (a .image .now)) (l .level) (l .at) (omega arith) (sym (ap stepOf (c .before .step .given .1)) ∙ c .before .before .before .page-step .ensures) ∙ l .inv .1
+    let led = sym (ap stepOf (c .before .step .given .1)) ∙ c .before .before .before .page-step .ensures .0 in
+    (ended (a .registers) (a .request .address) (a .request .write) (a .fpd) (ofImage (a .image .now)) (l .level) (l .at) (l .inv .0) led ∙ l .inv .3, λ before. refl)
 
 enum-known-step-2 : tie.Need-enum-known-step-2 Inv-loop μ-loop
 enum-known-step-2 c = search needs
@@ -44,7 +55,14 @@ returns-2 : tie.Need-returns-2 Inv-loop μ-loop
 returns-2 c =
     let a = c .before .before .before .before .before .before .before .args in
     let l = c .before .before .before .before .before .loop in
-    ended (a .registers) (a .request .address) (a .request .write) (a .fpd) (ofImage (a .image .now)) (l .level) (l .at) (omega arith) (sym (ap stepOf (c .before .step2 .given .1)) ∙ c .before .before .before .page-step .ensures) ∙ l .inv .1
+    let led = sym (ap stepOf (c .before .step2 .given .1)) ∙ c .before .before .before .page-step .ensures .0 in
+    let there = sym (ap (λ s. stepPlace s (entryAt (placeIn (a .request .address) (l .at) (l .level - 1)))) (c .before .step2 .given .1)) ∙ c .before .before .before .page-step .ensures .1 in (
+      ended (a .registers) (a .request .address) (a .request .write) (a .fpd) (ofImage (a .image .now)) (l .level) (l .at) (l .inv .0) led ∙ l .inv .3,
+      λ before.
+          there
+          ∙ sym (ended-at (a .registers) (a .request .address) (a .request .write) (a .fpd) (ofImage (a .image .now)) (l .level) (l .at) (l .inv .0) before led)
+          ∙ l .inv .4 before before,
+    )
 
 enum-known-step-3 : tie.Need-enum-known-step-3 Inv-loop μ-loop
 enum-known-step-3 c = search needs
@@ -59,14 +77,21 @@ loop-again : tie.Need-loop-again Inv-loop μ-loop
 loop-again c =
     let a = c .before .before .before .before .before .before .before .args in
     let l = c .before .before .before .before .before .loop in
-    let led = sym (ap stepOf (c .before .step3 .given .1)) ∙ c .before .before .before .page-step .ensures in
-    (omega arith, onward (a .registers) (a .request .address) (a .request .write) (a .fpd) (ofImage (a .image .now)) (l .level) (l .at) (omega arith) led ∙ l .inv .1)
+    let led = sym (ap stepOf (c .before .step3 .given .1)) ∙ c .before .before .before .page-step .ensures .0 in
+    let next = down-to (a .registers) (a .request .address) (a .request .write) (a .fpd) (ofImage (a .image .now)) (l .level - 1) (l .at) led in (
+      next .1,
+      omega (arith, l .inv .1),
+      next .0,
+      onward (a .registers) (a .request .address) (a .request .write) (a .fpd) (ofImage (a .image .now)) (l .level) (l .at) (l .inv .0) led ∙ l .inv .3,
+      λ before before′.
+          anew (a .registers) (a .request .address) (a .request .write) (a .fpd) (ofImage (a .image .now)) (l .level - 1) _ (next .1) before _
+          ∙ sym (onward-at (a .registers) (a .request .address) (a .request .write) (a .fpd) (ofImage (a .image .now)) (l .level) (l .at) (l .inv .0) before led)
+          ∙ l .inv .4 before before′,
+    )
 
+-- no step leads below level 1
 returns-3 : tie.Need-returns-3 Inv-loop μ-loop
-returns-3 c =
-    let a = c .before .before .before .args in
-    let l = c .before .loop in
-    past (a .registers) (a .request .address) (a .request .write) (a .fpd) (ofImage (a .image .now)) (l .level) (l .at) (c .loop-test .left) ∙ l .inv .1
+returns-3 c = absurd (omega (arith, c .before .loop .inv .0, c .loop-test .left))
 
 pub walk-spec : {M : Type 1} → statement M
 walk-spec =

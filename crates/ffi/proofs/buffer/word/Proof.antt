@@ -16,10 +16,10 @@ enum-told : tie.Need-enum-told
 enum-told c = search needs
 
 returns : tie.Need-returns
-returns c = ap (λ (f : Fetched). onFetch f 0 (λ (w : ℕ). w)) (sym (ap fetched8 (c .before .word .given .1)) ∙ c .before .before .before .fetch8 .ensures)
+returns c = ap (λ (f : Fetched). onFetch f 0 (λ (w : ℕ). w)) (sym (ap fetched8 (c .before .word .given .1)) ∙ c .before .before .before .fetch8 .ensures .0)
 
 returns-2 : tie.Need-returns-2
-returns-2 c = ap (λ (f : Fetched). onFetch f 0 (λ (w : ℕ). w)) (sym (ap fetched8 (c .enum-told .given .1)) ∙ c .before .before .fetch8 .ensures)
+returns-2 c = ap (λ (f : Fetched). onFetch f 0 (λ (w : ℕ). w)) (sym (ap fetched8 (c .enum-told .given .1)) ∙ c .before .before .fetch8 .ensures .0)
 
 pub word-spec : {M : Type 1} → statement M
 word-spec = tie.close (tie.spec fetch8-requires enum-known-word enum-told returns returns-2)

@@ -1,6 +1,7 @@
 -- Each case as it came; the fault by its callee.
-use mathlib.Core.Path.{ap}
+use mathlib.Core.Path.{refl, ap, subst}
 use borrow.Author.Needs.{needs}
+use Rattle.interrupts.specs.Answers.{DeliveryNames}
 use Rattle.interrupts.specs.Interrupts.{blocked}
 use Rattle.interrupts.proofs.answer.answer_of.Statement.{statement}
 use Rattle.interrupts.proofs.answer.answer_of.Tie as tie
@@ -21,13 +22,13 @@ returns : tie.Need-returns
 returns c =
     let d = c .before .before in
     let a = d .before .before .args in
-    rw (d .delivery .given .1) (ap blocked (c .interrupt-fault .ensures))
+    (rw (d .delivery .given .1) (ap blocked (c .interrupt-fault .ensures)), λ place names. subst (λ x. DeliveryNames x place) (d .delivery .given .1) names)
 
 returns-2 : tie.Need-returns-2
-returns-2 c = rw (c .before .delivery2 .given .1)
+returns-2 c = (rw (c .before .delivery2 .given .1), λ place names. refl)
 
 returns-3 : tie.Need-returns-3
-returns-3 c = rw (c .before .delivery3 .given .1)
+returns-3 c = (rw (c .before .delivery3 .given .1), λ place names. refl)
 
 pub answer-of-spec : {M : Type 1} → statement M
 answer-of-spec =

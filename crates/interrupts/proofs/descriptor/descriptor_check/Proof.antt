@@ -1,4 +1,5 @@
 -- One test, then what its callee says.
+use mathlib.Core.Path.{refl}
 use borrow.Author.Needs.{needs}
 use Rattle.interrupts.specs.Descriptor.{descriptorCheck}
 use Rattle.interrupts.proofs.descriptor.descriptor_check.Statement.{statement}
@@ -9,14 +10,14 @@ reserved-descriptor-requires c κs = search needs
 
 returns : tie.Need-returns
 unfolding descriptorCheck
-returns c = rw (← c .before .reserved-descriptor .ensures, c .if1 .taken)
+returns c = (rw (← c .before .reserved-descriptor .ensures, c .if1 .taken), refl)
 
 notice-of-requires : tie.Need-notice-of-requires
 notice-of-requires c κs = search needs
 
 returns-2 : tie.Need-returns-2
 unfolding descriptorCheck
-returns-2 c = rw (← c .before .before .reserved-descriptor .ensures, c .before .if1 .left) (cc)
+returns-2 c = (rw (← c .before .before .reserved-descriptor .ensures, c .before .if1 .left) (cc), refl)
 
 pub descriptor-check-spec : {M : Type 1} → statement M
 descriptor-check-spec =

@@ -1,5 +1,5 @@
 -- Each answer by what the fetch and the check tell.
-use mathlib.Core.Path.{ap, sym, _∙_}
+use mathlib.Core.Path.{refl, ap, sym, _∙_}
 use borrow.Author.Needs.{needs}
 use Rattle.image.specs.Memory.{ofImage}
 use Rattle.image.specs.Entries.{fetched64}
@@ -20,9 +20,11 @@ enum-told c = search needs
 returns : tie.Need-returns
 returns c =
     let f = c .before .before in
-    let a = f .before .before .args in
-    no-descriptor (ofImage (a .image .now)) (a .eime) (a .urgent) (a .fpd) (a .vector) (a .at)
-    (sym (ap fetched64 (c .enum-told .given .1)) ∙ f .fetch64 .ensures)
+    let a = f .before .before .args in (
+      no-descriptor (ofImage (a .image .now)) (a .eime) (a .urgent) (a .fpd) (a .vector) (a .at)
+          (sym (ap fetched64 (c .enum-told .given .1)) ∙ f .fetch64 .ensures .0),
+      refl,
+    )
 
 descriptor-check-requires : tie.Need-descriptor-check-requires
 descriptor-check-requires c κs = search needs
@@ -38,20 +40,24 @@ returns-2 c =
     let k = c .before .before in
     let found = k .before .before in
     let f = found .before .before in
-    let a = f .before .before .args in
-    descriptor-checked (ofImage (a .image .now)) (a .eime) (a .urgent) (a .fpd) (a .vector) (a .at)
-    (sym (ap fetched64 (found .d .given .1)) ∙ f .fetch64 .ensures)
-    (sym (ap descriptorChecked (c .enum-told2 .given .1)) ∙ k .descriptor-check .ensures)
+    let a = f .before .before .args in (
+      descriptor-checked (ofImage (a .image .now)) (a .eime) (a .urgent) (a .fpd) (a .vector) (a .at)
+          (sym (ap fetched64 (found .d .given .1)) ∙ f .fetch64 .ensures .0)
+          (sym (ap descriptorChecked (c .enum-told2 .given .1)) ∙ k .descriptor-check .ensures .0),
+      refl,
+    )
 
 returns-3 : tie.Need-returns-3
 returns-3 c =
     let k = c .before .before .before in
     let found = k .before .before in
     let f = found .before .before in
-    let a = f .before .before .args in
-    descriptor-checked (ofImage (a .image .now)) (a .eime) (a .urgent) (a .fpd) (a .vector) (a .at)
-    (sym (ap fetched64 (found .d .given .1)) ∙ f .fetch64 .ensures)
-    (sym (ap descriptorChecked (c .before .notice .given .1)) ∙ k .descriptor-check .ensures)
+    let a = f .before .before .args in (
+      descriptor-checked (ofImage (a .image .now)) (a .eime) (a .urgent) (a .fpd) (a .vector) (a .at)
+          (sym (ap fetched64 (found .d .given .1)) ∙ f .fetch64 .ensures .0)
+          (sym (ap descriptorChecked (c .before .notice .given .1)) ∙ k .descriptor-check .ensures .0),
+      refl,
+    )
 
 pub follow-descriptor-spec : {M : Type 1} → statement M
 follow-descriptor-spec =

@@ -1,12 +1,15 @@
 -- Each answer by what the index and the fetch tell.
-use mathlib.Core.Path.{_≡_, ap, sym, _∙_}
+use Prim.Native.Nat.{_+_, _*_}
+use mathlib.Core.Path.{_≡_, refl, ap, sym, _∙_, subst}
 use borrow.Author.Needs.{needs}
 use Rattle.image.specs.Memory.{ofImage}
 use Rattle.image.specs.Entries.{fetched16}
+use Rattle.image.specs.Place.{Place, entryAt, lastTried, stoppedAt}
 use Rattle.image.specs.Rules.{run}
-use Rattle.irte.specs.Checked.{askedOf}
+use Rattle.irte.specs.Checked.{askedOf, irtePlace}
+use Rattle.interrupts.specs.Answers.{DeliveryNames}
 use Rattle.interrupts.specs.Interrupts.{Delivery, indexRules}
-use Rattle.interrupts.proofs.Stages.{onAsked, out-of-range, no-entry, entry-checked}
+use Rattle.interrupts.proofs.Stages.{onAsked, out-of-range, out-of-range-at, no-entry, no-entry-at, entry-checked, entry-checked-at, descriptor-place}
 use Rattle.interrupts.proofs.remapping.follow_index.Statement.{statement}
 use Rattle.interrupts.proofs.remapping.follow_index.Tie as tie
 
@@ -22,14 +25,16 @@ at-or-above-power-requires c κs = search needs
 returns : tie.Need-returns
 returns c =
     let a = c .before .before .before .before .args in
-    out-of-range (ofImage (a .image .now)) (a .registers) (a .source .id) (a .index)
-    (sym (c .before .at-or-above-power .ensures) ∙ c .if1 .taken)
+    let beyond = sym (c .before .at-or-above-power .ensures) ∙ c .if1 .taken in (
+      out-of-range (ofImage (a .image .now)) (a .registers) (a .source .id) (a .index) beyond,
+      out-of-range-at (ofImage (a .image .now)) (a .registers) (a .source .id) (a .index) beyond,
+    )
 
-mul-fetch16 : tie.Need-mul-fetch16
-mul-fetch16 c = search needs
+mul-at : tie.Need-mul-at
+mul-at c = search needs
 
-add-fetch16 : tie.Need-add-fetch16
-add-fetch16 c = search needs
+add-at : tie.Need-add-at
+add-at c = search needs
 
 fetch16-requires : tie.Need-fetch16-requires
 fetch16-requires c κs = search needs
@@ -45,9 +50,11 @@ returns-2 c =
     let f = c .before .before in
     let i = f .before .before in
     let a = i .before .before .before .before .args in
-    no-entry (ofImage (a .image .now)) (a .registers) (a .source .id) (a .index)
-    (sym (i .before .at-or-above-power .ensures) ∙ i .if1 .left)
-    (sym (ap fetched16 (c .enum-told .given .1)) ∙ f .fetch16 .ensures)
+    let inside = sym (i .before .at-or-above-power .ensures) ∙ i .if1 .left in
+    let none = sym (ap fetched16 (c .enum-told .given .1)) ∙ f .fetch16 .ensures .0 in (
+      no-entry (ofImage (a .image .now)) (a .registers) (a .source .id) (a .index) inside none,
+      no-entry-at (ofImage (a .image .now)) (a .registers) (a .source .id) (a .index) inside none,
+    )
 
 irte-check-requires : tie.Need-irte-check-requires
 irte-check-requires c κs = search needs
@@ -63,7 +70,20 @@ asks c =
     let a = i .before .before .before .before .args in
     entry-checked (ofImage (a .image .now)) (a .registers) (a .source .id) (a .index)
     (sym (i .before .at-or-above-power .ensures) ∙ i .if1 .left)
-    (sym (ap fetched16 (found .e .given .1)) ∙ f .fetch16 .ensures) (c .irte-check .ensures)
+    (sym (ap fetched16 (found .e .given .1)) ∙ f .fetch16 .ensures .0) (c .irte-check .ensures .0)
+
+-- and it stops where the rules stop
+stops : (c : tie.After-irte-check)
+    → lastTried (entryAt (c .before .before .before .before .before .before .before .before .before .before .args .registers .«interrupt_table» + 16 * c .before .before .before .before .before .before .before .before .before .before .args .index)) (onAsked (c .before .before .before .before .before .before .before .before .before .before .args .registers .eime) (askedOf (c .irte-check .result))) (ofImage (c .before .before .before .before .before .before .before .before .before .before .args .image .now))
+    ≡ stoppedAt (indexRules (c .before .before .before .before .before .before .before .before .before .before .args .registers) (c .before .before .before .before .before .before .before .before .before .before .args .source .id) (c .before .before .before .before .before .before .before .before .before .before .args .index)) (ofImage (c .before .before .before .before .before .before .before .before .before .before .args .image .now))
+stops c =
+    let found = c .before .before in
+    let f = found .before .before in
+    let i = f .before .before in
+    let a = i .before .before .before .before .args in
+    entry-checked-at (ofImage (a .image .now)) (a .registers) (a .source .id) (a .index)
+    (sym (i .before .at-or-above-power .ensures) ∙ i .if1 .left)
+    (sym (ap fetched16 (found .e .given .1)) ∙ f .fetch16 .ensures .0) (c .irte-check .ensures .0)
 
 enum-known-remapped : tie.Need-enum-known-remapped
 enum-known-remapped c = search needs
@@ -81,18 +101,33 @@ returns-3 : tie.Need-returns-3
 unfolding run
 returns-3 c =
     let v = c .before in
-    asks (v .before .before) (rw (v .remapped .given .1))
+    (asks (v .before .before) (rw (v .remapped .given .1)), refl)
 
 returns-4 : tie.Need-returns-4
 returns-4 c =
     let v = c .before .before in
-    asks (v .before .before) (rw (v .descriptor .given .1) (c .follow-descriptor .ensures))
+    let k = v .before .before in
+    let a = k .before .before .before .before .before .before .before .before .before .before .args in
+    let there = stops k in (
+      asks k (rw (v .descriptor .given .1) (c .follow-descriptor .ensures .0)),
+      subst (λ (p : Place). DeliveryNames (c .follow-descriptor .result) p)
+          (descriptor-place (ofImage (a .image .now)) (a .registers .eime) _ _ _ _ (entryAt (a .registers .«interrupt_table» + 16 * a .index))
+          ∙ (rw (v .descriptor .given .1) at there))
+          (c .follow-descriptor .ensures .1),
+    )
 
 returns-5 : tie.Need-returns-5
-unfolding run
+unfolding run lastTried
 returns-5 c =
     let v = c .before in
-    asks (v .before .before) (rw (v .reason .given .1))
+    let k = v .before .before in
+    let a = k .before .before .before .before .before .before .before .before .before .before .args in
+    let there = stops k in (
+      asks k (rw (v .reason .given .1)),
+      sym (ap (λ r. irtePlace r (entryAt (a .registers .«interrupt_table» + 16 * a .index))) (v .reason .given .1))
+          ∙ k .irte-check .ensures .1
+          ∙ (rw (v .reason .given .1) at there),
+    )
 
 pub follow-index-spec : {M : Type 1} → statement M
 follow-index-spec =
@@ -102,8 +137,8 @@ follow-index-spec =
     add-at-or-above-power
     at-or-above-power-requires
     returns
-    mul-fetch16
-    add-fetch16
+    mul-at
+    add-at
     fetch16-requires
     enum-known-e
     enum-told

@@ -1,0 +1,34 @@
+-- A blocked memory request stopped at an entry.
+use Prim.Native.Nat.{ℕ}
+use mathlib.Core.Path.{_≡_, sym, _∙_, subst}
+use native.Mathlib.Omega.{arith}
+use Rattle.image.specs.Memory.{ofImage}
+use Rattle.image.specs.Place.{Place, noEntry, entryAt, stoppedAt}
+use Rattle.image.specs.Rules.{Rules, run, mapRules}
+use Rattle.image.proofs.Places.{Some, some-fetch, tried-map}
+use Rattle.registers.specs.Admission.{Admitted, refusal, pass, take, admission, onAdmission, inInterruptRange}
+use Rattle.registers.specs.declared.Registers.{Registers}
+use Rattle.dma.specs.Isolation.{AlwaysAnEntry}
+use Rattle.dma.specs.Lookup.{rootRules}
+use Rattle.dma.specs.Requests.{MemoryOutcome, granted, blocked, refused, memoryOutcome, concerned, memoryRules}
+use Rattle.dma.specs.Translation.{Translation, translationRules}
+use Rattle.dma.specs.declared.MemoryRequest.{MemoryRequest}
+
+pub always-an-entry : AlwaysAnEntry
+unfolding memoryRules run rootRules
+always-an-entry registers request image f ended none = on (admission registers (inInterruptRange (request .address)) (registers .te)) ended none
+  where
+    rules : Rules Translation
+    rules = translationRules registers (request .address) (request .write) (request .source .id)
+
+    tree : Admitted → Rules MemoryOutcome
+    tree a = onAdmission a refused (granted (request .address)) (mapRules (memoryOutcome request) rules)
+
+    on : (a : Admitted) → run (tree a) (ofImage image) ≡ blocked f
+        → concerned (run (tree a) (ofImage image)) (stoppedAt (tree a) (ofImage image)) ≡ noEntry → ⊥
+    on (refusal n) ended none = let z : _≡_ {A = ℕ} 0 1 = cc in omega arith
+    on pass ended none = let z : _≡_ {A = ℕ} 0 1 = cc in omega arith
+    on take ended none =
+        let there : stoppedAt (tree take) (ofImage image) ≡ noEntry = rw ended at none in
+        subst Some (sym (tried-map (memoryOutcome request) noEntry rules (ofImage image)) ∙ there)
+        (some-fetch _ _ _ _ (ofImage image))
