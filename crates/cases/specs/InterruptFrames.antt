@@ -35,7 +35,7 @@ abbrev pub frameRows : List ℕ → List Row
 frameRows image =
     -- 4 KiB: the range's first page, its right to write lacking; its last; the pages beside it
     row 1 image 0x0310 (read 0xABC) (refusal 4)
-    ∷ row 2 image 0x0310 (write 0xABC) (fault 0x05 0 0x8000000500000310)
+    ∷ row 2 image 0x0310 (write 0xABC) (fault 0x05 0 0x8000000500000310 0x5000)
     ∷ row 3 image 0x0310 (write 0x1FFF) (refusal 4)
     ∷ row 4 image 0x0310 (read 0x2FFF) (host 0xFEDFFFFF)
     ∷ row 5 image 0x0310 (read 0x3000) (host 0xFEF00000)
