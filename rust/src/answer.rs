@@ -26,6 +26,8 @@ pub enum Refusal {
     BadRecorder,
     /// 4: the walk of a memory request ended with a page that has a byte in FEE00000h to FEEFFFFFh.
     PageInInterruptRange,
+    /// 5: a descriptor to take from isn't 64-aligned, or doesn't lie whole in the image.
+    BadDescriptor,
     /// A number that this version doesn't name. Number 0 is for an archive that doesn't keep to the
     /// header this crate was written for, so that even then nothing is granted or delivered.
     Other(u8),
@@ -41,6 +43,7 @@ impl Refusal {
             Self::WrongAddress => 2,
             Self::BadRecorder => 3,
             Self::PageInInterruptRange => 4,
+            Self::BadDescriptor => 5,
             Self::Other(number) => number,
         }
     }
@@ -53,6 +56,7 @@ impl From<u8> for Refusal {
             2 => Self::WrongAddress,
             3 => Self::BadRecorder,
             4 => Self::PageInInterruptRange,
+            5 => Self::BadDescriptor,
             _ => Self::Other(number),
         }
     }
@@ -65,6 +69,7 @@ impl fmt::Display for Refusal {
             Self::WrongAddress => f.write_str("refusal 2: address of the wrong kind"),
             Self::BadRecorder => f.write_str("refusal 3: bad recorder, record buffer or slot"),
             Self::PageInInterruptRange => f.write_str("refusal 4: page in the interrupt range"),
+            Self::BadDescriptor => f.write_str("refusal 5: descriptor misaligned or outside the image"),
             Self::Other(number) => write!(f, "refusal {number}"),
         }
     }
@@ -122,6 +127,45 @@ impl MemoryAnswer {
 impl<'a> From<&'a MemoryAnswer> for Option<&'a Fault> {
     fn from(answer: &'a MemoryAnswer) -> Self {
         answer.fault()
+    }
+}
+
+/// What a take from a posted interrupt descriptor hands out.
+///
+/// ```
+/// use galitzaf::TakeAnswer;
+///
+/// assert_eq!(TakeAnswer::Vector(0x31).vector(), Some(0x31));
+/// assert_eq!(TakeAnswer::Nothing.vector(), None);
+/// ```
+#[derive(Clone, Copy, Debug, PartialEq, Eq, Hash)]
+#[must_use]
+pub enum TakeAnswer {
+    /// The highest vector that was posted and not yet taken. Its request bit is clear now.
+    Vector(u8),
+    /// No request bit stands.
+    Nothing,
+    /// The take was refused.
+    Refused(Refusal),
+}
+
+impl TakeAnswer {
+    /// The vector, if one was handed out.
+    pub const fn vector(&self) -> Option<u8> {
+        match self {
+            Self::Vector(vector) => Some(*vector),
+            _ => None,
+        }
+    }
+
+    pub(crate) fn decode(status: u32) -> Self {
+        if status == ffi::NONE_STANDS {
+            return Self::Nothing;
+        }
+        if let Some(Ok(vector)) = status.checked_sub(ffi::TAKEN).map(u8::try_from) {
+            return Self::Vector(vector);
+        }
+        Self::Refused(u8::try_from(status).map_or(Refusal::INTERFACE, Refusal::from))
     }
 }
 

@@ -32,6 +32,8 @@ pub(crate) const SLOT_CLEARED: u32 = 0x21;
 pub(crate) const OVERFLOW_CLEAR: u32 = 0x30;
 pub(crate) const OVERFLOW_CLEARED: u32 = 0x31;
 pub(crate) const METERS_REFUSED: u32 = 0x60;
+pub(crate) const NONE_STANDS: u32 = 0x40;
+pub(crate) const TAKEN: u32 = 0x200;
 
 extern "C" {
     fn galitzaf_memory_request(
@@ -56,6 +58,14 @@ extern "C" {
         data: u32,
         answer: *mut u8,
         answer_len: usize,
+    ) -> u32;
+
+    fn galitzaf_take(
+        registers: *const u8,
+        registers_len: usize,
+        image: *mut u8,
+        image_len: usize,
+        descriptor: u64,
     ) -> u32;
 
     fn galitzaf_record(
@@ -153,6 +163,21 @@ pub(crate) fn interrupt_request(
         )
     };
     (status == OK).then_some(answer)
+}
+
+/// What the library said to a take.
+pub(crate) fn take(registers: &[u8; REGISTERS_SIZE], image: &mut [u8], descriptor: u64) -> u32 {
+    // SAFETY: each pointer and length is that of a live slice or array. `image`, which is written,
+    // is lent by `&mut`, so that it overlaps no other. None is kept after the call.
+    unsafe {
+        galitzaf_take(
+            registers.as_ptr(),
+            registers.len(),
+            image.as_mut_ptr(),
+            image.len(),
+            descriptor,
+        )
+    }
 }
 
 /// What the library said to recording the fault of an answer.

@@ -69,7 +69,7 @@ mod unit;
 
 pub use answer::{
     DeliveryMode, DestinationMode, InterruptAnswer, MemoryAnswer, Notification, Refusal, Remapped,
-    TriggerMode,
+    TakeAnswer, TriggerMode,
 };
 pub use fault::{Fault, FaultRecord, Reason};
 pub use meters::{Gate, Meters, MetersError};

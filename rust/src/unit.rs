@@ -2,7 +2,7 @@
 
 use crate::ffi::{self, REGISTERS_SIZE};
 use crate::{Access, InterruptAnswer, InterruptRequest, MemoryAnswer, MemoryRequest};
-use crate::{Refusal, Registers};
+use crate::{Refusal, Registers, TakeAnswer};
 
 /// A remapping unit: its registers, ready to answer requests over any image of guest memory.
 ///
@@ -68,6 +68,32 @@ impl Unit {
             InterruptAnswer::Refused(Refusal::INTERFACE),
             InterruptAnswer::decode,
         )
+    }
+
+    /// Takes from the posted interrupt descriptor at a host address: its highest request bit is
+    /// cleared and the vector handed out, or there is none. The descriptor's ON bit is cleared
+    /// either way, so that the next post has a notification again; a refused take leaves the image
+    /// as it came.
+    ///
+    /// ```
+    /// use galitzaf::{Levels, Refusal, Registers, TakeAnswer, Unit};
+    ///
+    /// let unit = Unit::new(&Registers {
+    ///     haw: 39, mgaw: 48, levels: Levels { four: true, ..Levels::NONE }, ..Registers::default()
+    /// });
+    /// // A descriptor at 40h in which vectors 31h and 80h were posted, with ON set.
+    /// let mut image = [0; 0x80];
+    /// image[0x46] = 0x02;
+    /// image[0x50] = 0x01;
+    /// image[0x60] = 0x01;
+    /// assert_eq!(unit.take(&mut image, 0x40), TakeAnswer::Vector(0x80));
+    /// assert_eq!(unit.take(&mut image, 0x40), TakeAnswer::Vector(0x31));
+    /// assert_eq!(unit.take(&mut image, 0x40), TakeAnswer::Nothing);
+    /// assert_eq!(image, [0; 0x80]);
+    /// assert_eq!(unit.take(&mut image, 0x41), TakeAnswer::Refused(Refusal::BadDescriptor));
+    /// ```
+    pub fn take(&self, image: &mut [u8], descriptor: u64) -> TakeAnswer {
+        TakeAnswer::decode(ffi::take(&self.registers, image, descriptor))
     }
 }
 

@@ -34,11 +34,21 @@ pub enum Flaw {
     BandEndsOutside,
     /// A refused tick ticks the meters before the bad one.
     RefusalTicks,
+    /// A take hands out the lowest request bit.
+    LowestTaken,
+    /// A take leaves the bit that it hands out.
+    VectorKept,
+    /// A take leaves ON where no request bit stands.
+    OnKeptAtNone,
+    /// A take clears SN too.
+    SnCleared,
+    /// A take answers at a 32-aligned descriptor.
+    AlignedTo32,
 }
 
 impl Flaw {
     /// Each of them.
-    pub const ALL: [Flaw; 16] = [
+    pub const ALL: [Flaw; 21] = [
         Flaw::Known(Slip::Index16),
         Flaw::Known(Slip::LastEntryRights),
         Flaw::Known(Slip::MaskLargeFrame),
@@ -55,6 +65,11 @@ impl Flaw {
         Flaw::LimitTripsAtEquality,
         Flaw::BandEndsOutside,
         Flaw::RefusalTicks,
+        Flaw::LowestTaken,
+        Flaw::VectorKept,
+        Flaw::OnKeptAtNone,
+        Flaw::SnCleared,
+        Flaw::AlignedTo32,
     ];
 
     /// Whether it can make a difference in a part.
@@ -70,6 +85,14 @@ impl Flaw {
                 | Flaw::RefusalTicks,
                 part,
             ) => matches!(part, Part::Meters),
+            (
+                Flaw::LowestTaken
+                | Flaw::VectorKept
+                | Flaw::OnKeptAtNone
+                | Flaw::SnCleared
+                | Flaw::AlignedTo32,
+                part,
+            ) => matches!(part, Part::Takes),
             (_, part) => matches!(part, Part::Recorder),
         }
     }

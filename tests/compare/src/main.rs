@@ -22,6 +22,7 @@ mod pool;
 mod print;
 mod recorder;
 mod runs;
+mod takes;
 mod tally;
 mod wanted;
 

@@ -12,7 +12,7 @@ use interface::{ANSWER_SIZE, RECORDER_SIZE, RECORDS_SIZE, REGISTERS_SIZE};
 pub const NAME: &str = "malformed";
 
 /// Calls.
-pub const CALLS: u64 = 12 * 500;
+pub const CALLS: u64 = 13 * 500;
 
 /// The arguments of any call.
 #[derive(Clone, PartialEq, Eq)]
@@ -76,7 +76,7 @@ fn spoil_place(random: &mut Random, arguments: &mut Arguments) {
 /// What is called, and what is wrong with it.
 fn spoil(random: &mut Random, which: u64, arguments: &mut Arguments) -> (Call, u32) {
     match which {
-        0 | 1 => spoil_registers(random, &mut arguments.registers),
+        0 | 1 | 12 => spoil_registers(random, &mut arguments.registers),
         2 | 3 => resized(random, &mut arguments.answer),
         4 => arguments.write = 2 + random.below(254) as u8,
         5 => spoil_recorded(random, &mut arguments.answer),
@@ -95,7 +95,8 @@ fn spoil(random: &mut Random, which: u64, arguments: &mut Arguments) -> (Call, u
         8 => (Call::ClearOverflow, 0x104),
         9 => (Call::Record, 0x03),
         10 => (Call::ClearSlot, 0x03),
-        _ => (Call::ClearOverflow, 0x03),
+        11 => (Call::ClearOverflow, 0x03),
+        _ => (Call::Take, 0x101),
     }
 }
 
@@ -115,6 +116,7 @@ fn call(which: Call, arguments: &mut Arguments) -> u32 {
         Call::Interrupt => {
             interface::interrupt_request(registers, image, bench::SOURCE, 0xFEE0_0090, 0, answer)
         }
+        Call::Take => interface::take(registers, image, 0x6400),
         Call::Record => interface::record(answer, records, recorder),
         Call::ClearSlot => interface::clear_slot(records, recorder, 0),
         Call::ClearOverflow => interface::clear_overflow(records, recorder),
@@ -135,7 +137,7 @@ pub fn run(number: u64, tally: Option<&mut Tally>) -> Result<(), String> {
         recorder: [0; RECORDER_SIZE].to_vec(),
     };
     debug_assert_eq!(before.registers.len(), REGISTERS_SIZE);
-    let (which, expected) = spoil(&mut random, number % 12, &mut before);
+    let (which, expected) = spoil(&mut random, number % 13, &mut before);
     let mut after = before.clone();
     let status = call(which, &mut after);
     if status != expected || after != before {

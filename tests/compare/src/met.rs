@@ -42,6 +42,12 @@ pub enum Met {
         call: Call,
         status: u32,
     },
+    /// A take that handed out a vector of this word of the request bits, with ON off or on before.
+    Taken { word: u8, on: bool },
+    /// A take where no request bit stood, with ON off or on before.
+    NoneStands { on: bool },
+    /// A take refused, by number, at an aligned descriptor or another.
+    TakeRefused { number: u8, aligned: bool },
     /// A malformed call, by what it answered.
     Malformed { call: Call, status: u32 },
     /// A context entry with this AW was read.
@@ -81,6 +87,8 @@ pub enum Call {
     Memory,
     /// `galitzaf_interrupt_request`.
     Interrupt,
+    /// `galitzaf_take`.
+    Take,
     /// `galitzaf_record`.
     Record,
     /// `galitzaf_clear_slot`.
@@ -152,6 +160,15 @@ impl fmt::Display for Met {
                 call,
                 status,
             } => write!(f, "recorder, {slots} slots: {call}, {}", said(status)),
+            Met::Taken { word, on } => {
+                let (high, low) = (64 * u32::from(word) + 63, 64 * u32::from(word));
+                write!(f, "take: a vector of {high}:{low}, ON {}", u8::from(on))
+            }
+            Met::NoneStands { on } => write!(f, "take: none stands, ON {}", u8::from(on)),
+            Met::TakeRefused { number, aligned } => {
+                let place = if aligned { "64-aligned" } else { "not 64-aligned" };
+                write!(f, "take: refused {number}, {place}")
+            }
             Met::Malformed { call, status } => write!(f, "malformed: {call}, {}", said(status)),
             Met::Width(aw) => write!(f, "context entry read: AW {aw}"),
             Met::Type(tt) => write!(f, "context entry read: TT {tt}"),
@@ -228,6 +245,7 @@ impl fmt::Display for Call {
         f.write_str(match self {
             Call::Memory => "memory request",
             Call::Interrupt => "interrupt request",
+            Call::Take => "take",
             Call::Record => "record",
             Call::ClearSlot => "clear slot",
             Call::ClearOverflow => "clear overflow",

@@ -1,4 +1,5 @@
-//! The parts of a run: the suites of worlds, the recorder's sequences, the malformed calls, the rows of meters.
+//! The parts of a run: the suites of worlds, the recorder's sequences, runs of posts and takes, the
+//! malformed calls, the rows of meters.
 
 use crate::flaw::Flaw;
 use crate::judge::Judge;
@@ -7,6 +8,7 @@ use crate::meters::{self, Row};
 use crate::pool::Pool;
 use crate::print::print_world;
 use crate::recorder::{self, Sequence};
+use crate::takes::{self, Run};
 use crate::tally::Tally;
 use cases::{Suite, World, SUITES};
 
@@ -17,6 +19,8 @@ pub enum Part {
     Worlds(&'static Suite),
     /// Recorder calls.
     Recorder,
+    /// Posts and takes.
+    Takes,
     /// Malformed calls.
     Malformed,
     /// Calls on meters.
@@ -26,7 +30,12 @@ pub enum Part {
 impl Part {
     /// Each of them.
     pub fn all() -> impl Iterator<Item = Part> {
-        let others = [Part::Recorder, Part::Malformed, Part::Meters];
+        let others = [
+            Part::Recorder,
+            Part::Takes,
+            Part::Malformed,
+            Part::Meters,
+        ];
         SUITES.iter().map(Part::Worlds).chain(others)
     }
 
@@ -35,6 +44,7 @@ impl Part {
         match self {
             Part::Worlds(suite) => suite.name,
             Part::Recorder => recorder::NAME,
+            Part::Takes => takes::NAME,
             Part::Malformed => malformed::NAME,
             Part::Meters => meters::NAME,
         }
@@ -45,6 +55,7 @@ impl Part {
         match self {
             Part::Worlds(suite) => suite.worlds,
             Part::Recorder => recorder::SEQUENCES,
+            Part::Takes => takes::RUNS,
             Part::Malformed => malformed::CALLS,
             Part::Meters => meters::ROWS,
         }
@@ -83,6 +94,7 @@ impl Runner {
                 self.judge.world(&self.world, tally)
             }
             Part::Recorder => Sequence::build(number, &self.pool).run(self.flaw, tally),
+            Part::Takes => Run::build(number).run(self.flaw, tally),
             Part::Malformed => malformed::run(number, tally),
             Part::Meters => Row::build(number).run(self.flaw, tally),
         }
@@ -96,6 +108,7 @@ impl Runner {
                 print_world(&self.world);
             }
             Part::Recorder => Sequence::build(number, &self.pool).print(),
+            Part::Takes => Run::build(number).print(),
             Part::Malformed => {}
             Part::Meters => Row::build(number).print(),
         }

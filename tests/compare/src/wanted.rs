@@ -78,10 +78,21 @@ fn recorder(wanted: &mut Vec<Met>) {
     }
 }
 
+fn takes(wanted: &mut Vec<Met>) {
+    for on in [false, true] {
+        wanted.extend((0..4).map(|word| Met::Taken { word, on }));
+        wanted.push(Met::NoneStands { on });
+    }
+    for number in [1, 5] {
+        wanted.extend([false, true].map(|aligned| Met::TakeRefused { number, aligned }));
+    }
+}
+
 fn malformed(wanted: &mut Vec<Met>) {
     for (call, statuses) in [
         (Call::Memory, [0x101, 0x102, 0x103].as_slice()),
         (Call::Interrupt, &[0x101, 0x102]),
+        (Call::Take, &[0x101]),
         (Call::Record, &[0x03, 0x102, 0x104]),
         (Call::ClearSlot, &[0x03, 0x104]),
         (Call::ClearOverflow, &[0x03, 0x104]),
@@ -134,6 +145,7 @@ pub fn all() -> Vec<Met> {
     memory(&mut wanted);
     interrupts(&mut wanted);
     recorder(&mut wanted);
+    takes(&mut wanted);
     malformed(&mut wanted);
     entries(&mut wanted);
     wanted.extend(Seen::all().map(Met::Meters));

@@ -45,6 +45,14 @@ extern "C" {
         answer_len: usize,
     ) -> u32;
 
+    fn galitzaf_take(
+        registers: *const u8,
+        registers_len: usize,
+        image: *mut u8,
+        image_len: usize,
+        descriptor: u64,
+    ) -> u32;
+
     fn galitzaf_record(
         answer: *const u8,
         answer_len: usize,
@@ -120,6 +128,21 @@ pub fn interrupt_request(
             data,
             answer.as_mut_ptr(),
             answer.len(),
+        )
+    }
+}
+
+/// `galitzaf_take`.
+pub fn take(registers: &[u8], image: &mut [u8], descriptor: u64) -> u32 {
+    // SAFETY: each pointer and length is that of a live slice. `image`, which is written, is lent by
+    // `&mut`, so that it overlaps no other. None is kept after the call.
+    unsafe {
+        galitzaf_take(
+            registers.as_ptr(),
+            registers.len(),
+            image.as_mut_ptr(),
+            image.len(),
+            descriptor,
         )
     }
 }
