@@ -69,7 +69,9 @@ impl fmt::Display for Refusal {
             Self::WrongAddress => f.write_str("refusal 2: address of the wrong kind"),
             Self::BadRecorder => f.write_str("refusal 3: bad recorder, record buffer or slot"),
             Self::PageInInterruptRange => f.write_str("refusal 4: page in the interrupt range"),
-            Self::BadDescriptor => f.write_str("refusal 5: descriptor misaligned or outside the image"),
+            Self::BadDescriptor => {
+                f.write_str("refusal 5: descriptor misaligned or outside the image")
+            }
             Self::Other(number) => write!(f, "refusal {number}"),
         }
     }

@@ -166,7 +166,11 @@ impl fmt::Display for Met {
             }
             Met::NoneStands { on } => write!(f, "take: none stands, ON {}", u8::from(on)),
             Met::TakeRefused { number, aligned } => {
-                let place = if aligned { "64-aligned" } else { "not 64-aligned" };
+                let place = if aligned {
+                    "64-aligned"
+                } else {
+                    "not 64-aligned"
+                };
                 write!(f, "take: refused {number}, {place}")
             }
             Met::Malformed { call, status } => write!(f, "malformed: {call}, {}", said(status)),

@@ -30,12 +30,7 @@ pub enum Part {
 impl Part {
     /// Each of them.
     pub fn all() -> impl Iterator<Item = Part> {
-        let others = [
-            Part::Recorder,
-            Part::Takes,
-            Part::Malformed,
-            Part::Meters,
-        ];
+        let others = [Part::Recorder, Part::Takes, Part::Malformed, Part::Meters];
         SUITES.iter().map(Part::Worlds).chain(others)
     }
 

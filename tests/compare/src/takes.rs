@@ -57,7 +57,10 @@ fn image(random: &mut Random) -> Vec<u8> {
             0 => random.pick(&[0, 1, 0x3F, 0x40, 0x7F, 0x80, 0xBF, 0xC0, 0xFE, 0xFF]),
             _ => random.below(256),
         };
-        set(16 * n, to << 32 | vector << 16 | random.below(2) << 14 | 0x8001);
+        set(
+            16 * n,
+            to << 32 | vector << 16 | random.below(2) << 14 | 0x8001,
+        );
     }
     for descriptor in &DESCRIPTORS[1..] {
         for n in 0..4 {
@@ -65,9 +68,16 @@ fn image(random: &mut Random) -> Vec<u8> {
             let word = if random.coin() { 0 } else { few };
             set(*descriptor as usize + 8 * n, word);
         }
-        set(*descriptor as usize + 32, 0x0000_0700_00F2_0000 | random.below(4));
+        set(
+            *descriptor as usize + 32,
+            0x0000_0700_00F2_0000 | random.below(4),
+        );
     }
-    let length = if random.one_in(8) { LENGTH - random.below(65) as usize } else { LENGTH };
+    let length = if random.one_in(8) {
+        LENGTH - random.below(65) as usize
+    } else {
+        LENGTH
+    };
     image.truncate(length);
     image
 }
@@ -91,11 +101,19 @@ impl Run {
         let image = image(&mut random);
         let length = 1 + random.below(48);
         let steps = (0..length).map(|_| match random.below(3) {
-            0 => Step::Post { handle: random.below(34) },
-            _ => Step::Take { descriptor: descriptor(&mut random) },
+            0 => Step::Post {
+                handle: random.below(34),
+            },
+            _ => Step::Take {
+                descriptor: descriptor(&mut random),
+            },
         });
         let steps = steps.collect();
-        Self { registers, image, steps }
+        Self {
+            registers,
+            image,
+            steps,
+        }
     }
 
     /// Runs it on both sides.
@@ -110,9 +128,17 @@ impl Run {
             let (expected, answered) = match *step {
                 Step::Post { handle } => {
                     let address = 0xFEE0_0010 | handle << 5;
-                    let outcome = interrupt_request(&self.registers, &mut theirs, 0x0310, address, 0);
+                    let outcome =
+                        interrupt_request(&self.registers, &mut theirs, 0x0310, address, 0);
                     let mut answer = [0; ANSWER_SIZE];
-                    interface::interrupt_request(&packed, ours.content_mut(), 0x0310, address, 0, &mut answer);
+                    interface::interrupt_request(
+                        &packed,
+                        ours.content_mut(),
+                        0x0310,
+                        address,
+                        0,
+                        &mut answer,
+                    );
                     if let Outcome::Posted { .. } = outcome {
                         books.posted(&before, handle);
                     }
@@ -133,7 +159,9 @@ impl Run {
                 tally.cases += 1;
             }
             if expected != answered || ours.content() != theirs || !ours.kept() {
-                return Err(format!("step {n}, {step}: {answered:X}h, expected {expected:X}h"));
+                return Err(format!(
+                    "step {n}, {step}: {answered:X}h, expected {expected:X}h"
+                ));
             }
         }
         books.balance(ours.content())
@@ -161,9 +189,15 @@ fn status_of(taken: Take) -> u32 {
 fn met(before: &[u8], descriptor: u64, taken: Take) -> Met {
     let bit = |at: usize| before[descriptor as usize + at] & 1 == 1;
     match taken {
-        Take::Vector(vector) => Met::Taken { word: vector / 64, on: bit(32) },
+        Take::Vector(vector) => Met::Taken {
+            word: vector / 64,
+            on: bit(32),
+        },
         Take::None => Met::NoneStands { on: bit(32) },
-        Take::Refused(number) => Met::TakeRefused { number, aligned: descriptor % 64 == 0 },
+        Take::Refused(number) => Met::TakeRefused {
+            number,
+            aligned: descriptor % 64 == 0,
+        },
     }
 }
 
@@ -214,7 +248,9 @@ impl Flaw {
     /// The reference's take, with the flaw.
     fn take(self, registers: &Registers, image: &mut [u8], descriptor: u64) -> Take {
         let before = image.to_vec();
-        let whole = descriptor.checked_add(64).is_some_and(|end| end <= before.len() as u64);
+        let whole = descriptor
+            .checked_add(64)
+            .is_some_and(|end| end <= before.len() as u64);
         if self == Flaw::AlignedTo32 && descriptor % 64 == 32 && whole {
             return Take::None;
         }
