@@ -54,7 +54,7 @@ pub fn byte(meter: Meter) -> u8
     ensures { λ r. ⌜ r ≡ byteOf meter ⌝ }
 {
     let gate = meter.gate;
-    if trips(gate, meter.load) { 1 } else { 0 }
+    trips(gate, meter.load) as u8
 }
 
 pub fn clear(meter: Meter) -> Meter
