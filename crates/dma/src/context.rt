@@ -11,6 +11,7 @@ use crate::entry::present;
 use crate::entry::table_address;
 use faults::Reason;
 use image::Entry16;
+use image::any_set16;
 use image::bit16;
 use image::bits16;
 use registers::Registers;
@@ -80,9 +81,9 @@ fn width_supported(registers: Registers, aw: u64) -> bool
 fn context_reserved(haw: u8, e: Entry16) -> bool
     ensures { λ r. ⌜ r ≡ contextReserved haw (number16 e) ⌝ }
 {
-    (bits16(e, 11, 4) != 0)
+    any_set16(e, 11, 4)
         | bit16(e, 71)
-        | (bits16(e, 127, 88) != 0)
+        | any_set16(e, 127, 88)
         | at_or_above_power(e.low, haw as u32)
 }
 

@@ -17,7 +17,6 @@ use image::field;
 use image::in_place;
 use image::page_entry8;
 use registers::Page1G;
-use registers::Page2M;
 use registers::Page4K;
 use registers::Registers;
 use registers::at_or_above_power;
@@ -123,25 +122,12 @@ pub(crate) fn page_step(
     Step::Down(frame)
 }
 
-// Of an address in a page by the level of its entry: the low 12, 21 or 30 bits.
-fn offset(level: u32, address: u64) -> u64
-    requires { ⌜ (0 < level) × (level ≤ 3) ⌝ }
-    ensures { λ r. ⌜ (r ≡ bits address (11 + 9 * (level - 1)) 0) × (r < 2 ^ 30) ⌝ }
-{
-    if level == 1 {
-        return Page4K::offset(address);
-    }
-    if level == 2 {
-        return Page2M::offset(address);
-    }
-    Page1G::offset(address)
-}
-
+// The frame plus the address's low 12, 21 or 30 bits: a shift by the level, where a choice among the page sizes costs branches.
 pub(crate) fn host_address(level: u32, frame: u64, address: u64) -> u64
     requires { ⌜ Reachable (leaf frame level) ⌝ }
     ensures { λ r. ⌜ r ≡ hostAddress level frame address ⌝ }
 {
-    frame + offset(level, address)
+    frame + address % (1u64 << (Page4K::SHIFT + 9 * (level - 1)))
 }
 
 // Some byte of the page lies in the interrupt range. A page has at most 1 GiB, so most frames are told by themselves.

@@ -9,14 +9,14 @@ use crate::entry::present;
 use crate::entry::table_address;
 use faults::Reason;
 use image::Entry16;
-use image::bits16;
+use image::any_set16;
 use registers::at_or_above_power;
 
 // Bits 11:1, 127:64 and 63:HAW.
 fn root_reserved(haw: u8, e: Entry16) -> bool
     ensures { λ r. ⌜ r ≡ rootReserved haw (number16 e) ⌝ }
 {
-    (bits16(e, 11, 1) != 0) | (bits16(e, 127, 64) != 0) | at_or_above_power(e.low, haw as u32)
+    any_set16(e, 11, 1) | any_set16(e, 127, 64) | at_or_above_power(e.low, haw as u32)
 }
 
 // The context table's address.
