@@ -78,15 +78,17 @@ fn answer(
 
     let address = address.to_le_bytes();
     let data = data.to_le_bytes();
-    let blocked = |reason: u8, fpd: bool, index: u128| {
-        Outcome::Blocked(interrupt_fault(reason, fpd, source, index))
+    // A fault answers with the host address of the entry concerned; 20h, 21h
+    // and 25h give none.
+    let blocked = |reason: u8, fpd: bool, index: u128, entry: Option<u128>| {
+        Outcome::Blocked(interrupt_fault(reason, fpd, source, index, entry))
     };
 
     // Bit 4 of the address clear is the old format: 25h if EIME is set or CFIS
     // is clear, else passed unchanged.
     if !bit(&address, 4) {
         if registers.eime || !registers.cfis {
-            return blocked(0x25, false, 0);
+            return blocked(0x25, false, 0, None);
         }
         return Outcome::Passed;
     }
@@ -96,7 +98,7 @@ fn answer(
     let index = if shv {
         // With SHV, data 31:16 set is 20h,
         if any_set(&data, 31, 16) {
-            return blocked(0x20, false, 0);
+            return blocked(0x20, false, 0, None);
         }
         // and the index is handle plus data 15:0, as a whole number up to
         // 131,070.
@@ -109,28 +111,28 @@ fn answer(
 
     // Index at or above 2^(S+1): 21h.
     if index >= 1u128 << (registers.s + 1) {
-        return blocked(0x21, false, index);
+        return blocked(0x21, false, index, None);
     }
     // Entry at table + 16 x index: access 23h.
     let entry_address = u128::from(registers.interrupt_table) + 16 * index;
     let Some(entry) = fetch(image, entry_address, 16, words) else {
-        return blocked(0x23, false, index);
+        return blocked(0x23, false, index, Some(entry_address));
     };
     // Bit 1 is FPD, read always.
     let fpd = slips::fpd(slip, bit(&entry, 1), bit(&entry, 0));
     // Bit 0 clear: 22h.
     if !bit(&entry, 0) {
-        return blocked(0x22, fpd, index);
+        return blocked(0x22, fpd, index, Some(entry_address));
     }
 
     // Reserved, 24h.
     if reserved_in_interrupt_entry(registers, &entry) {
-        return blocked(0x24, fpd, index);
+        return blocked(0x24, fpd, index, Some(entry_address));
     }
 
     // Source check, 26h on failure.
     if !source_accepted(&entry, source) {
-        return blocked(0x26, fpd, index);
+        return blocked(0x26, fpd, index, Some(entry_address));
     }
 
     // Remapped answer: destination mode (2), redirection hint (3), trigger
@@ -154,9 +156,9 @@ fn answer(
     // Posted: vector 23:16; descriptor address as below.
     let vector = bits(&entry, 23, 16) as usize;
     let descriptor_address = descriptor_address(&entry);
-    // Its 64 bytes: access 27h;
+    // Its 64 bytes: access 27h; 27h and 28h give the descriptor.
     let Some(descriptor) = fetch(image, descriptor_address, 64, words) else {
-        return blocked(0x27, fpd, index);
+        return blocked(0x27, fpd, index, Some(descriptor_address));
     };
     // bits 271:258, 287:280, 511:320 set, or without EIME 295:288 and 319:304:
     // 28h.
@@ -164,10 +166,10 @@ fn answer(
         || any_set(&descriptor, 287, 280)
         || any_set(&descriptor, 511, 320)
     {
-        return blocked(0x28, fpd, index);
+        return blocked(0x28, fpd, index, Some(descriptor_address));
     }
     if !registers.eime && (any_set(&descriptor, 295, 288) || any_set(&descriptor, 319, 304)) {
-        return blocked(0x28, fpd, index);
+        return blocked(0x28, fpd, index, Some(descriptor_address));
     }
     // All 64 bytes lie in the image, since they were fetched.
     let start = descriptor_address as usize;

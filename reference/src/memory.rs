@@ -110,21 +110,23 @@ fn answer(
     let haw = usize::from(registers.haw);
     let bus = bits(&source.to_le_bytes(), 15, 8);
     let device_and_function = bits(&source.to_le_bytes(), 7, 0);
-    let blocked =
-        |reason: u8, fpd: bool| Outcome::Blocked(memory_fault(reason, fpd, source, address, write));
+    // A fault answers with the host address of the entry concerned.
+    let blocked = |reason: u8, fpd: bool, entry: u128| {
+        Outcome::Blocked(memory_fault(reason, fpd, source, address, write, entry))
+    };
 
     // Root entry, root table + 16 x bus. Access 08h.
     let root_entry = u128::from(registers.root) + 16 * bus;
     let Some(root) = fetch(image, root_entry, 16, &mut fetched.table_words) else {
-        return blocked(0x08, false);
+        return blocked(0x08, false, root_entry);
     };
     // Bit 0 clear: 01h.
     if !bit(&root, 0) {
-        return blocked(0x01, false);
+        return blocked(0x01, false, root_entry);
     }
     // Any of bits 11:1, 127:64, or address bits from HAW to 63 set: 0Ah.
     if any_set(&root, 11, 1) || any_set(&root, 127, 64) || any_set(&root, 63, haw) {
-        return blocked(0x0A, false);
+        return blocked(0x0A, false, root_entry);
     }
     // Context table address is 63:12.
     let context_table = bits(&root, 63, 12) << 12;
@@ -132,13 +134,13 @@ fn answer(
     // Context entry, context table + 16 x (device and function). Access 09h.
     let context_entry = context_table + 16 * device_and_function;
     let Some(context) = fetch(image, context_entry, 16, &mut fetched.table_words) else {
-        return blocked(0x09, false);
+        return blocked(0x09, false, context_entry);
     };
     // Bit 1 is FPD, read even when bit 0 is clear.
     let fpd = slips::fpd(slip, bit(&context, 1), bit(&context, 0));
     // Bit 0 clear: 02h.
     if !bit(&context, 0) {
-        return blocked(0x02, fpd);
+        return blocked(0x02, fpd, context_entry);
     }
     // Bits 11:4, 71, 127:88, or address bits from HAW to 63 set: 0Bh.
     if any_set(&context, 11, 4)
@@ -146,7 +148,7 @@ fn answer(
         || any_set(&context, 127, 88)
         || any_set(&context, 63, haw)
     {
-        return blocked(0x0B, fpd);
+        return blocked(0x0B, fpd, context_entry);
     }
     // Width AW is 66:64: 1, 2, 3 mean 3, 4, 5 levels (39, 48, 57 bits).
     let aw = bits(&context, 66, 64);
@@ -160,7 +162,7 @@ fn answer(
     let tt = bits(&context, 3, 2);
     // Unsupported AW or bad TT: 03h.
     if !supported || tt == 3 {
-        return blocked(0x03, fpd);
+        return blocked(0x03, fpd, context_entry);
     }
     // Domain is 87:72, and no step asks for it. The top page table's address
     // is 63:12.
@@ -172,9 +174,9 @@ fn answer(
     } else {
         aw_bits
     };
-    // Address at or above 2^X: 04h.
+    // Address at or above 2^X: 04h. It gives the context entry.
     if u128::from(address) >= 1u128 << x {
-        return blocked(0x04, fpd);
+        return blocked(0x04, fpd, context_entry);
     }
     // Pass-through then returns the address itself.
     if tt == 2 {
@@ -191,27 +193,28 @@ fn answer(
             20 + 9 * (level - 1),
             12 + 9 * (level - 1),
         );
-        let Some(entry) = fetch(image, table + 8 * index, 8, &mut fetched.page_words) else {
-            return blocked(0x07, fpd);
+        let page_entry = table + 8 * index;
+        let Some(entry) = fetch(image, page_entry, 8, &mut fetched.page_words) else {
+            return blocked(0x07, fpd, page_entry);
         };
         // Then, in this order: bits 1:0 both clear, 05h for a write, 06h for a
         // read;
         if !bit(&entry, 1) && !bit(&entry, 0) {
-            return blocked(if write { 0x05 } else { 0x06 }, fpd);
+            return blocked(if write { 0x05 } else { 0x06 }, fpd, page_entry);
         }
         // a reserved bit set, 0Ch;
         if reserved_in_page_entry(slip, registers, level, &entry) {
-            return blocked(0x0C, fpd);
+            return blocked(0x0C, fpd, page_entry);
         }
         // (A leaf is an entry at level 1, or one with bit 7 at level 2 or 3.)
         let leaf = level == 1 || ((level == 2 || level == 3) && bit(&entry, 7));
         // the request's own right clear (bit 0 read, bit 1 write), 05h or 06h.
         if slips::right_asked(slip, leaf) {
             if write && !bit(&entry, 1) {
-                return blocked(0x05, fpd);
+                return blocked(0x05, fpd, page_entry);
             }
             if !write && !bit(&entry, 0) {
-                return blocked(0x06, fpd);
+                return blocked(0x06, fpd, page_entry);
             }
         }
         // An entry's frame, or next table, is 51:12.

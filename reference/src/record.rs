@@ -1,5 +1,5 @@
 //! "The fault slip": a fault answers its reason, whether it may be recorded,
-//! and 16 record bytes.
+//! and 16 record bytes; and, by Ask 7, the host address of the entry concerned.
 
 use crate::bits::{bits, put};
 
@@ -12,6 +12,9 @@ pub struct Fault {
     pub recordable: bool,
     /// The 16 record bytes.
     pub record: [u8; 16],
+    /// The host address of the entry concerned, or none (20h, 21h and 25h).
+    /// The record bytes do not have it.
+    pub entry: Option<u64>,
 }
 
 /// FPD silences 02h to 07h, 0Bh, 0Ch (context) and 22h, 24h, 26h to 28h
@@ -25,8 +28,15 @@ fn recordable(reason: u8, fpd: bool) -> bool {
     !(fpd && (silenced_by_context || silenced_by_interrupt_entry))
 }
 
-/// The fault of a memory request.
-pub fn memory_fault(reason: u8, fpd: bool, source: u16, address: u64, write: bool) -> Fault {
+/// The fault of a memory request, which always concerns an entry.
+pub fn memory_fault(
+    reason: u8,
+    fpd: bool,
+    source: u16,
+    address: u64,
+    write: bool,
+    entry: u128,
+) -> Fault {
     let mut record = [0; 16];
     // Address 63:12 in place.
     put(&mut record, 63, 12, bits(&address.to_le_bytes(), 63, 12));
@@ -44,11 +54,18 @@ pub fn memory_fault(reason: u8, fpd: bool, source: u16, address: u64, write: boo
         reason,
         recordable: recordable(reason, fpd),
         record,
+        entry: Some(entry as u64),
     }
 }
 
-/// The fault of an interrupt.
-pub fn interrupt_fault(reason: u8, fpd: bool, source: u16, index: u128) -> Fault {
+/// The fault of an interrupt, which may concern no entry.
+pub fn interrupt_fault(
+    reason: u8,
+    fpd: bool,
+    source: u16,
+    index: u128,
+    entry: Option<u128>,
+) -> Fault {
     let mut record = [0; 16];
     // The interrupt index in 63:48 (65,535 if larger; 0 for 20h and 25h).
     let index_written = if reason == 0x20 || reason == 0x25 {
@@ -70,5 +87,6 @@ pub fn interrupt_fault(reason: u8, fpd: bool, source: u16, index: u128) -> Fault
         reason,
         recordable: recordable(reason, fpd),
         record,
+        entry: entry.map(|address| address as u64),
     }
 }

@@ -202,6 +202,22 @@ fn memory_requests() {
             assert!(word % 8 == 0 && word + 8 <= image.len() as u64);
         }
 
+        // The entry a fault names is the last one whose fetch was tried: the
+        // last one read, or one that lies outside the image.
+        if let Outcome::Blocked(fault) = &answer {
+            let entry = fault.entry.unwrap();
+            let width = if words.len() < 4 || walked.is_empty() && fault.reason != 0x07 {
+                16
+            } else {
+                8
+            };
+            if ends_in(&answer, &[0x07, 0x08, 0x09]) {
+                assert!(entry + width > image.len() as u64);
+            } else {
+                assert_eq!(words.last(), Some(&(entry + width - 8)));
+            }
+        }
+
         // Over a second memory alike in those words, the same answer.
         if !ends_in(&answer, &[0x07, 0x08, 0x09]) {
             let second = alike(&mut random, &image, &words);
@@ -373,6 +389,18 @@ fn interrupts() {
                 assert_eq!(set_bits, u32::from(!was) + u32::from(notice.is_some()));
             }
             _ => assert_eq!(set_bits, 0),
+        }
+
+        // The entry a fault names is the last one whose fetch was tried.
+        if let Outcome::Blocked(fault) = &answer {
+            match (fault.entry, fault.reason) {
+                (None, 0x20 | 0x21 | 0x25) => assert!(words.is_empty()),
+                (Some(entry), 0x23) => assert!(entry + 16 > image.len() as u64),
+                (Some(entry), 0x27) => assert!(entry + 64 > image.len() as u64),
+                (Some(entry), 0x22 | 0x24 | 0x26) => assert_eq!(words, [entry, entry + 8]),
+                (Some(entry), 0x28) => assert_eq!(words[2], entry),
+                other => panic!("{other:x?}"),
+            }
         }
 
         if !ends_in(&answer, &[0x23, 0x27]) {

@@ -9,6 +9,16 @@ pub struct Fault {
     pub recordable: bool,
     /// The record, bits 63:0 first.
     pub record: [u64; 2],
+    /// The host address of the entry concerned, where there is one.
+    pub entry: Option<u64>,
+}
+
+/// A fault on its way up.
+pub(crate) struct Stop {
+    pub(crate) reason: u8,
+    /// FPD as it was read by then.
+    pub(crate) fpd: bool,
+    pub(crate) entry: Option<u64>,
 }
 
 /// Bit r for each reason r that FPD silences.
@@ -29,21 +39,23 @@ const READ: u64 = 1 << 62;
 const VALID: u64 = 1 << 63;
 
 impl Fault {
-    pub(crate) fn memory(reason: u8, fpd: bool, source: u16, address: u64, write: bool) -> Self {
+    pub(crate) fn memory(stop: Stop, source: u16, address: u64, write: bool) -> Self {
         let kind = if write { 0 } else { READ };
-        Self::new(reason, fpd, address & !0xFFF, source, kind)
+        Self::new(stop, address & !0xFFF, source, kind)
     }
 
-    pub(crate) fn interrupt(reason: u8, fpd: bool, source: u16, index: u64) -> Self {
-        Self::new(reason, fpd, index.min(0xFFFF) << 48, source, 0)
+    pub(crate) fn interrupt(stop: Stop, source: u16, index: u64) -> Self {
+        Self::new(stop, index.min(0xFFFF) << 48, source, 0)
     }
 
-    fn new(reason: u8, fpd: bool, info: u64, source: u16, kind: u64) -> Self {
+    fn new(stop: Stop, info: u64, source: u16, kind: u64) -> Self {
+        let Stop { reason, fpd, entry } = stop;
         let high = VALID | kind | u64::from(reason) << 32 | u64::from(source);
         Self {
             reason,
             recordable: !(fpd && SILENCED >> reason & 1 == 1),
             record: [info, high],
+            entry,
         }
     }
 }

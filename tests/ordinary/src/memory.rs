@@ -1,5 +1,6 @@
 //! Memory requests.
 
+use crate::fault;
 use crate::fetch::{pair, word};
 use crate::unit::{in_interrupt_range, meets_interrupt_range};
 use crate::{Fault, Registers, Unit};
@@ -33,17 +34,10 @@ struct Request {
 
 /// Why a request isn't granted.
 enum Stop {
-    /// A fault, by reason.
-    Fault(u8),
+    /// A fault, by reason, and the address of the entry concerned.
+    Fault(u8, u64),
     /// Refusal 4: the page lies on interrupts.
     OnInterrupts,
-}
-
-impl From<u8> for Stop {
-    #[inline]
-    fn from(reason: u8) -> Self {
-        Self::Fault(reason)
-    }
 }
 
 /// Answers a memory request, the registers checked first.
@@ -96,13 +90,15 @@ impl Unit<'_> {
         match self.translate(image, request, &mut fpd) {
             Ok(host) => MemoryAnswer::Granted(host),
             Err(Stop::OnInterrupts) => MemoryAnswer::Refused(4),
-            Err(Stop::Fault(reason)) => {
+            Err(Stop::Fault(reason, entry)) => {
                 let Request {
                     source,
                     address,
                     write,
                 } = request;
-                MemoryAnswer::Blocked(Fault::memory(reason, fpd, source, address, write))
+                let entry = Some(entry);
+                let stop = fault::Stop { reason, fpd, entry };
+                MemoryAnswer::Blocked(Fault::memory(stop, source, address, write))
             }
         }
     }
@@ -113,31 +109,33 @@ impl Unit<'_> {
         let bus = u64::from(request.source >> 8);
         let devfn = u64::from(request.source & 0xFF);
 
-        let (low, high) = pair(image, self.registers.root_table + 16 * bus).ok_or(0x08)?;
+        let root = self.registers.root_table + 16 * bus;
+        let (low, high) = pair(image, root).ok_or(Stop::Fault(0x08, root))?;
         if low & 1 == 0 {
-            return Err(Stop::Fault(0x01));
+            return Err(Stop::Fault(0x01, root));
         }
         if low & (0xFFE | self.beyond) != 0 || high != 0 {
-            return Err(Stop::Fault(0x0A));
+            return Err(Stop::Fault(0x0A, root));
         }
 
-        let (low, high) = pair(image, (low & !0xFFF) + 16 * devfn).ok_or(0x09)?;
+        let context = (low & !0xFFF) + 16 * devfn;
+        let (low, high) = pair(image, context).ok_or(Stop::Fault(0x09, context))?;
         *fpd = low & 2 != 0;
         if low & 1 == 0 {
-            return Err(Stop::Fault(0x02));
+            return Err(Stop::Fault(0x02, context));
         }
         if low & (CONTEXT_RESERVED.0 | self.beyond) != 0 || high & CONTEXT_RESERVED.1 != 0 {
-            return Err(Stop::Fault(0x0B));
+            return Err(Stop::Fault(0x0B, context));
         }
         let width = high & 7;
         let kind = low >> 2 & 3;
         if !(1..=3).contains(&width) || self.registers.widths >> width & 1 == 0 || kind == 3 {
-            return Err(Stop::Fault(0x03));
+            return Err(Stop::Fault(0x03, context));
         }
         let levels = width as u32 + 2;
         let bits = (12 + 9 * levels).min(u32::from(self.registers.mgaw));
         if request.address >> bits != 0 {
-            return Err(Stop::Fault(0x04));
+            return Err(Stop::Fault(0x04, context));
         }
         if kind == 2 {
             return Ok(request.address);
@@ -157,16 +155,17 @@ impl Unit<'_> {
         let mut shift = 12 + 9 * (levels - 1);
         loop {
             let index = request.address >> shift & 0x1FF;
-            let entry = word(image, table + 8 * index).ok_or(0x07)?;
+            let at = table + 8 * index;
+            let entry = word(image, at).ok_or(Stop::Fault(0x07, at))?;
             if entry & (READ | WRITE) == 0 {
-                return Err(Stop::Fault(denied));
+                return Err(Stop::Fault(denied, at));
             }
             let large = entry & LARGE != 0 && shift > 12;
             if entry & beyond != 0 || large && !self.is_large_page(entry, shift) {
-                return Err(Stop::Fault(0x0C));
+                return Err(Stop::Fault(0x0C, at));
             }
             if entry & right == 0 {
-                return Err(Stop::Fault(denied));
+                return Err(Stop::Fault(denied, at));
             }
             let frame = entry & FRAME;
             if large || shift == 12 {

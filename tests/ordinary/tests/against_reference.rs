@@ -39,6 +39,7 @@ fn blocked(fault: Fault) -> Outcome {
         reason: fault.reason,
         recordable: fault.recordable,
         record,
+        entry: fault.entry,
     })
 }
 
