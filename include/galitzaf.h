@@ -32,26 +32,48 @@ extern "C" {
  */
 #define GALITZAF_REGISTERS_SIZE 24
 
-/* Answers: 24 bytes. Byte 0 is the kind; bytes that a kind doesn't name are zero.
+/* Answers: 32 bytes. Byte 0 is the kind; bytes that a kind doesn't name are zero. No kind is 0, so that a
+ * zeroed buffer that no call filled is no answer.
  *
  *   GRANTED   bytes 15:8 host address                                            (memory requests)
  *   BLOCKED   byte 1 reason, byte 2 1 where the fault may be recorded, else 0;
- *             bytes 23:8 the 16 record bytes
+ *             bytes 23:8 the 16 record bytes; byte 3 1 where bytes 31:24 are the host address of the
+ *             entry concerned, else 0 (20h, 21h and 25h have none)
  *   REFUSED   byte 1 refusal number (1 bad registers, 2 address of the wrong kind, 4 a memory request whose
  *             walk ended with a page that has a byte in FEE00000h to FEEFFFFFh)
  *   PASSED    the interrupt goes on unchanged                                    (interrupts)
  *   REMAPPED  byte 1 vector, byte 2 delivery mode, byte 3 bit 0 destination mode, bit 1 redirection
  *             hint, bit 2 trigger mode; bytes 7:4 destination                    (interrupts)
  *   POSTED    byte 1 1 where a notification is due (ON clear, and URG set or SN clear), else 0; then
- *             byte 2 its vector and bytes 7:4 its destination                    (interrupts)
+ *             byte 2 its vector and bytes 7:4 its destination; byte 3 the posted vector and bytes 15:8
+ *             the host address of the descriptor that was written                (interrupts)
  */
-#define GALITZAF_ANSWER_SIZE 24
-#define GALITZAF_GRANTED 0
+#define GALITZAF_ANSWER_SIZE 32
+#define GALITZAF_NO_ANSWER 0
 #define GALITZAF_BLOCKED 1
 #define GALITZAF_REFUSED 2
 #define GALITZAF_PASSED 3
 #define GALITZAF_REMAPPED 4
 #define GALITZAF_POSTED 5
+#define GALITZAF_GRANTED 6
+
+/* Where a part of an answer begins, by its bytes. */
+#define GALITZAF_KIND 0
+#define GALITZAF_REASON 1           /* BLOCKED */
+#define GALITZAF_REFUSAL 1          /* REFUSED */
+#define GALITZAF_VECTOR 1           /* REMAPPED */
+#define GALITZAF_NOTIFIES 1         /* POSTED */
+#define GALITZAF_RECORDABLE 2       /* BLOCKED */
+#define GALITZAF_DELIVERY_MODE 2    /* REMAPPED */
+#define GALITZAF_NOTIFICATION 2     /* POSTED: its vector */
+#define GALITZAF_HAS_ENTRY 3        /* BLOCKED */
+#define GALITZAF_MODES 3            /* REMAPPED */
+#define GALITZAF_POSTED_VECTOR 3    /* POSTED */
+#define GALITZAF_DESTINATION 4      /* 4 bytes: REMAPPED, POSTED */
+#define GALITZAF_HOST_ADDRESS 8     /* 8 bytes: GRANTED */
+#define GALITZAF_RECORD 8           /* 16 bytes: BLOCKED */
+#define GALITZAF_DESCRIPTOR 8       /* 8 bytes: POSTED */
+#define GALITZAF_ENTRY 24           /* 8 bytes: BLOCKED */
 
 /* Fault records: 8, 16, 32, 64, 128 or 256 slots of 16 bytes; the buffer's length says how many. The
  * recorder's state: byte 0 the next slot, byte 1 overflow (0 or 1). */
@@ -76,7 +98,7 @@ extern "C" {
 #define GALITZAF_NONE_STANDS 0x40    /* take: no request bit stands */
 #define GALITZAF_METERS_REFUSED 0x60 /* meters: something in row, counts or bytes is bad */
 #define GALITZAF_BAD_REGISTERS 0x101 /* not 24 bytes, or a bit set that has to be zero */
-#define GALITZAF_BAD_ANSWER 0x102    /* not 24 bytes, or, to be recorded, of no kind above */
+#define GALITZAF_BAD_ANSWER 0x102    /* not 32 bytes, or, to be recorded, of no kind above */
 #define GALITZAF_BAD_KIND 0x103      /* write is neither 0 nor 1 */
 #define GALITZAF_BAD_RECORDER 0x104  /* overflow is neither 0 nor 1 */
 #define GALITZAF_BAD_METERS 0x106    /* parts of different lengths, or a kind above 2 */

@@ -66,6 +66,8 @@ static void print_answer(uint32_t status)
     case GALITZAF_BLOCKED:
         printf("fault %02X%s, record ", answer[1], answer[2] ? "" : " (not recordable)");
         print_record(answer + 8);
+        if (answer[GALITZAF_HAS_ENTRY])
+            printf(", entry %" PRIX64, load(answer + GALITZAF_ENTRY, 8));
         printf("\n");
         break;
     case GALITZAF_REFUSED:
@@ -78,7 +80,7 @@ static void print_answer(uint32_t status)
         printf("vector %02X, destination %" PRIX64 "\n", answer[1], load(answer + 4, 4));
         break;
     case GALITZAF_POSTED:
-        printf("posted");
+        printf("posted %02X to %" PRIX64, answer[3], load(answer + 8, 8));
         if (answer[1])
             printf(", notification %02X to %" PRIX64, answer[2], load(answer + 4, 4));
         printf("; byte 6406 is %d, byte 6420 is %d\n", image[0x6406], image[0x6420]);
@@ -189,7 +191,7 @@ static void recorder_round(void)
 static void malformed(void)
 {
     uint8_t odd[GALITZAF_REGISTERS_SIZE];
-    uint8_t no_answer[GALITZAF_ANSWER_SIZE] = {GALITZAF_POSTED + 1};
+    uint8_t no_answer[GALITZAF_ANSWER_SIZE] = {GALITZAF_NO_ANSWER};
     uint8_t bad_recorder[GALITZAF_RECORDER_SIZE] = {0, 2};
 
     printf("malformed:\n");
@@ -215,7 +217,7 @@ static void malformed(void)
            galitzaf_clear_slot(records, sizeof records, bad_recorder, sizeof bad_recorder, 0));
     printf("recorder too short: %03" PRIX32 "\n",
            galitzaf_clear_overflow(records, sizeof records, recorder, sizeof recorder - 1));
-    printf("answer bytes 0 and 23 are still %02X and %02X\n", answer[0], answer[23]);
+    printf("answer bytes 0 and 31 are still %02X and %02X\n", answer[0], answer[31]);
 }
 
 int main(void)

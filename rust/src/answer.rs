@@ -245,23 +245,37 @@ pub struct Notification {
     pub destination: u32,
 }
 
+/// A post: a vector's request bit was set in a descriptor of the image, and ON where a notification
+/// is due.
+#[derive(Clone, Copy, Debug, PartialEq, Eq, Hash)]
+pub struct Posted {
+    /// The descriptor's host address: its 64 bytes lie in a page that is dirty now.
+    pub descriptor: u64,
+    /// The vector.
+    pub vector: u8,
+    /// What is to be sent, where a notification is due.
+    pub notification: Option<Notification>,
+}
+
 /// What becomes of an interrupt message.
 ///
 /// ```
-/// use galitzaf::{InterruptAnswer, Notification};
+/// use galitzaf::{InterruptAnswer, Notification, Posted};
 ///
 /// /// The vector to raise now, and where.
 /// fn raised(answer: InterruptAnswer) -> Option<(u8, u32)> {
 ///     match answer {
 ///         InterruptAnswer::Remapped(to) => Some((to.vector, to.destination)),
-///         InterruptAnswer::Posted(notification) => notification.map(|n| (n.vector, n.destination)),
+///         InterruptAnswer::Posted(post) => post.notification.map(|n| (n.vector, n.destination)),
 ///         _ => None,
 ///     }
 /// }
 ///
 /// let notification = Notification { vector: 0xF2, destination: 7 };
-/// assert_eq!(raised(InterruptAnswer::Posted(Some(notification))), Some((0xF2, 7)));
-/// assert_eq!(raised(InterruptAnswer::Posted(None)), None);
+/// let mut post = Posted { descriptor: 0x6400, vector: 0x31, notification: Some(notification) };
+/// assert_eq!(raised(InterruptAnswer::Posted(post)), Some((0xF2, 7)));
+/// post.notification = None;
+/// assert_eq!(raised(InterruptAnswer::Posted(post)), None);
 /// ```
 #[derive(Clone, Copy, Debug, PartialEq, Eq, Hash)]
 #[must_use]
@@ -272,7 +286,7 @@ pub enum InterruptAnswer {
     Remapped(Remapped),
     /// It was posted to a descriptor in the image; the notification, where one is due, is to be
     /// sent.
-    Posted(Option<Notification>),
+    Posted(Posted),
     /// It is blocked by a fault.
     Blocked(Fault),
     /// It was refused.
@@ -293,7 +307,7 @@ impl InterruptAnswer {
         match raw.kind {
             ffi::PASSED => Self::Passed,
             ffi::REMAPPED => Self::Remapped(raw.remapped()),
-            ffi::POSTED => Self::Posted(raw.notification()),
+            ffi::POSTED => Self::Posted(raw.posted()),
             ffi::BLOCKED => Self::Blocked(raw.fault()),
             ffi::REFUSED => Self::Refused(Refusal::from(raw.one)),
             _ => Self::Refused(Refusal::INTERFACE),
@@ -316,11 +330,12 @@ struct Raw {
     destination: u32,
     low: u64,
     high: u64,
+    last: u64,
 }
 
 impl Raw {
     fn of(bytes: [u8; ANSWER_SIZE]) -> Self {
-        let [head, low, high] = split(bytes);
+        let [head, low, high, last] = split(&bytes);
         let [kind, one, two, three, destination @ ..] = head;
         Self {
             kind,
@@ -330,12 +345,14 @@ impl Raw {
             destination: u32::from_le_bytes(destination),
             low: u64::from_le_bytes(low),
             high: u64::from_le_bytes(high),
+            last: u64::from_le_bytes(last),
         }
     }
 
     fn fault(&self) -> Fault {
         let record = FaultRecord::from_words([self.low, self.high]);
-        Fault::new(Reason::from(self.one), self.two != 0, record)
+        let entry = (self.three != 0).then_some(self.last);
+        Fault::new(Reason::from(self.one), self.two != 0, record, entry)
     }
 
     fn remapped(&self) -> Remapped {
@@ -358,11 +375,15 @@ impl Raw {
         }
     }
 
-    fn notification(&self) -> Option<Notification> {
-        (self.one != 0).then_some(Notification {
-            vector: self.two,
-            destination: self.destination,
-        })
+    fn posted(&self) -> Posted {
+        Posted {
+            descriptor: self.low,
+            vector: self.three,
+            notification: (self.one != 0).then_some(Notification {
+                vector: self.two,
+                destination: self.destination,
+            }),
+        }
     }
 }
 
@@ -399,24 +420,31 @@ mod tests {
 
     #[test]
     fn a_notification_is_read_only_where_one_is_due() {
-        let answer = |due| InterruptAnswer::decode(bytes([5, due, 0xF2, 0, 7, 0, 0, 1]));
+        let answer = |due| InterruptAnswer::decode(bytes([5, due, 0xF2, 0x31, 7, 0, 0, 1]));
         let notification = Notification {
             vector: 0xF2,
             destination: 0x0100_0007,
         };
-        assert_eq!(answer(0), InterruptAnswer::Posted(None));
-        assert_eq!(answer(1), InterruptAnswer::Posted(Some(notification)));
+        let post = |notification| {
+            InterruptAnswer::Posted(Posted {
+                descriptor: 0,
+                vector: 0x31,
+                notification,
+            })
+        };
+        assert_eq!(answer(0), post(None));
+        assert_eq!(answer(1), post(Some(notification)));
     }
 
     #[test]
     fn a_kind_that_does_not_belong_is_refused() {
         for kind in 0..=u8::MAX {
             let raw = bytes([kind, 1, 0, 0, 0, 0, 0, 0]);
-            if kind > ffi::REFUSED {
+            if ![ffi::BLOCKED, ffi::REFUSED, ffi::GRANTED].contains(&kind) {
                 let refused = MemoryAnswer::Refused(Refusal::Other(0));
                 assert_eq!(MemoryAnswer::decode(raw), refused, "{kind}");
             }
-            if kind == ffi::GRANTED || kind > ffi::POSTED {
+            if kind == 0 || kind > ffi::POSTED {
                 let refused = InterruptAnswer::Refused(Refusal::Other(0));
                 assert_eq!(InterruptAnswer::decode(raw), refused, "{kind}");
             }

@@ -1,17 +1,17 @@
-//! The C interface's buffers of 24 bytes, as three words of 8.
+//! The C interface's buffers, as words of 8 bytes.
 
 /// The words of a buffer, little-endian.
-pub(crate) fn split(bytes: [u8; 24]) -> [[u8; 8]; 3] {
-    let mut words = [[0; 8]; 3];
+pub(crate) fn split<const WORDS: usize>(bytes: &[u8]) -> [[u8; 8]; WORDS] {
+    let mut words = [[0; 8]; WORDS];
     for (to, from) in words.as_flattened_mut().iter_mut().zip(bytes) {
-        *to = from;
+        *to = *from;
     }
     words
 }
 
-/// The buffer of three words, little-endian.
-pub(crate) fn join(words: [[u8; 8]; 3]) -> [u8; 24] {
-    let mut bytes = [0; 24];
+/// The buffer of words, little-endian.
+pub(crate) fn join<const SIZE: usize>(words: &[[u8; 8]]) -> [u8; SIZE] {
+    let mut bytes = [0; SIZE];
     for (to, from) in bytes.iter_mut().zip(words.as_flattened()) {
         *to = *from;
     }

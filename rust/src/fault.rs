@@ -123,20 +123,28 @@ impl fmt::Display for Reason {
 /// assert_eq!(fault.reason(), Reason::RootAccess);
 /// assert!(fault.recordable());
 /// assert_eq!(fault.record().words(), [0x1000, 0x8000_0008_0000_0310]);
+/// assert_eq!(fault.entry(), Some(0x30));
 /// ```
 #[derive(Clone, Copy, Debug, PartialEq, Eq, Hash)]
 pub struct Fault {
     reason: Reason,
     recordable: bool,
     record: FaultRecord,
+    entry: Option<u64>,
 }
 
 impl Fault {
-    pub(crate) const fn new(reason: Reason, recordable: bool, record: FaultRecord) -> Self {
+    pub(crate) const fn new(
+        reason: Reason,
+        recordable: bool,
+        record: FaultRecord,
+        entry: Option<u64>,
+    ) -> Self {
         Self {
             reason,
             recordable,
             record,
+            entry,
         }
     }
 
@@ -156,12 +164,19 @@ impl Fault {
         self.record
     }
 
+    /// The host address of the entry concerned: the last one that was tried, whether it could be
+    /// fetched or not. None for 20h, 21h and 25h, which come before any.
+    pub const fn entry(&self) -> Option<u64> {
+        self.entry
+    }
+
     /// The answer that it came from, as the C interface has it.
     pub(crate) fn to_answer(self) -> [u8; ANSWER_SIZE] {
         let (reason, recordable) = (self.reason.number(), u8::from(self.recordable));
-        let head = [BLOCKED, reason, recordable, 0, 0, 0, 0, 0];
+        let named = u8::from(self.entry.is_some());
+        let head = [BLOCKED, reason, recordable, named, 0, 0, 0, 0];
         let [low, high] = self.record.words().map(u64::to_le_bytes);
-        join([head, low, high])
+        join(&[head, low, high, self.entry.unwrap_or(0).to_le_bytes()])
     }
 }
 
@@ -169,6 +184,9 @@ impl fmt::Display for Fault {
     fn fmt(&self, f: &mut fmt::Formatter<'_>) -> fmt::Result {
         let [low, high] = self.record.words();
         write!(f, "fault {}, record {low:016X} {high:016X}", self.reason)?;
+        if let Some(entry) = self.entry {
+            write!(f, ", entry {entry:X}")?;
+        }
         if self.recordable {
             Ok(())
         } else {
@@ -286,10 +304,14 @@ mod tests {
     fn a_fault_goes_back_into_its_answer() {
         let record = FaultRecord::from_words([0x0706_0504_0302_0100, 0x0F0E_0D0C_0B0A_0908]);
         for recordable in [false, true] {
-            let answer = Fault::new(Reason::ReadDenied, recordable, record).to_answer();
-            let head = [1, 0x06, u8::from(recordable), 0, 0, 0, 0, 0];
-            assert_eq!(answer[..8], head);
-            assert_eq!(answer[8..], record.bytes());
+            for entry in [None, Some(0x5008)] {
+                let answer = Fault::new(Reason::ReadDenied, recordable, record, entry).to_answer();
+                let named = u8::from(entry.is_some());
+                let head = [1, 0x06, u8::from(recordable), named, 0, 0, 0, 0];
+                assert_eq!(answer[..8], head);
+                assert_eq!(answer[8..24], record.bytes());
+                assert_eq!(answer[24..], entry.unwrap_or(0).to_le_bytes());
+            }
         }
     }
 }

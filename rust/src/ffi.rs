@@ -9,11 +9,11 @@
 /// The packed registers.
 pub(crate) const REGISTERS_SIZE: usize = 24;
 /// An answer.
-pub(crate) const ANSWER_SIZE: usize = 24;
+pub(crate) const ANSWER_SIZE: usize = 32;
 /// The recorder's state: next slot and overflow.
 pub(crate) const RECORDER_SIZE: usize = 2;
 
-pub(crate) const GRANTED: u8 = 0;
+pub(crate) const GRANTED: u8 = 6;
 pub(crate) const BLOCKED: u8 = 1;
 pub(crate) const REFUSED: u8 = 2;
 pub(crate) const PASSED: u8 = 3;

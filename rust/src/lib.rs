@@ -68,8 +68,8 @@ mod source;
 mod unit;
 
 pub use answer::{
-    DeliveryMode, DestinationMode, InterruptAnswer, MemoryAnswer, Notification, Refusal, Remapped,
-    TakeAnswer, TriggerMode,
+    DeliveryMode, DestinationMode, InterruptAnswer, MemoryAnswer, Notification, Posted, Refusal,
+    Remapped, TakeAnswer, TriggerMode,
 };
 pub use fault::{Fault, FaultRecord, Reason};
 pub use meters::{Gate, Meters, MetersError};

@@ -1,5 +1,6 @@
 //! The fault recorder.
 
+use crate::bytes::join;
 use crate::ffi::{self, ANSWER_SIZE, RECORDER_SIZE};
 use crate::{Fault, FaultRecord, Refusal};
 
@@ -163,9 +164,9 @@ impl<B: AsMut<[u8]>> Recorder<B> {
     ///
     /// None that a caller could meet: length and next slot were checked when it was made.
     pub fn record<'a>(&mut self, fault: impl Into<Option<&'a Fault>>) -> Result<Recorded, Refusal> {
-        // All zeros is an answer without a fault. It goes to the library too, which looks at the
-        // buffer and the state before it looks at the answer.
-        let answer = fault.into().map_or([0; ANSWER_SIZE], |f| f.to_answer());
+        // An answer without a fault goes to the library too, which looks at the buffer and the state
+        // before it looks at the answer.
+        let answer = fault.into().map_or_else(no_fault, |f| f.to_answer());
         let mut state = pack(self.state);
         let said = ffi::record(&answer, self.records.as_mut(), &mut state);
         self.state = unpack(state);
@@ -205,6 +206,11 @@ const fn slots_of(len: usize) -> usize {
         4096 => 256,
         _ => 0,
     }
+}
+
+/// An answer without a fault.
+fn no_fault() -> [u8; ANSWER_SIZE] {
+    join(&[[ffi::PASSED, 0, 0, 0, 0, 0, 0, 0]])
 }
 
 fn refusal(said: u32) -> Refusal {

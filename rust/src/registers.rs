@@ -97,7 +97,7 @@ impl Registers {
         let head = [self.haw, self.mgaw, supported, switches, self.s, 0, 0, 0];
         let tables = [self.root_table, self.interrupt_table];
         let [root, interrupt] = tables.map(u64::to_le_bytes);
-        join([head, root, interrupt])
+        join(&[head, root, interrupt])
     }
 }
 

@@ -5,7 +5,7 @@ mod common;
 use common::{bench_image, BENCH, SOURCE};
 use galitzaf::{
     DeliveryMode, DestinationMode, Fault, InterruptAnswer, InterruptRequest, MemoryAnswer,
-    MemoryRequest, Notification, Reason, Remapped, SourceId, TriggerMode, Unit,
+    MemoryRequest, Notification, Posted, Reason, Remapped, SourceId, TriggerMode, Unit,
 };
 
 fn read(source: SourceId, address: u64) -> MemoryAnswer {
@@ -123,7 +123,12 @@ fn case_12() {
         destination: 7,
     };
     let answer = unit.interrupt(&mut image, request);
-    assert_eq!(answer, InterruptAnswer::Posted(Some(notification)));
+    let mut post = Posted {
+        descriptor: 0x6400,
+        vector: 0x31,
+        notification: Some(notification),
+    };
+    assert_eq!(answer, InterruptAnswer::Posted(post));
 
     let mut posted = bench_image();
     posted[0x6406] = 2;
@@ -131,6 +136,7 @@ fn case_12() {
     assert_eq!(image, posted);
 
     let answer = unit.interrupt(&mut image, request);
-    assert_eq!(answer, InterruptAnswer::Posted(None));
+    post.notification = None;
+    assert_eq!(answer, InterruptAnswer::Posted(post));
     assert_eq!(image, posted);
 }

@@ -39,7 +39,7 @@ fn post(image: &mut [u8], vector: u8) -> bool {
     let address = 0xFEE0_0010 | u64::from(vector) << 5;
     let request = InterruptRequest::new(SourceId::from(0x0310), address, 0);
     match unit().interrupt(image, request) {
-        InterruptAnswer::Posted(notice) => notice.is_some(),
+        InterruptAnswer::Posted(post) => post.notification.is_some(),
         other => panic!("{other:?}"),
     }
 }

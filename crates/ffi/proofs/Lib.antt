@@ -1,5 +1,5 @@
 pub mod Arrays
+pub mod FourWords
 pub mod Registers
 pub mod States
-pub mod ThreeWords
 pub mod Whole

@@ -37,19 +37,19 @@ both-set (x ∷ (y ∷ [])) a b h = refl
 both-set (x ∷ (y ∷ (z ∷ rest))) a b h = absurd (omega arith)
 
 module _ (answer : List ℕ) where
-  pub wrong-answer-length : (length answer ≡ 24 → ⊥) → true ≡ badFault answer
+  pub wrong-answer-length : (length answer ≡ 32 → ⊥) → true ≡ badFault answer
   unfolding badFault
   wrong-answer-length h = rw (ne-eqb _ _ h)
 
-  pub by-kind : length answer ≡ 24 → ltb 5 (byte answer 0) ≡ badFault answer
+  pub by-kind : length answer ≡ 32 → eqb (byte answer 0) 0 || ltb 6 (byte answer 0) ≡ badFault answer
   unfolding badFault
   by-kind h = rw (eq-eqb _ _ h)
 
-  pub answer-length : badFault answer ≡ false → length answer ≡ 24
+  pub answer-length : badFault answer ≡ false → length answer ≡ 32
   unfolding badFault
-  answer-length = sized (length answer) 24 (ltb 5 (byte answer 0))
+  answer-length = sized (length answer) 32 (eqb (byte answer 0) 0 || ltb 6 (byte answer 0))
 
   -- a word of an answer
-  pub word-of : badFault answer ≡ false → (at : ℕ) → at + 8 ≤ 24
+  pub word-of : badFault answer ≡ false → (at : ℕ) → at + 8 ≤ 32
       → onFetch (entry 1 (ofImage answer) at) 0 (λ w. w) ≡ wordAt answer at
   word-of fine at h = rw (word-inside answer at (omega (arith, answer-length fine)))

@@ -45,9 +45,9 @@ clearOverflowCall records recorder =
     else if badState recorder then (badRecorder, recorder)
     else withState (clearingOverflow (slotsIn records) records (byte recorder 0) (overflowIn recorder))
 
--- not 24 bytes, or of no kind that a request answers
+-- not 32 bytes, or of no kind that a request answers
 unfoldable pub badFault : List ℕ → Bool
-badFault answer = not (eqb (length answer) 24) || ltb 5 (byte answer 0)
+badFault answer = not (eqb (length answer) 32) || (eqb (byte answer 0) 0 || ltb 6 (byte answer 0))
 
 -- the record in bytes 23:8, by its two words
 abbrev pub recordIn : List ℕ → ℕ

@@ -1,10 +1,10 @@
-// An answer's 24 bytes, as three words.
+// An answer's 32 bytes, as four words.
 ghost use mathlib.Core.Path.{_≡_};
 ghost use mathlib.Core.List.{[], _∷_, _++_};
 ghost use Prim.Native.Nat.{_<_};
 ghost use lib.ListN.{length};
 ghost use Rattle.image.specs.Bytes.{bytesOf};
-ghost use Rattle.image.specs.Entries.{spell};
+ghost use Rattle.image.specs.Entries.{spell, placeOf};
 ghost use Rattle.faults.specs.Fault.{faultOf};
 ghost use Rattle.faults.specs.Slots.{one-if};
 ghost use Rattle.dma.specs.Answers as dma;
@@ -13,13 +13,12 @@ ghost use Rattle.interrupts.specs.Checked.{dueOf};
 ghost use Rattle.irte.specs.Checked.{remappedOf};
 ghost use Rattle.ffi.specs.Answer.{bytesOfPacked, blockedBytes, refusedBytes, memoryBytes, modes, remappedBytes, postedBytes, interruptBytes};
 use faults::Fault;
+use image::EntryAddress;
 use image::store8;
 use unit::InterruptAnswer;
 use unit::MemoryAnswer;
 use unit::Notice;
 use unit::Remapped;
-
-const GRANTED: u8 = 0;
 
 pub const BLOCKED: u8 = 1;
 
@@ -31,10 +30,13 @@ const REMAPPED: u8 = 4;
 
 const POSTED: u8 = 5;
 
+const GRANTED: u8 = 6;
+
 pub struct Packed {
     pub head: u64,
     pub low: u64,
     pub high: u64,
+    pub last: u64,
 }
 
 // The kind, bytes 1, 2 and 3, and bytes 7:4.
@@ -56,23 +58,36 @@ pub(crate) fn flag(on: bool) -> u8
 
 // An answer that names no byte from 8 up.
 fn short(head: u64) -> Packed
-    ensures { λ r. ⌜ bytesOfPacked r ≡ bytesOf 8 head ++ bytesOf 16 0 ⌝ }
+    ensures { λ r. ⌜ bytesOfPacked r ≡ bytesOf 8 head ++ bytesOf 16 0 ++ bytesOf 8 0 ⌝ }
 {
     Packed {
         head,
         low: 0,
         high: 0,
+        last: 0,
     }
 }
 
-fn pack_fault(fault: Fault) -> Packed
-    ensures { λ r. ⌜ bytesOfPacked r ≡ blockedBytes (faultOf fault) ⌝ }
+// Byte 3 tells whether the last word is an entry's address.
+fn pack_fault(fault: Fault, entry: EntryAddress) -> Packed
+    ensures { λ r. ⌜ bytesOfPacked r ≡ blockedBytes (faultOf fault) (placeOf entry) ⌝ }
 {
     let reason = fault.reason;
-    Packed {
-        head: head(BLOCKED, reason.number(), flag(fault.recordable), 0, 0),
-        low: fault.low,
-        high: fault.high,
+    let number = reason.number();
+    let recordable = flag(fault.recordable);
+    match entry {
+        EntryAddress::NoEntry => Packed {
+            head: head(BLOCKED, number, recordable, 0, 0),
+            low: fault.low,
+            high: fault.high,
+            last: 0,
+        },
+        EntryAddress::At(at) => Packed {
+            head: head(BLOCKED, number, recordable, 1, 0),
+            low: fault.low,
+            high: fault.high,
+            last: at,
+        },
     }
 }
 
@@ -83,15 +98,16 @@ fn pack_refusal(number: u8) -> Packed
 }
 
 pub(crate) fn pack_memory(answer: MemoryAnswer) -> Packed
-    ensures { λ r. ⌜ bytesOfPacked r ≡ memoryBytes (dma.outcomeOf answer) ⌝ }
+    ensures { λ r. ⌜ bytesOfPacked r ≡ memoryBytes (dma.outcomeOf answer) (dma.entryOf answer) ⌝ }
 {
     match answer {
         MemoryAnswer::Granted(address) => Packed {
             head: head(GRANTED, 0, 0, 0, 0),
             low: address,
             high: 0,
+            last: 0,
         },
-        MemoryAnswer::Blocked(fault, _) => pack_fault(fault),
+        MemoryAnswer::Blocked(fault, entry) => pack_fault(fault, entry),
         MemoryAnswer::Refused(number) => pack_refusal(number),
     }
 }
@@ -110,38 +126,49 @@ fn pack_remapped(r: Remapped) -> Packed
     short(head(REMAPPED, r.vector, r.delivery, modes_of(r), r.destination))
 }
 
-fn pack_posted(notice: Notice) -> Packed
-    ensures { λ r. ⌜ bytesOfPacked r ≡ postedBytes (dueOf notice) ⌝ }
+fn pack_posted(descriptor: u64, posted: u8, notice: Notice) -> Packed
+    ensures { λ r. ⌜ bytesOfPacked r ≡ postedBytes descriptor posted (dueOf notice) ⌝ }
 {
     match notice {
-        Notice::Silent => short(head(POSTED, 0, 0, 0, 0)),
+        Notice::Silent => Packed {
+            head: head(POSTED, 0, 0, posted, 0),
+            low: descriptor,
+            high: 0,
+            last: 0,
+        },
         Notice::Due {
             vector,
             destination,
-        } => short(head(POSTED, 1, vector, 0, destination)),
+        } => Packed {
+            head: head(POSTED, 1, vector, posted, destination),
+            low: descriptor,
+            high: 0,
+            last: 0,
+        },
     }
 }
 
 pub(crate) fn pack_interrupt(answer: InterruptAnswer) -> Packed
-    ensures { λ r. ⌜ bytesOfPacked r ≡ interruptBytes (interrupts.outcomeOf answer) ⌝ }
+    ensures { λ r. ⌜ bytesOfPacked r ≡ interruptBytes (interrupts.outcomeOf answer) (interrupts.entryOf answer) ⌝ }
 {
     match answer {
         InterruptAnswer::Passed => short(head(PASSED, 0, 0, 0, 0)),
         InterruptAnswer::Remapped(remapped) => pack_remapped(remapped),
         InterruptAnswer::Posted(posted) => {
             let notice = posted.notice;
-            pack_posted(notice)
+            pack_posted(posted.descriptor, posted.vector, notice)
         }
-        InterruptAnswer::Blocked(fault, _) => pack_fault(fault),
+        InterruptAnswer::Blocked(fault, entry) => pack_fault(fault, entry),
         InterruptAnswer::Refused(number) => pack_refusal(number),
     }
 }
 
-pub(crate) fn store(buffer: &mut [u8], head: u64, low: u64, high: u64)
-    requires { ⌜ length (now buffer) ≡ 24 ⌝ }
-    ensures { λ _. ⌜ now (buffer .exit) ≡ bytesOf 8 head ++ bytesOf 16 (spell (low ∷ high ∷ [])) ⌝ }
+pub(crate) fn store(buffer: &mut [u8], head: u64, low: u64, high: u64, last: u64)
+    requires { ⌜ length (now buffer) ≡ 32 ⌝ }
+    ensures { λ _. ⌜ now (buffer .exit) ≡ bytesOf 8 head ++ bytesOf 16 (spell (low ∷ high ∷ [])) ++ bytesOf 8 last ⌝ }
 {
     store8(buffer, 0, head);
     store8(buffer, 8, low);
     store8(buffer, 16, high);
+    store8(buffer, 24, last);
 }

@@ -78,14 +78,14 @@ pub extern "C" fn galitzaf_clear_overflow(records: &[u8], recorder: &mut [u8]) -
     answer.number()
 }
 
-// Not 24 bytes, or of no kind that a request answers.
+// Not 32 bytes, or of no kind that a request answers.
 fn bad_answer(answer: &[u8]) -> bool
     ensures { λ r. ⌜ r ≡ badFault (now (answer .entry)) ⌝ }
 {
-    if answer.len() != 24 {
+    if answer.len() != 32 {
         return true;
     }
-    5 < answer[0]
+    (answer[0] == 0) | (6 < answer[0])
 }
 
 #[no_mangle]

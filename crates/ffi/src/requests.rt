@@ -30,7 +30,7 @@ pub extern "C" fn galitzaf_memory_request(
     if malformed(registers) {
         return BAD_REGISTERS;
     }
-    if answer.len() != 24 {
+    if answer.len() != 32 {
         return BAD_ANSWER;
     }
     if 1 < write {
@@ -42,7 +42,7 @@ pub extern "C" fn galitzaf_memory_request(
         write: write == 1,
     };
     let packed = pack_memory(memory_request(unpack(registers), image, request));
-    store(answer, packed.head, packed.low, packed.high);
+    store(answer, packed.head, packed.low, packed.high, packed.last);
     OK
 }
 
@@ -60,7 +60,7 @@ pub extern "C" fn galitzaf_interrupt_request(
     if malformed(registers) {
         return BAD_REGISTERS;
     }
-    if answer.len() != 24 {
+    if answer.len() != 32 {
         return BAD_ANSWER;
     }
     let request = InterruptRequest {
@@ -69,6 +69,6 @@ pub extern "C" fn galitzaf_interrupt_request(
         data,
     };
     let packed = pack_interrupt(interrupt_request(unpack(registers), image, request));
-    store(answer, packed.head, packed.low, packed.high);
+    store(answer, packed.head, packed.low, packed.high, packed.last);
     OK
 }

@@ -8,6 +8,7 @@ fn of_fault(fault: &Fault) -> Outcome {
         reason: fault.reason().number(),
         recordable: fault.recordable(),
         record: fault.record().bytes(),
+        entry: fault.entry(),
     })
 }
 
@@ -30,8 +31,8 @@ pub fn of_interrupt(answer: InterruptAnswer) -> Outcome {
             vector: to.vector,
             destination: to.destination,
         },
-        InterruptAnswer::Posted(notification) => Outcome::Posted {
-            notice: notification.map(|n| Notice {
+        InterruptAnswer::Posted(post) => Outcome::Posted {
+            notice: post.notification.map(|n| Notice {
                 vector: n.vector,
                 destination: n.destination,
             }),

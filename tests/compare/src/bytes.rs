@@ -28,10 +28,17 @@ fn flags(bits: &[bool]) -> u8 {
 pub fn answer(outcome: &Outcome) -> [u8; ANSWER_SIZE] {
     let mut bytes = [0; ANSWER_SIZE];
     match outcome {
-        Outcome::Granted(address) => bytes[8..16].copy_from_slice(&address.to_le_bytes()),
+        Outcome::Granted(address) => {
+            bytes[0] = 6;
+            bytes[8..16].copy_from_slice(&address.to_le_bytes());
+        }
         Outcome::Blocked(fault) => {
             bytes[..3].copy_from_slice(&[1, fault.reason, u8::from(fault.recordable)]);
             bytes[8..24].copy_from_slice(&fault.record);
+            if let Some(entry) = fault.entry {
+                bytes[3] = 1;
+                bytes[24..].copy_from_slice(&entry.to_le_bytes());
+            }
         }
         Outcome::Refused(number) => bytes[..2].copy_from_slice(&[2, *number]),
         Outcome::Passed => bytes[0] = 3,
@@ -54,6 +61,17 @@ pub fn answer(outcome: &Outcome) -> [u8; ANSWER_SIZE] {
                 bytes[4..8].copy_from_slice(&notice.destination.to_le_bytes());
             }
         }
+    }
+    bytes
+}
+
+/// An answer with a post's vector and descriptor as they came: the reference doesn't name them, and the
+/// image, which is compared too, has both.
+pub fn answer_beside(outcome: &Outcome, came: &[u8]) -> [u8; ANSWER_SIZE] {
+    let mut bytes = answer(outcome);
+    if let (Outcome::Posted { .. }, &[5, _, _, vector, ..]) = (outcome, came) {
+        bytes[3] = vector;
+        bytes[8..16].copy_from_slice(&came[8..16]);
     }
     bytes
 }

@@ -105,8 +105,8 @@ impl Judge {
     }
 
     fn compare(&self, request: usize, status: u32, outcome: &Outcome) -> Result<(), String> {
-        let expected = bytes::answer(outcome);
         let (ours, answer) = (self.ours.content(), self.answer.content());
+        let expected = bytes::answer_beside(outcome, answer);
         let kept = self.ours.kept() && self.answer.kept();
         if status == 0 && answer == expected && ours == self.theirs && kept {
             return Ok(());

@@ -54,7 +54,8 @@ fn spoil_recorded(random: &mut Random, answer: &mut Vec<u8>) {
     if random.coin() {
         return resized(random, answer);
     }
-    answer[0] = 6 + random.below(250) as u8;
+    // 0, or a number above 6.
+    answer[0] = 7u8.wrapping_add(random.below(250) as u8);
 }
 
 /// Records or a state of another length, or a next slot above the last; the rest may be malformed
@@ -132,7 +133,7 @@ pub fn run(number: u64, tally: Option<&mut Tally>) -> Result<(), String> {
         registers: bytes::registers(&bench::REGISTERS).to_vec(),
         image: world.image,
         write: 0,
-        answer: [0; ANSWER_SIZE].to_vec(),
+        answer: [3; ANSWER_SIZE].to_vec(),
         records: [0xFF; RECORDS_SIZE].to_vec(),
         recorder: [0; RECORDER_SIZE].to_vec(),
     };

@@ -251,7 +251,7 @@ fn record(
     let is_fault = answer[0] == 1;
     let recordable = is_fault && (answer[2] == 1 || flaw == Flaw::SilencedRecorded);
     let mut bytes = [0; 16];
-    bytes.copy_from_slice(&answer[8..]);
+    bytes.copy_from_slice(&answer[8..24]);
     let from = recorder.next;
     match reference::record(records, recorder, recordable, bytes) {
         reference::Call::NotRecordable if !is_fault => 0x10,

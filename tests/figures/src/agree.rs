@@ -7,25 +7,28 @@ use ordinary::{Fault, InterruptAnswer, MemoryAnswer};
 
 type Answer = [u8; ANSWER_SIZE];
 
-/// An answer of the C interface: its head of 8 bytes, and two words.
-fn bytes(head: [u8; 8], words: [u64; 2]) -> Answer {
-    let [low, high] = words.map(u64::to_le_bytes);
+/// An answer of the C interface: its head of 8 bytes, and three words.
+fn bytes(head: [u8; 8], words: [u64; 3]) -> Answer {
+    let [low, high, last] = words.map(u64::to_le_bytes);
     let mut answer = [0; ANSWER_SIZE];
-    let parts = answer.chunks_exact_mut(8).zip([head, low, high]);
+    let parts = answer.chunks_exact_mut(8).zip([head, low, high, last]);
     parts.for_each(|(to, from)| to.copy_from_slice(&from));
     answer
 }
 
 fn blocked(fault: Fault) -> Answer {
     let recordable = fault.recordable.into();
-    bytes([1, fault.reason, recordable, 0, 0, 0, 0, 0], fault.record)
+    let named = fault.entry.is_some().into();
+    let [low, high] = fault.record;
+    let words = [low, high, fault.entry.unwrap_or(0)];
+    bytes([1, fault.reason, recordable, named, 0, 0, 0, 0], words)
 }
 
 fn memory(answer: MemoryAnswer) -> Answer {
     match answer {
-        MemoryAnswer::Granted(address) => bytes([0; 8], [address, 0]),
+        MemoryAnswer::Granted(address) => bytes([6, 0, 0, 0, 0, 0, 0, 0], [address, 0, 0]),
         MemoryAnswer::Blocked(fault) => blocked(fault),
-        MemoryAnswer::Refused(number) => bytes([2, number, 0, 0, 0, 0, 0, 0], [0; 2]),
+        MemoryAnswer::Refused(number) => bytes([2, number, 0, 0, 0, 0, 0, 0], [0; 3]),
     }
 }
 
@@ -33,7 +36,7 @@ fn interrupt(answer: InterruptAnswer) -> Answer {
     let head = |kind: [u8; 4], destination: u32| {
         let [a, b, c, d] = destination.to_le_bytes();
         let [k, l, m, n] = kind;
-        bytes([k, l, m, n, a, b, c, d], [0; 2])
+        bytes([k, l, m, n, a, b, c, d], [0; 3])
     };
     match answer {
         InterruptAnswer::Passed => head([3, 0, 0, 0], 0),
@@ -71,6 +74,11 @@ pub fn agree(load: &Load, prepared: &Prepared) -> bool {
             let plain = &prepared.plain;
             let image = &mut theirs;
             let expected = ordinary::interrupt_request(plain, image, source, address, data);
+            // The ordinary translator doesn't name a post's vector and descriptor; the image has both.
+            if answer[0] == 5 {
+                answer[3] = 0;
+                answer[8..16].fill(0);
+            }
             status == 0 && answer == interrupt(expected) && ours == theirs
         }),
     }

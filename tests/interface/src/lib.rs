@@ -14,7 +14,7 @@ pub use meters::{reset_meters, tick_meters, Gates};
 /// Bytes of the registers.
 pub const REGISTERS_SIZE: usize = 24;
 /// Bytes of an answer.
-pub const ANSWER_SIZE: usize = 24;
+pub const ANSWER_SIZE: usize = 32;
 /// Bytes of the record buffer.
 pub const RECORDS_SIZE: usize = 128;
 /// Bytes of the recorder's state.

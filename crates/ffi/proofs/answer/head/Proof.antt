@@ -1,4 +1,4 @@
-use Rattle.ffi.proofs.ThreeWords.{head-bytes}
+use Rattle.ffi.proofs.FourWords.{head-bytes}
 use borrow.Author.Needs.{needs}
 use Rattle.ffi.proofs.answer.head.Statement.{statement}
 use Rattle.ffi.proofs.answer.head.Tie as tie

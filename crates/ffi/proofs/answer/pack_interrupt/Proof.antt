@@ -1,5 +1,5 @@
 use mathlib.Core.Path.{_≡_, ap, sym, _∙_}
-use Rattle.interrupts.specs.Answers.{outcomeOf}
+use Rattle.interrupts.specs.Answers.{outcomeOf, entryOf}
 use Rattle.interrupts.specs.declared.answer.InterruptAnswer.{InterruptAnswer}
 use Rattle.ffi.specs.Answer.{interruptBytes}
 use borrow.Author.Needs.{needs}
@@ -7,8 +7,8 @@ use Rattle.ffi.proofs.answer.pack_interrupt.Statement.{statement}
 use Rattle.ffi.proofs.answer.pack_interrupt.Tie as tie
 
 -- the bytes of an answer by what the match told of it
-told : {a b : InterruptAnswer} → a ≡ b → interruptBytes (outcomeOf b) ≡ interruptBytes (outcomeOf a)
-told e = sym (ap (λ (a : InterruptAnswer). interruptBytes (outcomeOf a)) e)
+told : {a b : InterruptAnswer} → a ≡ b → interruptBytes (outcomeOf b) (entryOf b) ≡ interruptBytes (outcomeOf a) (entryOf a)
+told e = sym (ap (λ (a : InterruptAnswer). interruptBytes (outcomeOf a) (entryOf a)) e)
 
 enum-told : tie.Need-enum-told
 enum-told c = search needs

@@ -1,8 +1,8 @@
 use mathlib.Core.Path.{ap, sym, _∙_}
-use Rattle.dma.specs.Answers.{outcomeOf}
+use Rattle.dma.specs.Answers.{outcomeOf, entryOf}
 use Rattle.dma.specs.declared.MemoryAnswer.{MemoryAnswer}
 use Rattle.ffi.specs.Answer.{memoryBytes}
-use Rattle.ffi.proofs.ThreeWords.{low-alone}
+use Rattle.ffi.proofs.FourWords.{low-alone}
 use borrow.Author.Needs.{needs}
 use Rattle.ffi.proofs.answer.pack_memory.Statement.{statement}
 use Rattle.ffi.proofs.answer.pack_memory.Tie as tie
@@ -28,13 +28,13 @@ pack-refusal-requires c κs = search needs
 returns : tie.Need-returns
 returns c =
     rw (c .head .ensures, low-alone (c .before .before .answer .given .0 .0))
-    (sym (ap (λ (a : MemoryAnswer). memoryBytes (outcomeOf a)) (c .before .before .answer .given .1)))
+    (sym (ap (λ (a : MemoryAnswer). memoryBytes (outcomeOf a) (entryOf a)) (c .before .before .answer .given .1)))
 
 returns-2 : tie.Need-returns-2
-returns-2 c = c .pack-fault .ensures ∙ sym (ap (λ (a : MemoryAnswer). memoryBytes (outcomeOf a)) (c .before .before .answer2 .given .1))
+returns-2 c = c .pack-fault .ensures ∙ sym (ap (λ (a : MemoryAnswer). memoryBytes (outcomeOf a) (entryOf a)) (c .before .before .answer2 .given .1))
 
 returns-3 : tie.Need-returns-3
-returns-3 c = c .pack-refusal .ensures ∙ sym (ap (λ (a : MemoryAnswer). memoryBytes (outcomeOf a)) (c .before .before .answer3 .given .1))
+returns-3 c = c .pack-refusal .ensures ∙ sym (ap (λ (a : MemoryAnswer). memoryBytes (outcomeOf a) (entryOf a)) (c .before .before .answer3 .given .1))
 
 pub pack-memory-spec : {M : Type 1} → statement M
 pack-memory-spec =

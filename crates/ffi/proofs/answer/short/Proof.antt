@@ -1,4 +1,4 @@
-use Rattle.ffi.proofs.ThreeWords.{low-alone}
+use Rattle.ffi.proofs.FourWords.{low-alone}
 use Rattle.ffi.proofs.answer.short.Statement.{statement}
 use Rattle.ffi.proofs.answer.short.Tie as tie
 

@@ -6,11 +6,8 @@ use Rattle.ffi.proofs.recorder.bad_answer.Tie as tie
 returns : tie.Need-returns
 returns c = wrong-answer-length (c .before .args .answer .now) (c .if1 .taken)
 
-shared-slice-read-result : tie.Need-shared-slice-read-result
-shared-slice-read-result c = search needs
-
 returns-2 : tie.Need-returns-2
-returns-2 c = by-kind (c .before .before .args .answer .now) (c .before .if1 .left)
+returns-2 c = by-kind (c .before .before .before .args .answer .now) (c .before .before .if1 .left)
 
 pub bad-answer-spec : {M : Type 1} → statement M
-bad-answer-spec = tie.close (tie.spec returns shared-slice-read-result returns-2)
+bad-answer-spec = tie.close (tie.spec returns (λ c. search needs) (λ c. search needs) returns-2)

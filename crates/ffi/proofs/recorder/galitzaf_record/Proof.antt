@@ -29,7 +29,7 @@ two c =
     (sym (c .before .is-unfit .ensures) ∙ c .if1 .left)
 
 whole : (c : tie.Else2)
-    → length (c .before .before .before .before .before .before .before .before .before .args .answer .now) ≡ 24
+    → length (c .before .before .before .before .before .before .before .before .before .args .answer .now) ≡ 32
 whole c =
     answer-length (c .before .before .before .before .before .before .before .before .before .args .answer .now)
     (sym (c .before .bad-answer .ensures) ∙ c .if2 .left)

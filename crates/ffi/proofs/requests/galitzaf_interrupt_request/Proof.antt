@@ -29,7 +29,7 @@ returns-3 c =
     let source = unpacked .before in
     let second = source .before in
     let first = second .before in
-    rw (← first .before .malformed .ensures, first .if1 .left, eq-eqb _ _ (second .if2 .left), stored .store .ensures, packed .pack-interrupt .ensures, asked .interrupt-request .ensures .0, asked .interrupt-request .ensures .1 .1, unpacked .unpack .ensures, source .from-number .ensures)
+    rw (← first .before .malformed .ensures, first .if1 .left, eq-eqb _ _ (second .if2 .left), stored .store .ensures, packed .pack-interrupt .ensures, asked .interrupt-request .ensures .0, asked .interrupt-request .ensures .1 .0, asked .interrupt-request .ensures .1 .1, unpacked .unpack .ensures, source .from-number .ensures)
 
 pub galitzaf-interrupt-request-spec : {M : Type 1} → statement M
 galitzaf-interrupt-request-spec =

@@ -36,7 +36,7 @@ returns-4 c =
     let third = source .before in
     let second = third .before in
     let first = second .before in
-    rw (← first .before .malformed .ensures, first .if1 .left, eq-eqb _ _ (second .if2 .left), le-ltb _ _ (third .if3 .left), stored .store .ensures, packed .pack-memory .ensures, asked .memory-request .ensures .0, unpacked .unpack .ensures, source .from-number .ensures)
+    rw (← first .before .malformed .ensures, first .if1 .left, eq-eqb _ _ (second .if2 .left), le-ltb _ _ (third .if3 .left), stored .store .ensures, packed .pack-memory .ensures, asked .memory-request .ensures .0, asked .memory-request .ensures .1, unpacked .unpack .ensures, source .from-number .ensures)
 
 pub galitzaf-memory-request-spec : {M : Type 1} → statement M
 galitzaf-memory-request-spec =
