@@ -1,13 +1,14 @@
 //! "Bells: interrupts".
 
 use crate::bits::{any_set, bit, bits, put};
-use crate::image::fetch;
+use crate::image::{bad_windows, fetch, place, whole, Image, Window};
 use crate::record::interrupt_fault;
 use crate::registers::{in_interrupt_range, outside_the_list, Registers};
 use crate::slips::{self, Slip};
 use crate::{Notice, Outcome};
 
-/// Answers an interrupt. Only a post changes the image.
+/// Answers an interrupt over the old image, one window from 0. Only a post
+/// changes it.
 pub fn interrupt_request(
     registers: &Registers,
     image: &mut [u8],
@@ -18,7 +19,7 @@ pub fn interrupt_request(
     interrupt_request_with(Slip::None, registers, image, source, address, data)
 }
 
-/// Answers an interrupt with a known slip put in.
+/// The same with a known slip put in.
 pub fn interrupt_request_with(
     slip: Slip,
     registers: &Registers,
@@ -27,12 +28,30 @@ pub fn interrupt_request_with(
     address: u64,
     data: u32,
 ) -> Outcome {
-    let mut words = Vec::new();
-    answer(slip, registers, image, source, address, data, &mut words)
+    let windows = whole(image);
+    interrupt_request_in(slip, registers, &windows, image, source, address, data)
 }
 
-/// The addresses of the interrupt's named words: the entry's two, then the
-/// descriptor's eight, each only where fetched.
+/// Answers an interrupt over windows, with a known slip put in or none.
+pub fn interrupt_request_in(
+    slip: Slip,
+    registers: &Registers,
+    windows: &[Window],
+    run: &mut [u8],
+    source: u16,
+    address: u64,
+    data: u32,
+) -> Outcome {
+    let message = Message {
+        source,
+        address,
+        data,
+    };
+    answer(slip, registers, windows, run, message, &mut Vec::new())
+}
+
+/// The host addresses of the interrupt's named words: the entry's two, then
+/// the descriptor's eight, each only where fetched.
 pub fn named_words_interrupt(
     registers: &Registers,
     image: &[u8],
@@ -40,31 +59,52 @@ pub fn named_words_interrupt(
     address: u64,
     data: u32,
 ) -> Vec<u64> {
-    let mut words = Vec::new();
-    let mut copy = image.to_vec();
-    answer(
-        Slip::None,
-        registers,
-        &mut copy,
+    named_words_interrupt_in(registers, &whole(image), image, source, address, data)
+}
+
+/// The same over windows.
+pub fn named_words_interrupt_in(
+    registers: &Registers,
+    windows: &[Window],
+    run: &[u8],
+    source: u16,
+    address: u64,
+    data: u32,
+) -> Vec<u64> {
+    let message = Message {
         source,
         address,
         data,
-        &mut words,
-    );
+    };
+    let mut words = Vec::new();
+    let mut copy = run.to_vec();
+    let slip = Slip::None;
+    answer(slip, registers, windows, &mut copy, message, &mut words);
     words
+}
+
+/// An interrupt as it comes.
+struct Message {
+    source: u16,
+    address: u64,
+    data: u32,
 }
 
 fn answer(
     slip: Slip,
     registers: &Registers,
-    image: &mut [u8],
-    source: u16,
-    address: u64,
-    data: u32,
+    windows: &[Window],
+    run: &mut [u8],
+    message: Message,
     words: &mut Vec<u64>,
 ) -> Outcome {
+    let Message {
+        source,
+        address,
+        data,
+    } = message;
     // 1 is checked before 2.
-    if outside_the_list(registers) {
+    if outside_the_list(registers) || bad_windows(Image { windows, run }) {
         return Outcome::Refused(1);
     }
     if !in_interrupt_range(address) {
@@ -115,7 +155,7 @@ fn answer(
     }
     // Entry at table + 16 x index: access 23h.
     let entry_address = u128::from(registers.interrupt_table) + 16 * index;
-    let Some(entry) = fetch(image, entry_address, 16, words) else {
+    let Some(entry) = fetch(Image { windows, run }, entry_address, 16, words) else {
         return blocked(0x23, false, index, Some(entry_address));
     };
     // Bit 1 is FPD, read always.
@@ -157,7 +197,7 @@ fn answer(
     let vector = bits(&entry, 23, 16) as usize;
     let descriptor_address = descriptor_address(&entry);
     // Its 64 bytes: access 27h; 27h and 28h give the descriptor.
-    let Some(descriptor) = fetch(image, descriptor_address, 64, words) else {
+    let Some(descriptor) = fetch(Image { windows, run }, descriptor_address, 64, words) else {
         return blocked(0x27, fpd, index, Some(descriptor_address));
     };
     // bits 271:258, 287:280, 511:320 set, or without EIME 295:288 and 319:304:
@@ -171,9 +211,11 @@ fn answer(
     if !registers.eime && (any_set(&descriptor, 295, 288) || any_set(&descriptor, 319, 304)) {
         return blocked(0x28, fpd, index, Some(descriptor_address));
     }
-    // All 64 bytes lie in the image, since they were fetched.
-    let start = descriptor_address as usize;
-    let in_image = &mut image[start..start + 64];
+    // All 64 bytes lie in a window, since they were fetched.
+    let Some(start) = place(windows, descriptor_address, 64) else {
+        return blocked(0x27, fpd, index, Some(descriptor_address));
+    };
+    let in_image = &mut run[start..start + 64];
     // Set request bit (0 to 255) of the vector.
     put(in_image, vector, vector, 1);
     // A notice is due when ON (256) is clear and either URG (bit 14 of the

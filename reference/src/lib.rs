@@ -20,8 +20,15 @@ mod registers;
 pub mod slips;
 mod take;
 
-pub use interrupts::{interrupt_request, interrupt_request_with, named_words_interrupt};
-pub use memory::{memory_request, memory_request_with, named_words_memory, walked_entries};
+pub use image::Window;
+pub use interrupts::{
+    interrupt_request, interrupt_request_in, interrupt_request_with, named_words_interrupt,
+    named_words_interrupt_in,
+};
+pub use memory::{
+    memory_request, memory_request_in, memory_request_with, named_words_memory,
+    named_words_memory_in, walked_entries, walked_entries_in,
+};
 pub use meters::{
     counts_weighted, load_times_2_31, reset_meters, tick_meters, Gate, Meter, MetersRefused,
 };
@@ -29,7 +36,7 @@ pub use record::Fault;
 pub use recorder::{clear_overflow, clear_slot, record, Call, Recorder};
 pub use registers::Registers;
 pub use slips::Slip;
-pub use take::{take, Take};
+pub use take::{take, take_in, Take};
 
 /// What a request is answered.
 #[derive(Clone, Debug, PartialEq, Eq)]

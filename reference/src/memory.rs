@@ -1,13 +1,13 @@
 //! "Memory requests, step by step".
 
 use crate::bits::{any_set, bit, bits};
-use crate::image::fetch;
+use crate::image::{bad_windows, fetch, whole, Image, Window};
 use crate::record::memory_fault;
 use crate::registers::{in_interrupt_range, meets_interrupt_range, outside_the_list, Registers};
 use crate::slips::{self, Slip};
 use crate::Outcome;
 
-/// Answers a memory request.
+/// Answers a memory request over the old image, one window from 0.
 pub fn memory_request(
     registers: &Registers,
     image: &[u8],
@@ -18,7 +18,7 @@ pub fn memory_request(
     memory_request_with(Slip::None, registers, image, source, address, write)
 }
 
-/// Answers a memory request with a known slip put in.
+/// The same with a known slip put in.
 pub fn memory_request_with(
     slip: Slip,
     registers: &Registers,
@@ -27,12 +27,27 @@ pub fn memory_request_with(
     address: u64,
     write: bool,
 ) -> Outcome {
+    let windows = whole(image);
+    memory_request_in(slip, registers, &windows, image, source, address, write)
+}
+
+/// Answers a memory request over windows, with a known slip put in or none.
+pub fn memory_request_in(
+    slip: Slip,
+    registers: &Registers,
+    windows: &[Window],
+    run: &[u8],
+    source: u16,
+    address: u64,
+    write: bool,
+) -> Outcome {
     let mut fetched = Fetched::default();
+    let image = Image { windows, run };
     answer(slip, registers, image, source, address, write, &mut fetched)
 }
 
-/// The addresses of the request's named words: the words fetched, in order.
-/// A word fetched twice is named twice.
+/// The host addresses of the request's named words: the words fetched, in
+/// order. A word fetched twice is named twice.
 pub fn named_words_memory(
     registers: &Registers,
     image: &[u8],
@@ -40,22 +55,25 @@ pub fn named_words_memory(
     address: u64,
     write: bool,
 ) -> Vec<u64> {
-    let mut fetched = Fetched::default();
-    answer(
-        Slip::None,
-        registers,
-        image,
-        source,
-        address,
-        write,
-        &mut fetched,
-    );
+    named_words_memory_in(registers, &whole(image), image, source, address, write)
+}
+
+/// The same over windows.
+pub fn named_words_memory_in(
+    registers: &Registers,
+    windows: &[Window],
+    run: &[u8],
+    source: u16,
+    address: u64,
+    write: bool,
+) -> Vec<u64> {
+    let fetched = fetched(registers, Image { windows, run }, source, address, write);
     let mut words = fetched.table_words;
     words.extend(fetched.page_words);
     words
 }
 
-/// The addresses of the page entries the request walked: the page entries
+/// The host addresses of the page entries the request walked: the page entries
 /// among its named words, one that faults included.
 pub fn walked_entries(
     registers: &Registers,
@@ -64,17 +82,19 @@ pub fn walked_entries(
     address: u64,
     write: bool,
 ) -> Vec<u64> {
-    let mut fetched = Fetched::default();
-    answer(
-        Slip::None,
-        registers,
-        image,
-        source,
-        address,
-        write,
-        &mut fetched,
-    );
-    fetched.page_words
+    walked_entries_in(registers, &whole(image), image, source, address, write)
+}
+
+/// The same over windows.
+pub fn walked_entries_in(
+    registers: &Registers,
+    windows: &[Window],
+    run: &[u8],
+    source: u16,
+    address: u64,
+    write: bool,
+) -> Vec<u64> {
+    fetched(registers, Image { windows, run }, source, address, write).page_words
 }
 
 /// The words fetched on the way: those of the root and context entry, and
@@ -85,17 +105,24 @@ struct Fetched {
     page_words: Vec<u64>,
 }
 
+fn fetched(registers: &Registers, image: Image, source: u16, address: u64, write: bool) -> Fetched {
+    let mut fetched = Fetched::default();
+    let slip = Slip::None;
+    answer(slip, registers, image, source, address, write, &mut fetched);
+    fetched
+}
+
 fn answer(
     slip: Slip,
     registers: &Registers,
-    image: &[u8],
+    image: Image,
     source: u16,
     address: u64,
     write: bool,
     fetched: &mut Fetched,
 ) -> Outcome {
     // 1 is checked before 2.
-    if outside_the_list(registers) {
+    if outside_the_list(registers) || bad_windows(image) {
         return Outcome::Refused(1);
     }
     if in_interrupt_range(address) {

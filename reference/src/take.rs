@@ -1,6 +1,7 @@
 //! Ask 13, the taking side of a posted descriptor.
 
 use crate::bits::{bit, put};
+use crate::image::{bad_windows, place, whole, Image, Window};
 use crate::registers::{outside_the_list, Registers};
 
 /// What a take hands out.
@@ -14,9 +15,21 @@ pub enum Take {
     Refused(u8),
 }
 
-/// Takes from the descriptor at a host address.
+/// Takes from the descriptor at a host address of the old image, one window
+/// from 0.
 pub fn take(registers: &Registers, image: &mut [u8], descriptor_address: u64) -> Take {
-    if outside_the_list(registers) {
+    let windows = whole(image);
+    take_in(registers, &windows, image, descriptor_address)
+}
+
+/// The same over windows.
+pub fn take_in(
+    registers: &Registers,
+    windows: &[Window],
+    run: &mut [u8],
+    descriptor_address: u64,
+) -> Take {
+    if outside_the_list(registers) || bad_windows(Image { windows, run }) {
         return Take::Refused(1);
     }
     // A descriptor not 64-aligned or not whole in the image is house number 5,
@@ -24,11 +37,10 @@ pub fn take(registers: &Registers, image: &mut [u8], descriptor_address: u64) ->
     if descriptor_address / 64 * 64 != descriptor_address {
         return Take::Refused(5);
     }
-    if u128::from(descriptor_address) + 64 > image.len() as u128 {
+    let Some(start) = place(windows, u128::from(descriptor_address), 64) else {
         return Take::Refused(5);
-    }
-    let start = descriptor_address as usize;
-    let descriptor = &mut image[start..start + 64];
+    };
+    let descriptor = &mut run[start..start + 64];
     // A take clears ON (256) either way
     put(descriptor, 256, 256, 0);
     // and hands out the highest request bit (0 to 255), clearing it,

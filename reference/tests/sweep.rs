@@ -7,8 +7,9 @@ mod common;
 
 use common::{get, set, Random};
 use reference::{
-    interrupt_request, memory_request, named_words_interrupt, named_words_memory, walked_entries,
-    Outcome, Registers,
+    interrupt_request, interrupt_request_in, memory_request, memory_request_in,
+    named_words_interrupt, named_words_interrupt_in, named_words_memory, named_words_memory_in,
+    walked_entries, Outcome, Registers, Slip, Window,
 };
 use std::collections::BTreeSet;
 
@@ -144,6 +145,45 @@ fn alike(random: &mut Random, image: &[u8], words: &[u64]) -> Vec<u8> {
     second
 }
 
+/// The same host memory as the image, in one to four windows onto a run: cut
+/// between pages, put into the run in any order, with other bytes in between.
+fn split(random: &mut Random, image: &[u8]) -> (Vec<Window>, Vec<u8>) {
+    let mut cuts: Vec<usize> = (0..random.below(4))
+        .map(|_| 0x1000 * random.below(8) as usize)
+        .chain([0, image.len()])
+        .filter(|&cut| cut <= image.len())
+        .collect();
+    cuts.sort();
+    cuts.dedup();
+    let mut parts: Vec<(usize, usize)> = cuts.windows(2).map(|cut| (cut[0], cut[1])).collect();
+    for n in (1..parts.len()).rev() {
+        parts.swap(n, random.below(n as u64 + 1) as usize);
+    }
+    let mut run = Vec::new();
+    let mut windows = Vec::new();
+    for (start, end) in parts {
+        run.extend((0..random.below(20)).map(|_| random.0 as u8));
+        windows.push(Window {
+            start: start as u64,
+            from: run.len() as u64,
+            length: (end - start) as u64,
+        });
+        run.extend(&image[start..end]);
+    }
+    run.extend((0..random.below(20)).map(|_| random.0 as u8));
+    windows.sort_by_key(|window| window.start);
+    (windows, run)
+}
+
+/// The windows with those left out in which no word lies.
+fn with_holes(windows: &[Window], words: &[u64]) -> Vec<Window> {
+    let needed = |window: &&Window| {
+        let end = window.start + window.length;
+        words.iter().any(|word| (window.start..end).contains(word))
+    };
+    windows.iter().filter(needed).copied().collect()
+}
+
 fn ends_in(answer: &Outcome, access_faults: &[u8]) -> bool {
     match answer {
         Outcome::Blocked(fault) => access_faults.contains(&fault.reason),
@@ -225,6 +265,20 @@ fn memory_requests() {
             assert_eq!(again, answer);
             let words_again = named_words_memory(&registers, &second, source, address, write);
             assert_eq!(words_again, words);
+        }
+
+        // The same memory in windows: the same answer and words. And again
+        // with the windows left out in which none of those words lies.
+        let (windows, run) = split(&mut random, &image);
+        let holes = with_holes(&windows, &words);
+        let access = ends_in(&answer, &[0x07, 0x08, 0x09]);
+        for windows in [&windows, &holes] {
+            let none = Slip::None;
+            let again = memory_request_in(none, &registers, windows, &run, source, address, write);
+            let in_windows =
+                named_words_memory_in(&registers, windows, &run, source, address, write);
+            assert_eq!(again, answer, "access fault: {access}");
+            assert_eq!(in_windows, words);
         }
 
         // Rights switched on or off in any choice of the walked entries, none
@@ -401,6 +455,28 @@ fn interrupts() {
                 (Some(entry), 0x28) => assert_eq!(words[2], entry),
                 other => panic!("{other:x?}"),
             }
+        }
+
+        // The same memory in windows: the same answer, words and bytes.
+        let (windows, run) = split(&mut random, &image);
+        let holes = with_holes(&windows, &words);
+        for windows in [&windows, &holes] {
+            let mut run = run.clone();
+            let before = run.clone();
+            let in_windows =
+                named_words_interrupt_in(&registers, windows, &run, source, address, data);
+            assert_eq!(in_windows, words);
+            let none = Slip::None;
+            let again =
+                interrupt_request_in(none, &registers, windows, &mut run, source, address, data);
+            assert_eq!(again, answer);
+            for window in windows {
+                let (start, from) = (window.start as usize, window.from as usize);
+                let length = window.length as usize;
+                assert!(run[from..from + length] == after[start..start + length]);
+            }
+            let changed_in_run = (0..run.len()).filter(|&n| run[n] != before[n]).count();
+            assert_eq!(changed_in_run, changed.len());
         }
 
         if !ends_in(&answer, &[0x23, 0x27]) {

@@ -5,7 +5,7 @@
 mod common;
 
 use common::{bench_image, bench_with, get, set, Random, BENCH, SOURCE};
-use reference::{interrupt_request, take, Outcome, Registers, Take};
+use reference::{interrupt_request, take, take_in, Outcome, Registers, Take, Window};
 
 /// The bench's descriptor.
 const DESCRIPTOR: u64 = 0x6400;
@@ -144,6 +144,37 @@ fn not_looked_at() {
     expected[0x5F] = 0x7F;
     expected[0x60] = 0xFE;
     assert!(run == expected);
+}
+
+/// Ask 9's windows: a take is at a host address, wherever the window starts; 5
+/// where its window ends within the 64 bytes; bad windows are 1, before 5.
+#[test]
+fn over_windows() {
+    let bases = [0, 0x1000, 0xFEE0_0000, 1 << 52, 0u64.wrapping_sub(0x1000)];
+    for start in bases {
+        let window = |length| Window {
+            start,
+            from: 0x20,
+            length,
+        };
+        let mut run = vec![0xFF; 0x1020];
+        let mut expected = run.clone();
+        for (length, descriptor) in [(0x7F, start + 0x40), (0x1000, start + 0x20)] {
+            let answer = take_in(&BENCH, &[window(length)], &mut run, descriptor);
+            assert_eq!(answer, Take::Refused(5));
+        }
+        for descriptor in [start + 0x40, start + 0x41] {
+            let answer = take_in(&BENCH, &[window(0x1001)], &mut run, descriptor);
+            assert_eq!(answer, Take::Refused(1));
+        }
+        assert!(run == expected);
+        let answer = take_in(&BENCH, &[window(0x80)], &mut run, start + 0x40);
+        assert_eq!(answer, Take::Vector(255));
+        expected[0x7F] = 0x7F;
+        expected[0x80] = 0xFE;
+        assert!(run == expected);
+    }
+    assert_eq!(take_in(&BENCH, &[], &mut [0; 64], 0), Take::Refused(5));
 }
 
 /// A bench whose interrupt entries n = 0 to 15 post to one of two descriptors,
