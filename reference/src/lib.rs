@@ -10,15 +10,18 @@
 #![forbid(unsafe_code)]
 
 mod bits;
+mod context;
 mod image;
 mod interrupts;
 mod memory;
 mod meters;
+mod pages;
 mod record;
 mod recorder;
 mod registers;
 pub mod slips;
 mod take;
+mod translation;
 
 pub use image::Window;
 pub use interrupts::{
@@ -37,6 +40,9 @@ pub use recorder::{clear_overflow, clear_slot, record, Call, Recorder};
 pub use registers::Registers;
 pub use slips::Slip;
 pub use take::{take, take_in, Take};
+pub use translation::{
+    named_words_translation_in, translation_request, translation_request_in, Translation,
+};
 
 /// What a request is answered.
 #[derive(Clone, Debug, PartialEq, Eq)]

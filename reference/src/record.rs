@@ -17,13 +17,13 @@ pub struct Fault {
     pub entry: Option<u64>,
 }
 
-/// FPD silences 02h to 07h, 0Bh, 0Ch (context) and 22h, 24h, 26h to 28h
-/// (interrupt entry); others are always recordable.
+/// FPD silences 02h to 07h, 0Bh, 0Ch (context; with Ask 1 0Dh too) and 22h,
+/// 24h, 26h to 28h (interrupt entry); others are always recordable.
 ///
 /// `fpd` is bit 1 of the context or interrupt entry, and false as long as no
 /// such entry was fetched.
 fn recordable(reason: u8, fpd: bool) -> bool {
-    let silenced_by_context = matches!(reason, 0x02..=0x07 | 0x0B | 0x0C);
+    let silenced_by_context = matches!(reason, 0x02..=0x07 | 0x0B..=0x0D);
     let silenced_by_interrupt_entry = matches!(reason, 0x22 | 0x24 | 0x26..=0x28);
     !(fpd && (silenced_by_context || silenced_by_interrupt_entry))
 }
@@ -56,6 +56,15 @@ pub fn memory_fault(
         record,
         entry: Some(entry as u64),
     }
+}
+
+/// The fault of a translation request (Ask 1): AT goes in record bits 125:124,
+/// and it is 01b; bit 126 is set.
+pub fn translation_fault(reason: u8, fpd: bool, source: u16, address: u64, entry: u128) -> Fault {
+    let write = false;
+    let mut fault = memory_fault(reason, fpd, source, address, write, entry);
+    put(&mut fault.record, 125, 124, 0b01);
+    fault
 }
 
 /// The fault of an interrupt, which may concern no entry.
