@@ -13,6 +13,7 @@ mod bits;
 mod context;
 mod image;
 mod interrupts;
+mod listing;
 mod memory;
 mod meters;
 mod pages;
@@ -28,6 +29,7 @@ pub use interrupts::{
     interrupt_request, interrupt_request_in, interrupt_request_with, named_words_interrupt,
     named_words_interrupt_in,
 };
+pub use listing::listing;
 pub use memory::{
     memory_request, memory_request_in, memory_request_with, named_words_memory,
     named_words_memory_in, walked_entries, walked_entries_in,
