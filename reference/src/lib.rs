@@ -22,6 +22,7 @@ mod recorder;
 mod registers;
 pub mod slips;
 mod take;
+mod trace;
 mod translation;
 
 pub use image::Window;
@@ -42,6 +43,10 @@ pub use recorder::{clear_overflow, clear_slot, record, Call, Recorder};
 pub use registers::Registers;
 pub use slips::Slip;
 pub use take::{take, take_in, Take};
+pub use trace::{
+    decode_entry, encode_entry, read_trace, replay_trace, traced_answer, write_trace, Trace,
+    TraceEntry, TracePlace, TracedAnswer, TracedRequest,
+};
 pub use translation::{
     named_words_translation_in, translation_request, translation_request_in, Translation,
 };
