@@ -20,6 +20,8 @@ pub struct Context {
     pub x: u8,
     /// The top page table's address.
     pub top: u128,
+    /// The domain.
+    pub domain: u16,
 }
 
 /// A fault on the way: its reason, FPD as read by then, and the host address
@@ -106,8 +108,8 @@ pub fn context(
         } else {
             aw_bits
         },
-        // Domain is 87:72, and no step asks for it. The top page table's
-        // address is 63:12.
+        // Domain is 87:72, the top page table's address 63:12.
         top: bits(&context, 63, 12) << 12,
+        domain: bits(&context, 87, 72) as u16,
     })
 }

@@ -10,6 +10,7 @@
 #![forbid(unsafe_code)]
 
 mod bits;
+mod cache;
 mod context;
 mod image;
 mod interrupts;
@@ -25,6 +26,7 @@ mod take;
 mod trace;
 mod translation;
 
+pub use cache::{Cache, Cached};
 pub use image::Window;
 pub use interrupts::{
     interrupt_request, interrupt_request_in, interrupt_request_with, named_words_interrupt,

@@ -148,6 +148,7 @@ fn answer(
         levels,
         x,
         top,
+        ..
     } = match context(slip, registers, image, source, &mut fetched.table_words) {
         Ok(context) => context,
         Err(Stop { reason, fpd, entry }) => return blocked(reason, fpd, entry),

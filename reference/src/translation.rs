@@ -109,6 +109,7 @@ fn answer(
         levels,
         x,
         top,
+        ..
     } = match context(Slip::None, registers, image, source, words) {
         Ok(context) => context,
         Err(Stop { reason, fpd, entry }) => return blocked(reason, fpd, entry),
