@@ -245,7 +245,7 @@ fn answer(
 
 /// The descriptor address has 63:38 as its bits 31:6 and 127:96 as its bits
 /// 63:32.
-fn descriptor_address(entry: &[u8]) -> u128 {
+pub fn descriptor_address(entry: &[u8]) -> u128 {
     let mut address = [0; 8];
     put(&mut address, 31, 6, bits(entry, 63, 38));
     put(&mut address, 63, 32, bits(entry, 127, 96));

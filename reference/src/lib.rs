@@ -10,6 +10,7 @@
 #![forbid(unsafe_code)]
 
 mod bits;
+mod builder;
 mod cache;
 mod context;
 mod image;
@@ -26,6 +27,7 @@ mod take;
 mod trace;
 mod translation;
 
+pub use builder::{build, Build, Item, Region};
 pub use cache::{Cache, Cached};
 pub use image::Window;
 pub use interrupts::{
