@@ -22,6 +22,7 @@ mod pages;
 mod record;
 mod recorder;
 mod registers;
+mod scalable;
 pub mod slips;
 mod take;
 mod trace;
@@ -45,6 +46,10 @@ pub use meters::{
 pub use record::Fault;
 pub use recorder::{clear_overflow, clear_slot, record, Call, Recorder};
 pub use registers::Registers;
+pub use scalable::{
+    flags_scalable, named_words_scalable, scalable_request, Flag, ScalableRegisters,
+    ScalableRequest,
+};
 pub use slips::Slip;
 pub use take::{take, take_in, Take};
 pub use trace::{
