@@ -75,6 +75,34 @@ extern "C" {
 #define GALITZAF_DESCRIPTOR 8       /* 8 bytes: POSTED */
 #define GALITZAF_ENTRY 24           /* 8 bytes: BLOCKED */
 
+/* Fault reasons, byte 1 of a BLOCKED answer: VT-d's numbers. */
+#define GALITZAF_REASON_ROOT_NOT_PRESENT 0x01
+#define GALITZAF_REASON_CONTEXT_NOT_PRESENT 0x02
+#define GALITZAF_REASON_CONTEXT_INVALID 0x03
+#define GALITZAF_REASON_ADDRESS_OVERFLOW 0x04
+#define GALITZAF_REASON_WRITE_DENIED 0x05
+#define GALITZAF_REASON_READ_DENIED 0x06
+#define GALITZAF_REASON_PAGE_ENTRY_ACCESS 0x07
+#define GALITZAF_REASON_ROOT_ACCESS 0x08
+#define GALITZAF_REASON_CONTEXT_ACCESS 0x09
+#define GALITZAF_REASON_ROOT_RESERVED 0x0A
+#define GALITZAF_REASON_CONTEXT_RESERVED 0x0B
+#define GALITZAF_REASON_PAGE_ENTRY_RESERVED 0x0C
+#define GALITZAF_REASON_REQUEST_RESERVED 0x20
+#define GALITZAF_REASON_INDEX_OUT_OF_RANGE 0x21
+#define GALITZAF_REASON_IRTE_NOT_PRESENT 0x22
+#define GALITZAF_REASON_IRTE_ACCESS 0x23
+#define GALITZAF_REASON_IRTE_RESERVED 0x24
+#define GALITZAF_REASON_COMPATIBILITY_BLOCKED 0x25
+#define GALITZAF_REASON_SOURCE_REJECTED 0x26
+#define GALITZAF_REASON_DESCRIPTOR_ACCESS 0x27
+#define GALITZAF_REASON_DESCRIPTOR_RESERVED 0x28
+
+/* Refusals, byte 1 of a REFUSED answer. None is a fault: drop the request, and log it. */
+#define GALITZAF_REFUSAL_BAD_REGISTERS 1            /* a register outside its list, which a guest can bring about */
+#define GALITZAF_REFUSAL_WRONG_ADDRESS 2            /* an address of the other kind of request */
+#define GALITZAF_REFUSAL_PAGE_IN_INTERRUPT_RANGE 4  /* a walk that ended on FEE00000h to FEEFFFFFh */
+
 /* Fault records: 8, 16, 32, 64, 128 or 256 slots of 16 bytes; the buffer's length says how many. The
  * recorder's state: byte 0 the next slot, byte 1 overflow (0 or 1). */
 #define GALITZAF_RECORDS_SIZE 128      /* 8 slots, the fewest */
