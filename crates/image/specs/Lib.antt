@@ -10,3 +10,4 @@ pub mod Place
 pub mod Rules
 pub mod Stage
 pub mod Unfetched
+pub mod Windows
