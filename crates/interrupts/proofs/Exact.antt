@@ -13,6 +13,7 @@ use lib.ListN.{length, getD, set, length-set}
 use lib.Pow.{pow-lt, pow-add, shl-shr}
 use lib.Seq.{getD-set-same, getD-set-other}
 use Rattle.image.specs.Bits.{bits, bit}
+use Rattle.image.specs.Memory.{ofImage}
 use Rattle.image.proofs.Choices.{or-false, or-assoc}
 use Rattle.interrupts.specs.Claims.{bitAt, due, sets, outcome, SetsExactly, LeavesAll, StaysInside}
 use Rattle.interrupts.specs.Descriptor.{Notice, silent, notice}
@@ -127,7 +128,7 @@ outcome-at image (refused number) h n = sym (or-false (bitAt image n))
 
 pub sets-exactly : SetsExactly
 sets-exactly registers request image n =
-    outcome-at image (outcome registers request image) (within image registers request) n
+    outcome-at image (outcome registers request (ofImage image)) (within image registers request) n
 
 pub length-written : (image : List ℕ) (o : InterruptOutcome) → length (written o image) ≡ length image
 length-written image (posted descriptor vector silent) = length-setBit image descriptor vector
@@ -154,7 +155,7 @@ set-inside image (refused number) h n e = let z : _≡_ {A = ℕ} 0 1 = cc in ab
 
 pub stays-inside : StaysInside
 stays-inside registers request image =
-    (length-written image (outcome registers request image), set-inside image (outcome registers request image) (within image registers request))
+    (length-written image (outcome registers request (ofImage image)), set-inside image (outcome registers request (ofImage image)) (within image registers request))
 
 unposted : (o : InterruptOutcome) (image : List ℕ) → ((descriptor vector : ℕ) (m : Notice) → o ≡ posted descriptor vector m → ⊥)
     → written o image ≡ image
@@ -165,4 +166,4 @@ unposted (blocked f) image h = refl
 unposted (refused number) image h = refl
 
 pub leaves-all : LeavesAll
-leaves-all registers request image = unposted (outcome registers request image) image
+leaves-all registers request image = unposted (outcome registers request (ofImage image)) image

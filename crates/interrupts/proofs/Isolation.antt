@@ -3,16 +3,18 @@ use Prim.Native.Nat.{ℕ, _+_, _^_}
 use mathlib.Core.Bool.{Bool, _||_}
 use mathlib.Core.Path.{refl, ap, ap₂, sym, _∙_}
 use lib.Dec.{leb}
+use Rattle.image.specs.Memory.{ofImage}
+use Rattle.image.specs.Place.{noEntry}
 use Rattle.image.specs.Rules.{answer, Outside}
 use Rattle.image.proofs.Choices.{either}
-use Rattle.image.proofs.Isolated.{isolated as same-answer}
-use Rattle.image.proofs.Places.{isolated-place}
+use Rattle.image.proofs.Local.{local}
+use Rattle.image.proofs.Places.{local-place}
 use Rattle.image.proofs.Stages.{check-cases}
-use Rattle.image.proofs.Trees.{outside-map}
+use Rattle.image.proofs.Trees.{outside-map, met}
 use Rattle.registers.specs.declared.Registers.{Registers}
 use Rattle.faults.specs.Record.{interruptFault}
 use Rattle.irte.specs.Irte.{Irte, remaps, posts, irteCheck, faultProcessingDisabled}
-use Rattle.interrupts.specs.Claims.{bitAt, sets, wholeIndex, AccessFault, Isolated}
+use Rattle.interrupts.specs.Claims.{bitAt, sets, wholeIndex, AccessFault, Isolated, SameBits}
 use Rattle.interrupts.specs.Descriptor.{descriptorCheck}
 use Rattle.interrupts.specs.Interrupts.{Delivery, fault, post, onIrte, descriptorRules, indexRules, InterruptOutcome, delivered, interruptRules, concerned}
 use Rattle.interrupts.specs.declared.InterruptRequest.{InterruptRequest}
@@ -45,7 +47,13 @@ access-outside registers request =
     (outside-map (delivered source index) AccessFault (indexRules registers source index) (index-outside source index registers))
 
 pub isolated : Isolated
-isolated registers request image image′ answered same =
-    let alike = same-answer AccessFault (interruptRules registers request) image image′ (access-outside registers request) answered same in
-    let place = isolated-place AccessFault (interruptRules registers request) image image′ (access-outside registers request) answered same in
-    (alike, ap₂ concerned alike place, λ n. sets-exactly registers request image′ n ∙ ap (λ (o : InterruptOutcome). bitAt image′ n || sets o n) (sym alike))
+isolated registers request m m′ answered same =
+    let q = interruptRules registers request in
+    let complete = met AccessFault q m (access-outside registers request) answered in
+    let alike = local q m m′ complete same in
+    (alike, ap₂ concerned alike (local-place noEntry q m m′ complete same))
+
+pub same-bits : SameBits
+same-bits registers request image image′ answered same n =
+    sets-exactly registers request image′ n
+    ∙ ap (λ (o : InterruptOutcome). bitAt image′ n || sets o n) (sym (isolated registers request (ofImage image) (ofImage image′) answered same .0))

@@ -9,7 +9,7 @@ use lib.ListN.{length}
 use Rattle.image.specs.Bits.{bit}
 use Rattle.image.specs.Check.{Check, stop, go, onCheck}
 use Rattle.image.specs.Choice.{if_then_else_}
-use Rattle.image.specs.Memory.{Memory, Fetched, missing, found, onFetch, entry, ofImage}
+use Rattle.image.specs.Memory.{Memory, Fetched, missing, found, onFetch, entry}
 use Rattle.image.specs.Rules.{Rules, answer, run, named, wordsFrom}
 use Rattle.image.proofs.Choices.{chosen}
 use Rattle.image.proofs.Fields.{fits}
@@ -126,15 +126,15 @@ module _ (registers : Registers) (request : InterruptRequest) (m : Memory) where
       (index-words m registers source index))
 
 pub none-before-table : NoneBeforeTable
-none-before-table registers request image = answered registers request (ofImage image) .1
+none-before-table registers request m = answered registers request m .1
 
-pub none-refused : (registers : Registers) (request : InterruptRequest) (image : List ℕ) (number : ℕ)
-    → run (interruptRules registers request) (ofImage image) ≡ refused number → named (interruptRules registers request) (ofImage image) ≡ []
-none-refused registers request image number e = none-before-table registers request image (rw e)
+pub none-refused : (registers : Registers) (request : InterruptRequest) (m : Memory) (number : ℕ)
+    → run (interruptRules registers request) m ≡ refused number → named (interruptRules registers request) m ≡ []
+none-refused registers request m number e = none-before-table registers request m (rw e)
 
-pub none-passed : (registers : Registers) (request : InterruptRequest) (image : List ℕ)
-    → run (interruptRules registers request) (ofImage image) ≡ passed → named (interruptRules registers request) (ofImage image) ≡ []
-none-passed registers request image e = none-before-table registers request image (rw e)
+pub none-passed : (registers : Registers) (request : InterruptRequest) (m : Memory)
+    → run (interruptRules registers request) m ≡ passed → named (interruptRules registers request) m ≡ []
+none-passed registers request m e = none-before-table registers request m (rw e)
 
 follows-eight : {l : List ℕ} → Follows l → length l ≤ 8
 unfolding wordsFrom
@@ -146,19 +146,19 @@ words-ten none = omega arith
 words-ten (entry-and {rest} f) = omega (arith, follows-eight f)
 
 pub at-most-ten : AtMostTen
-at-most-ten registers request image = words-ten (answered registers request (ofImage image) .0)
+at-most-ten registers request m = words-ten (answered registers request m .0)
 
 first-word : {from at : ℕ} {l rest : List ℕ} → Words from l → l ≡ at ∷ rest → at ≡ from
 first-word none e = let z : _≡_ {A = ℕ} 0 1 = cc in absurd (omega arith)
 first-word (entry-and f) e = cc
 
 pub entry-of-index : EntryOfIndex
-entry-of-index registers request image at rest = first-word (answered registers request (ofImage image) .0)
+entry-of-index registers request m at rest = first-word (answered registers request m .0)
 
 pub no-wrap : NoWrap
-no-wrap registers request request′ image image′ at rest rest′ first first′ =
-    let here = entry-of-index registers request image at rest first in
-    let there = entry-of-index registers request′ image′ at rest′ first′ in
+no-wrap registers request request′ m m′ at rest rest′ first first′ =
+    let here = entry-of-index registers request m at rest first in
+    let there = entry-of-index registers request′ m′ at rest′ first′ in
     omega arith
 
 pub index-bound : IndexBound

@@ -114,8 +114,8 @@ Within image (remapped r) = Unit {0}
 Within image (blocked f) = Unit {0}
 Within image (refused number) = Unit {0}
 
-pub within : (image : List ℕ) (registers : Registers) (request : InterruptRequest) → Within image (outcome registers request image)
-within image registers request = by (outcome registers request image) (raised registers request (ofImage image))
+pub within : (image : List ℕ) (registers : Registers) (request : InterruptRequest) → Within image (outcome registers request (ofImage image))
+within image registers request = by (outcome registers request (ofImage image)) (raised registers request (ofImage image))
   where
     by : (o : InterruptOutcome) → Raised registers request (ofImage image) o → Within image o
     by (posted at vector n) p =

@@ -6,12 +6,10 @@ use mathlib.Core.List.{List, [], _∷_}
 use mathlib.Core.Path.{_≡_}
 use lib.Dec.{eqb}
 use lib.ListN.{length, getD}
-use Rattle.image.specs.Alike.{SameWords}
 use Rattle.image.specs.Bits.{bits, bit}
 use Rattle.image.specs.Choice.{if_then_else_}
-use Rattle.image.specs.Memory.{ofImage}
-use Rattle.image.specs.Place.{Place, noEntry}
-use Rattle.image.specs.Rules.{run, named}
+use Rattle.image.specs.Memory.{Memory, ofImage}
+use Rattle.image.specs.Rules.{run, named, SameIn}
 use Rattle.image.specs.Unfetched.{Unfetched}
 use Rattle.registers.specs.declared.Registers.{Registers}
 use Rattle.interrupts.specs.Descriptor.{Notice, silent, notice}
@@ -20,15 +18,11 @@ use Rattle.interrupts.specs.Post.{written}
 use Rattle.interrupts.specs.Request.{handleOf}
 use Rattle.interrupts.specs.declared.InterruptRequest.{InterruptRequest}
 
-abbrev pub outcome : Registers → InterruptRequest → (image : List ℕ) → InterruptOutcome
-outcome registers request image = run (interruptRules registers request) (ofImage image)
+abbrev pub outcome : Registers → InterruptRequest → Memory → InterruptOutcome
+outcome registers request m = run (interruptRules registers request) m
 
--- the entry concerned in it
-abbrev pub placeOver : Registers → InterruptRequest → (image : List ℕ) → Place
-placeOver registers request image = interruptPlace registers request (ofImage image)
-
-abbrev pub namedWords : Registers → InterruptRequest → (image : List ℕ) → List ℕ
-namedWords registers request image = named (interruptRules registers request) (ofImage image)
+abbrev pub namedWords : Registers → InterruptRequest → Memory → List ℕ
+namedWords registers request m = named (interruptRules registers request) m
 
 -- bit n of a run of bytes: bit n % 8 of byte n / 8
 abbrev pub bitAt : List ℕ → ℕ → Bool
@@ -49,7 +43,7 @@ sets (refused number) n = false
 -- every bit of the image is as it came, or set by the post, wherever the descriptor lies; so an answer that is no post leaves all
 abbrev pub SetsExactly : Type 0
 SetsExactly = (registers : Registers) (request : InterruptRequest) (image : List ℕ) (n : ℕ) →
-    bitAt (written (outcome registers request image) image) n ≡ (bitAt image n || sets (outcome registers request image) n)
+    bitAt (written (outcome registers request (ofImage image)) image) n ≡ (bitAt image n || sets (outcome registers request (ofImage image)) n)
 
 -- the index as the whole number that it is: with SHV the handle plus data 15:0, else the handle
 abbrev pub wholeIndex : InterruptRequest → ℕ
@@ -64,40 +58,40 @@ entryAt registers request = registers .«interrupt_table» + 16 * wholeIndex req
 -- from 0 to 1 exactly with a notice; the premise says that the image is made of bytes
 abbrev pub NoticeExactly : Type 0
 NoticeExactly = (registers : Registers) (request : InterruptRequest) (image : List ℕ) → ((n : ℕ) → getD image n 0 < 256) →
-    (descriptor vector : ℕ) (m : Notice) → outcome registers request image ≡ posted descriptor vector m →
+    (descriptor vector : ℕ) (m : Notice) → outcome registers request (ofImage image) ≡ posted descriptor vector m →
     due m ≡ (not (bitAt image (8 * descriptor + 256))
     && (bitAt image (8 * entryAt registers request + 14) || not (bitAt image (8 * descriptor + 257))))
 
 -- a refused, blocked, passed or remapped request leaves every byte
 abbrev pub LeavesAll : Type 0
 LeavesAll = (registers : Registers) (request : InterruptRequest) (image : List ℕ) →
-    ((descriptor vector : ℕ) (m : Notice) → outcome registers request image ≡ posted descriptor vector m → ⊥) →
-    written (outcome registers request image) image ≡ image
+    ((descriptor vector : ℕ) (m : Notice) → outcome registers request (ofImage image) ≡ posted descriptor vector m → ⊥) →
+    written (outcome registers request (ofImage image)) image ≡ image
 
 -- the image keeps its length, and the bits that a post sets lie in it
 abbrev pub StaysInside : Type 0
 StaysInside = (registers : Registers) (request : InterruptRequest) (image : List ℕ) →
-    (length (written (outcome registers request image) image) ≡ length image)
-    × ((n : ℕ) → sets (outcome registers request image) n ≡ true → n < 8 * length image)
+    (length (written (outcome registers request (ofImage image)) image) ≡ length image)
+    × ((n : ℕ) → sets (outcome registers request (ofImage image)) n ≡ true → n < 8 * length image)
 
 abbrev pub IndexBound : Type 0
 IndexBound = (request : InterruptRequest) → wholeIndex request ≤ 131070
 
 -- the entry that a request reads is that of its whole index
 abbrev pub EntryOfIndex : Type 0
-EntryOfIndex = (registers : Registers) (request : InterruptRequest) (image : List ℕ) (at : ℕ) (rest : List ℕ) →
-    namedWords registers request image ≡ at ∷ rest → at ≡ registers .«interrupt_table» + 16 * wholeIndex request
+EntryOfIndex = (registers : Registers) (request : InterruptRequest) (m : Memory) (at : ℕ) (rest : List ℕ) →
+    namedWords registers request m ≡ at ∷ rest → at ≡ registers .«interrupt_table» + 16 * wholeIndex request
 
 -- two requests that read the same entry have the same whole index: no sum wraps onto another's entry
 abbrev pub NoWrap : Type 0
-NoWrap = (registers : Registers) (request request′ : InterruptRequest) (image image′ : List ℕ) (at : ℕ) (rest rest′ : List ℕ) →
-    namedWords registers request image ≡ at ∷ rest → namedWords registers request′ image′ ≡ at ∷ rest′ →
+NoWrap = (registers : Registers) (request request′ : InterruptRequest) (m m′ : Memory) (at : ℕ) (rest rest′ : List ℕ) →
+    namedWords registers request m ≡ at ∷ rest → namedWords registers request′ m′ ≡ at ∷ rest′ →
     wholeIndex request ≡ wholeIndex request′
 
 -- the entry's two words and the descriptor's eight
 abbrev pub AtMostTen : Type 0
-AtMostTen = (registers : Registers) (request : InterruptRequest) (image : List ℕ) →
-    length (namedWords registers request image) ≤ 10
+AtMostTen = (registers : Registers) (request : InterruptRequest) (m : Memory) →
+    length (namedWords registers request m) ≤ 10
 
 -- refused, passed, or blocked by 20h, 21h or 25h
 abbrev pub beforeTable : InterruptOutcome → Bool
@@ -109,8 +103,8 @@ beforeTable (refused number) = true
 
 -- an answer given before the table names no word
 abbrev pub NoneBeforeTable : Type 0
-NoneBeforeTable = (registers : Registers) (request : InterruptRequest) (image : List ℕ) →
-    beforeTable (outcome registers request image) ≡ true → namedWords registers request image ≡ []
+NoneBeforeTable = (registers : Registers) (request : InterruptRequest) (m : Memory) →
+    beforeTable (outcome registers request m) ≡ true → namedWords registers request m ≡ []
 
 -- an access fault: 23h or 27h
 abbrev pub accessReason : (reason : ℕ) → Bool
@@ -126,15 +120,21 @@ AccessFault (refused number) = ⊥
 -- it means an entry or a descriptor that couldn't be fetched, of which a byte lies outside the image
 abbrev pub InterruptAccessMeansUnfetched : Type 0
 InterruptAccessMeansUnfetched = (registers : Registers) (request : InterruptRequest) (image : List ℕ) →
-    AccessFault (outcome registers request image) → Unfetched (interruptRules registers request) image
+    AccessFault (outcome registers request (ofImage image)) → Unfetched (interruptRules registers request) image
 
--- the customer's demand 3 for interrupts: over an image alike in the named words the same answer, the entry concerned among its parts,
--- unless it was an access fault, and so the same bits are set
+-- the customer's demand 3 for interrupts: over a memory that has the same in the named words the same answer, the entry concerned among
+-- its parts, unless it was an access fault
 abbrev pub Isolated : Type 0
-Isolated = (registers : Registers) (request : InterruptRequest) (image image′ : List ℕ) →
-    (AccessFault (outcome registers request image) → ⊥) →
-    SameWords image image′ (namedWords registers request image) →
-    (outcome registers request image ≡ outcome registers request image′)
-    × (placeOver registers request image ≡ placeOver registers request image′)
-    × ((n : ℕ) → bitAt (written (outcome registers request image′) image′) n
-    ≡ (bitAt image′ n || sets (outcome registers request image) n))
+Isolated = (registers : Registers) (request : InterruptRequest) (m m′ : Memory) →
+    (AccessFault (outcome registers request m) → ⊥) →
+    SameIn (namedWords registers request m) m m′ →
+    (outcome registers request m ≡ outcome registers request m′)
+    × (interruptPlace registers request m ≡ interruptPlace registers request m′)
+
+-- and so the same bits are set
+abbrev pub SameBits : Type 0
+SameBits = (registers : Registers) (request : InterruptRequest) (image image′ : List ℕ) →
+    (AccessFault (outcome registers request (ofImage image)) → ⊥) →
+    SameIn (namedWords registers request (ofImage image)) (ofImage image) (ofImage image′) →
+    (n : ℕ) → bitAt (written (outcome registers request (ofImage image′)) image′) n
+    ≡ (bitAt image′ n || sets (outcome registers request (ofImage image)) n)
