@@ -170,22 +170,22 @@ memory-alike = (
   ),
 )
 
-interrupt-alike : SameWords bench (take 0x6030 bench) (namedWords benchRegisters remaps bench)
+interrupt-alike : SameWords bench (take 0x6030 bench) (namedWords benchRegisters remaps (ofImage bench))
 unfolding bench layout bytesOf littleEndian bits wordAt ofImage entry named wordsFrom SameWords mapRules admission registersBad indexRules requestRules interruptRules reservedIrte irteCheck requestCheck sourceAllowed
 interrupt-alike = (
   record { whole = lit≤ tt; whole′ = lit≤ tt; bytes = refl },
   (record { whole = lit≤ tt; whole′ = lit≤ tt; bytes = refl }, tt),
 )
 
-interrupt-answered : AccessFault (outcome benchRegisters remaps bench) → ⊥
+interrupt-answered : AccessFault (outcome benchRegisters remaps (ofImage bench)) → ⊥
 unfolding bench layout bytesOf littleEndian bits wordAt ofImage entry run mapRules admission registersBad indexRules requestRules interruptRules reservedIrte irteCheck requestCheck sourceAllowed
 interrupt-answered fault = fault
 
-post-answered : outcome benchRegisters posts (take 0x6440 bench) ≡ posted 0x6400 0x31 (notice 0xF2 7)
+post-answered : outcome benchRegisters posts (ofImage (take 0x6440 bench)) ≡ posted 0x6400 0x31 (notice 0xF2 7)
 unfolding bench layout bytesOf littleEndian bits wordAt ofImage entry run mapRules admission registersBad descriptorRules indexRules requestRules interruptRules reservedIrte irteCheck requestCheck sourceAllowed descriptorCheck
 post-answered = refl
 
-post-alike : SameWords (take 0x6440 bench) bench (namedWords benchRegisters posts (take 0x6440 bench))
+post-alike : SameWords (take 0x6440 bench) bench (namedWords benchRegisters posts (ofImage (take 0x6440 bench)))
 post-alike = rw (take-append-drop 0x6440 bench) at (longer (take 0x6440 bench) (drop 0x6440 bench) (interruptRules benchRegisters posts))
 
 pub premises-met : PremisesMet

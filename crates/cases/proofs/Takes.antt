@@ -46,7 +46,7 @@ unfolding small withRequests bytesOf
 full-bytes = below full refl
 
 -- both post to the descriptor at 64, behind the entries
-posts-to-64 : (outcome registers posts31 empty ≡ posted 64 0x31 (notice 0 0)) × (outcome registers postsF0 empty ≡ posted 64 0xF0 (notice 0 0))
+posts-to-64 : (outcome registers posts31 (ofImage empty) ≡ posted 64 0x31 (notice 0 0)) × (outcome registers postsF0 (ofImage empty) ≡ posted 64 0xF0 (notice 0 0))
 unfolding withRequests bytesOf littleEndian bits wordAt ofImage entry run mapRules admission registersBad descriptorRules indexRules requestRules interruptRules reservedIrte irteCheck requestCheck sourceAllowed descriptorCheck
 posts-to-64 = (refl, refl)
 

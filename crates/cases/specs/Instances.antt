@@ -43,10 +43,10 @@ pub record PremisesMet : Type 0 where
   pub memory-answered : accessFault (answerOver benchRegisters reads bench) ≡ false
   pub memory-alike : SameWords bench (take 0x5010 bench) (named (memoryRules benchRegisters reads) (ofImage bench))
   -- 1, interrupts: one that ends behind the entry; and, with a notice among the answer's parts, one that goes on behind the descriptor
-  pub interrupt-answered : AccessFault (outcome benchRegisters remaps bench) → ⊥
-  pub interrupt-alike : SameWords bench (take 0x6030 bench) (namedWords benchRegisters remaps bench)
-  pub post-answered : outcome benchRegisters posts (take 0x6440 bench) ≡ posted 0x6400 0x31 (notice 0xF2 7)
-  pub post-alike : SameWords (take 0x6440 bench) bench (namedWords benchRegisters posts (take 0x6440 bench))
+  pub interrupt-answered : AccessFault (outcome benchRegisters remaps (ofImage bench)) → ⊥
+  pub interrupt-alike : SameWords bench (take 0x6030 bench) (namedWords benchRegisters remaps (ofImage bench))
+  pub post-answered : outcome benchRegisters posts (ofImage (take 0x6440 bench)) ≡ posted 0x6400 0x31 (notice 0xF2 7)
+  pub post-alike : SameWords (take 0x6440 bench) bench (namedWords benchRegisters posts (ofImage (take 0x6440 bench)))
   -- 2: write switched on in the read's leaf and in an entry of the walker that ended in an access fault
   pub walker-faulted : accessFault (answerOver benchRegisters beyond readable) ≡ true
   pub on-apart : Apart benchRegisters (reads ∷ beyond ∷ []) reads readable

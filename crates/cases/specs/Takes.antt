@@ -92,7 +92,7 @@ pub record TakesMet : Type 0 where
   pub apart-back : Apart registers postsF0 posts31 empty
   pub one-notice : count notices (request registers posts31 ∷ request registers postsF0 ∷ []) empty ≡ 1
   -- the first entry is for source 0310h alone: SVT 1, SQ 0
-  pub its-post : outcome registers posts31 empty ≡ posted 64 0x31 (notice 0 0)
+  pub its-post : outcome registers posts31 (ofImage empty) ≡ posted 64 0x31 (notice 0 0)
   pub its-entry : entry 2 (ofImage empty) (entryAt registers posts31) ≡ found (0x40310 * 2 ^ 64 + 0x4000318001)
   pub its-svt : bits (0x40310 * 2 ^ 64 + 0x4000318001) 83 82 ≡ 1
   pub its-sq : bits (0x40310 * 2 ^ 64 + 0x4000318001) 81 80 ≡ 0

@@ -10,7 +10,7 @@ use Rattle.dma.proofs.NoInterrupt.{no-interrupt-granted, whole-frame-tested}
 use Rattle.dma.proofs.Rights.{rights-on, rights-off, unshared}
 use Rattle.dma.proofs.Unfetched.{access-means-unfetched}
 use Rattle.interrupts.proofs.Exact.{sets-exactly, leaves-all, stays-inside}
-use Rattle.interrupts.proofs.Isolation.{isolated}
+use Rattle.interrupts.proofs.Isolation.{isolated, same-bits}
 use Rattle.interrupts.proofs.Named.{index-bound, entry-of-index, no-wrap, at-most-ten, none-before-table}
 use Rattle.interrupts.proofs.Notices.{notice-exactly}
 use Rattle.interrupts.proofs.Unfetched.{interrupt-access-means-unfetched}
@@ -56,6 +56,7 @@ everything =
       locality = locality;
       access-means-unfetched = access-means-unfetched;
       isolated = isolated;
+      same-bits = same-bits;
       interrupt-access-means-unfetched = interrupt-access-means-unfetched;
       rights-on = rights-on;
       rights-off = rights-off;

@@ -8,7 +8,7 @@ use Rattle.dma.specs.Isolation.{Locality, AlwaysAnEntry, AccessMeansUnfetched, 
 use Rattle.dma.specs.Named.{AtMostNine, NoneUntaken}
 use Rattle.dma.specs.NoInterrupt.{NoInterruptGranted, WholeFrameTested}
 use Rattle.dma.specs.Reached.{GrantedByOwnWalk}
-use Rattle.interrupts.specs.Claims.{SetsExactly, NoticeExactly, LeavesAll, StaysInside, IndexBound, EntryOfIndex, NoWrap, AtMostTen, NoneBeforeTable, InterruptAccessMeansUnfetched, Isolated}
+use Rattle.interrupts.specs.Claims.{SetsExactly, NoticeExactly, LeavesAll, StaysInside, IndexBound, EntryOfIndex, NoWrap, AtMostTen, NoneBeforeTable, InterruptAccessMeansUnfetched, Isolated, SameBits}
 use Rattle.interrupts.specs.RaisedBy.{RemappedByEntry, PostedByEntry, OneSource, ExactSource}
 use Rattle.takes.specs.Claims.{ClearsExactly, HandsHighest, NoneStands, FewerUntilHandedOut, HandedOutWithin, HandedOutWithin256, Conserved, NoneInvented, EitherOrder}
 use Rattle.unit.specs.Isolation.{Isolation, MoreMemory}
@@ -50,6 +50,7 @@ pub record Everything : Type 0 where
   pub locality : Locality
   pub access-means-unfetched : AccessMeansUnfetched
   pub isolated : Isolated
+  pub same-bits : SameBits
   pub interrupt-access-means-unfetched : InterruptAccessMeansUnfetched
   pub rights-on : RightsOn
   pub rights-off : RightsOff

@@ -9,5 +9,6 @@ pub mod Posts
 pub mod Raised
 pub mod RaisedBy
 pub mod Requests
+pub mod Spots
 pub mod Stages
 pub mod Unfetched

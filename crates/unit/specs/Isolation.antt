@@ -8,7 +8,7 @@ use Rattle.registers.specs.declared.Registers.{Registers}
 use Rattle.dma.specs.Isolation.{answerOver, Locality, RightsOn, RightsOff}
 use Rattle.dma.specs.Requests.{granted}
 use Rattle.dma.specs.declared.MemoryRequest.{MemoryRequest}
-use Rattle.interrupts.specs.Claims.{Isolated}
+use Rattle.interrupts.specs.Claims.{Isolated, SameBits}
 
 pub record Isolation : Type 0 where
   -- a memory request that doesn't end in 07h, 08h or 09h gets the same answer, its entry concerned too, over a second image alike in its
@@ -16,6 +16,7 @@ pub record Isolation : Type 0 where
   pub memory : Locality
   -- so does an interrupt that doesn't end in 23h or 27h, record bytes, entry concerned and notice among its parts; and the same bits are set
   pub interrupts : Isolated
+  pub posts : SameBits
   -- whichever of the page entries that any memory request walked have read, write or both switched on, a granted request stays
   -- granted, with the same host address; where none of them shares a byte with its root or context entry
   pub rights-on : RightsOn
