@@ -3,8 +3,19 @@
  * Link with target/staticlib/libffi.a, which `rt staticlib ffi` writes. No function allocates, blocks,
  * keeps a pointer or reads anything but its arguments, and each may be called from any thread. Every
  * length is checked: a call with a malformed argument answers GALITZAF_BAD_... and changes nothing; records
- * and a recorder's state of another length are GALITZAF_REFUSED_3. A length of 0 may come with any pointer
- * that isn't null. Buffers of one call must not overlap where one of them is written.
+ * and a recorder's state of another length are GALITZAF_REFUSED_3.
+ *
+ * What a call assumes:
+ *
+ * - Pointers are not null and aligned for their type, and each has as many elements behind it as its
+ *   length says; a length of 0 may come with any such pointer. Buffers of one call don't overlap where one
+ *   of them is written.
+ * - Nobody else changes what is lent, guest memory among it, while the call runs, and nobody reads what it
+ *   writes. Stop the virtual processors and devices that share this memory, or keep them off it by a lock.
+ * - So a post is no atomic operation, and neither is a take: each reads and writes plain bytes.
+ * - The caller is a program of an operating system. The archive's code keeps data below the stack pointer
+ *   (the red zone of the System V ABI), which an interrupt on the same stack would overwrite: don't link it
+ *   into a kernel or into firmware.
  */
 #ifndef GALITZAF_H
 #define GALITZAF_H
@@ -32,6 +43,46 @@ extern "C" {
  */
 #define GALITZAF_REGISTERS_SIZE 24
 
+/* Guest memory: one run of bytes, and none to four windows, which say at which host addresses parts of it
+ * stand. Bytes of the run that no window shows play no part.
+ *
+ * Windows are sorted by start and overlap neither in host addresses nor in the run; touching is no overlap,
+ * and their places in the run may have any order. An entry is fetched exactly if it lies whole in a single
+ * window. Windows that aren't so are refusal 1: more than four, a start that is no multiple of 4096, a
+ * length of 0, an end past the run or past 2^64.
+ *
+ * A call takes windows as numbers, three for each, with their count; another count than a multiple of three
+ * is malformed.
+ */
+struct galitzaf_window {
+    uint64_t start;  /* host address of its first byte, a multiple of 4096 */
+    uint64_t offset; /* place of that byte in the run */
+    uint64_t length; /* its bytes, at least 1 */
+};
+
+static inline const uint64_t *galitzaf_numbers(const struct galitzaf_window *windows)
+{
+    return (const uint64_t *)windows;
+}
+
+/* The two arguments windows, windows_len of a call, from an array of windows. */
+#define GALITZAF_WINDOWS(windows, count) galitzaf_numbers(windows), 3 * (size_t)(count)
+
+/* The same for a plain image: byte n of the run is host address n. length, which is the run's, is evaluated
+ * twice. */
+#ifdef __cplusplus
+}
+struct galitzaf_flat {
+    uint64_t all[3];
+    explicit galitzaf_flat(uint64_t length) : all() { all[2] = length; }
+    const uint64_t *numbers() const { return all; }
+};
+extern "C" {
+#define GALITZAF_FLAT(length) galitzaf_flat(length).numbers(), (size_t)((length) > 0 ? 3 : 0)
+#else
+#define GALITZAF_FLAT(length) (const uint64_t[]){0, 0, (length)}, (size_t)((length) > 0 ? 3 : 0)
+#endif
+
 /* Answers: 32 bytes. Byte 0 is the kind; bytes that a kind doesn't name are zero. No kind is 0, so that a
  * zeroed buffer that no call filled is no answer.
  *
@@ -39,8 +90,8 @@ extern "C" {
  *   BLOCKED   byte 1 reason, byte 2 1 where the fault may be recorded, else 0;
  *             bytes 23:8 the 16 record bytes; byte 3 1 where bytes 31:24 are the host address of the
  *             entry concerned, else 0 (20h, 21h and 25h have none)
- *   REFUSED   byte 1 refusal number (1 bad registers, 2 address of the wrong kind, 4 a memory request whose
- *             walk ended with a page that has a byte in FEE00000h to FEEFFFFFh)
+ *   REFUSED   byte 1 refusal number (1 bad registers or windows, 2 address of the wrong kind, 4 a memory
+ *             request whose walk ended with a page that has a byte in FEE00000h to FEEFFFFFh)
  *   PASSED    the interrupt goes on unchanged                                    (interrupts)
  *   REMAPPED  byte 1 vector, byte 2 delivery mode, byte 3 bit 0 destination mode, bit 1 redirection
  *             hint, bit 2 trigger mode; bytes 7:4 destination                    (interrupts)
@@ -99,7 +150,8 @@ extern "C" {
 #define GALITZAF_REASON_DESCRIPTOR_RESERVED 0x28
 
 /* Refusals, byte 1 of a REFUSED answer. None is a fault: drop the request, and log it. */
-#define GALITZAF_REFUSAL_BAD_REGISTERS 1            /* a register outside its list, which a guest can bring about */
+#define GALITZAF_REFUSAL_BAD_REGISTERS 1            /* a register outside its list, which a guest can bring about, or
+                                                       windows that aren't as said above */
 #define GALITZAF_REFUSAL_WRONG_ADDRESS 2            /* an address of the other kind of request */
 #define GALITZAF_REFUSAL_PAGE_IN_INTERRUPT_RANGE 4  /* a walk that ended on FEE00000h to FEEFFFFFh */
 
@@ -111,9 +163,9 @@ extern "C" {
 
 /* What a call answers. */
 #define GALITZAF_OK 0x00             /* a request: the answer buffer holds its answer */
-#define GALITZAF_REFUSED_1 0x01      /* take: bad registers */
+#define GALITZAF_REFUSED_1 0x01      /* take: bad registers or windows */
 #define GALITZAF_REFUSED_3 0x03      /* recorder: length of records or state, next slot or slot out of range */
-#define GALITZAF_REFUSED_5 0x05      /* take: the descriptor isn't 64-aligned, or not whole in the image */
+#define GALITZAF_REFUSED_5 0x05      /* take: the descriptor isn't 64-aligned, or not whole in one window */
 #define GALITZAF_NO_FAULT 0x10       /* record: the answer holds no fault */
 #define GALITZAF_NOT_RECORDABLE 0x11 /* record: FPD silenced the fault */
 #define GALITZAF_DROPPED 0x12        /* record: overflow was set already */
@@ -129,27 +181,34 @@ extern "C" {
 #define GALITZAF_BAD_ANSWER 0x102    /* not 32 bytes, or, to be recorded, of no kind above */
 #define GALITZAF_BAD_KIND 0x103      /* write is neither 0 nor 1 */
 #define GALITZAF_BAD_RECORDER 0x104  /* overflow is neither 0 nor 1 */
+#define GALITZAF_BAD_WINDOWS 0x105   /* the count of numbers is no multiple of three */
 #define GALITZAF_BAD_METERS 0x106    /* parts of different lengths, or a kind above 2 */
 #define GALITZAF_TAKEN 0x200         /* take: 200h to 2FFh, the vector handed out is added */
+
+/* Requests and takes tell what is malformed in this order: registers, windows, answer, write; then comes
+ * refusal 1, and all else after it. image is the run, and image_len its length. */
 
 /* Where an untranslated request may go. source has the bus in 15:8, device and function in 7:0; write
  * is 1 for a write, 0 for a read. */
 uint32_t galitzaf_memory_request(const uint8_t *registers, size_t registers_len,
+                                 const uint64_t *windows, size_t windows_len,
                                  const uint8_t *image, size_t image_len,
                                  uint16_t source, uint64_t address, uint8_t write,
                                  uint8_t *answer, size_t answer_len);
 
-/* What becomes of an interrupt message. A posted one changes two bits of the image at most; any other
- * answer leaves it as it came. */
+/* What becomes of an interrupt message. A posted one changes two bits of the run at most, in the window that
+ * holds the descriptor; any other answer leaves it as it came. */
 uint32_t galitzaf_interrupt_request(const uint8_t *registers, size_t registers_len,
+                                    const uint64_t *windows, size_t windows_len,
                                     uint8_t *image, size_t image_len,
                                     uint16_t source, uint64_t address, uint32_t data,
                                     uint8_t *answer, size_t answer_len);
 
 /* Takes from the posted interrupt descriptor at a host address: its highest request bit is cleared and the
- * vector answered, or that none stands; the ON bit is cleared either way. A refused call leaves the image
+ * vector answered, or that none stands; the ON bit is cleared either way. A refused call leaves the run
  * as it came. Of the descriptor nothing but its place and alignment is looked at. */
 uint32_t galitzaf_take(const uint8_t *registers, size_t registers_len,
+                       const uint64_t *windows, size_t windows_len,
                        uint8_t *image, size_t image_len,
                        uint64_t descriptor);
 

@@ -1,7 +1,8 @@
 //! Finds the proved static library and hands it to the linker.
 //!
 //! It is looked for in `GALITZAF_LIB_DIR`, or else in the repository's `target/staticlib`. Where it
-//! isn't there, `rt staticlib` makes it.
+//! isn't there, `rt staticlib` makes it. It is made for programs of an operating system, whose
+//! interrupts leave the red zone below the stack pointer alone; other targets are refused.
 
 use std::env;
 use std::fs;
@@ -20,10 +21,22 @@ const LINK_NAME: &str = "galitzaf_ffi";
 fn main() {
     println!("cargo:rerun-if-env-changed=GALITZAF_LIB_DIR");
     println!("cargo:rerun-if-changed=build.rs");
-    if let Err(message) = link() {
+    if let Err(message) = hosted().and_then(|()| link()) {
         eprintln!("galitzaf: {message}");
         std::process::exit(1);
     }
+}
+
+/// Refuses targets without an operating system.
+fn hosted() -> Result<(), String> {
+    let system = env::var("CARGO_CFG_TARGET_OS").unwrap_or_default();
+    if ["", "none", "unknown", "uefi"].contains(&system.as_str()) {
+        return Err(format!(
+            "the target has no operating system (target_os {system:?}), and {ARCHIVE} uses the red \
+             zone below the stack pointer: it is for programs in user space"
+        ));
+    }
+    Ok(())
 }
 
 fn link() -> Result<(), String> {

@@ -94,15 +94,15 @@ static void memory(uint16_t source, uint64_t address, uint8_t write, size_t imag
 {
     const char *shorter = image_size < IMAGE_SIZE ? ", image one byte shorter" : "";
     printf("%04X %s %" PRIX64 "%s: ", source, write ? "write" : "read", address, shorter);
-    print_answer(galitzaf_memory_request(registers, sizeof registers, image, image_size, source, address,
-                                         write, answer, sizeof answer));
+    print_answer(galitzaf_memory_request(registers, sizeof registers, GALITZAF_FLAT(image_size), image,
+                                         image_size, source, address, write, answer, sizeof answer));
 }
 
 static void interrupt(uint16_t source, uint64_t address, uint32_t data)
 {
     printf("%04X interrupt %" PRIX64 ", data %" PRIX32 ": ", source, address, data);
-    print_answer(galitzaf_interrupt_request(registers, sizeof registers, image, sizeof image, source,
-                                            address, data, answer, sizeof answer));
+    print_answer(galitzaf_interrupt_request(registers, sizeof registers, GALITZAF_FLAT(sizeof image), image,
+                                            sizeof image, source, address, data, answer, sizeof answer));
 }
 
 static void cases(void)
@@ -199,17 +199,17 @@ static void malformed(void)
     odd[5] = 1;
     memset(answer, 0xAA, sizeof answer);
     printf("registers too short: %03" PRIX32 "\n",
-           galitzaf_memory_request(registers, sizeof registers - 1, image, sizeof image, SOURCE, 0, 0,
-                                   answer, sizeof answer));
+           galitzaf_memory_request(registers, sizeof registers - 1, GALITZAF_FLAT(sizeof image), image,
+                                   sizeof image, SOURCE, 0, 0, answer, sizeof answer));
     printf("registers with a bit that has to be zero: %03" PRIX32 "\n",
-           galitzaf_interrupt_request(odd, sizeof odd, image, sizeof image, SOURCE, 0xFEE00090, 0, answer,
-                                      sizeof answer));
+           galitzaf_interrupt_request(odd, sizeof odd, GALITZAF_FLAT(sizeof image), image, sizeof image,
+                                      SOURCE, 0xFEE00090, 0, answer, sizeof answer));
     printf("answer too short: %03" PRIX32 "\n",
-           galitzaf_interrupt_request(registers, sizeof registers, image, sizeof image, SOURCE, 0xFEE00090,
-                                      0, answer, sizeof answer - 1));
+           galitzaf_interrupt_request(registers, sizeof registers, GALITZAF_FLAT(sizeof image), image,
+                                      sizeof image, SOURCE, 0xFEE00090, 0, answer, sizeof answer - 1));
     printf("neither read nor write: %03" PRIX32 "\n",
-           galitzaf_memory_request(registers, sizeof registers, image, sizeof image, SOURCE, 0, 2, answer,
-                                   sizeof answer));
+           galitzaf_memory_request(registers, sizeof registers, GALITZAF_FLAT(sizeof image), image,
+                                   sizeof image, SOURCE, 0, 2, answer, sizeof answer));
     printf("no request's answer: %03" PRIX32 "\n",
            galitzaf_record(no_answer, sizeof no_answer, records, sizeof records, recorder,
                            sizeof recorder));

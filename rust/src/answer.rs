@@ -17,7 +17,7 @@ use crate::ffi::{self, ANSWER_SIZE};
 #[derive(Clone, Copy, Debug, PartialEq, Eq, Hash)]
 #[non_exhaustive]
 pub enum Refusal {
-    /// 1: a register is outside VT-d's range.
+    /// 1: a register is outside VT-d's range, or the [windows](crate::Memory) aren't as they have to be.
     BadRegisters,
     /// 2: a memory request in FEE00000h to FEEFFFFFh, or an interrupt outside of it.
     WrongAddress,
@@ -26,7 +26,7 @@ pub enum Refusal {
     BadRecorder,
     /// 4: the walk of a memory request ended with a page that has a byte in FEE00000h to FEEFFFFFh.
     PageInInterruptRange,
-    /// 5: a descriptor to take from isn't 64-aligned, or doesn't lie whole in the image.
+    /// 5: a descriptor to take from isn't 64-aligned, or doesn't lie whole in one window.
     BadDescriptor,
     /// A number that this version doesn't name. Number 0 is for an archive that doesn't keep to the
     /// header this crate was written for, so that even then nothing is granted or delivered.
@@ -65,12 +65,12 @@ impl From<u8> for Refusal {
 impl fmt::Display for Refusal {
     fn fmt(&self, f: &mut fmt::Formatter<'_>) -> fmt::Result {
         match self {
-            Self::BadRegisters => f.write_str("refusal 1: bad registers"),
+            Self::BadRegisters => f.write_str("refusal 1: bad registers or windows"),
             Self::WrongAddress => f.write_str("refusal 2: address of the wrong kind"),
             Self::BadRecorder => f.write_str("refusal 3: bad recorder, record buffer or slot"),
             Self::PageInInterruptRange => f.write_str("refusal 4: page in the interrupt range"),
             Self::BadDescriptor => {
-                f.write_str("refusal 5: descriptor misaligned or outside the image")
+                f.write_str("refusal 5: descriptor misaligned or outside memory")
             }
             Self::Other(number) => write!(f, "refusal {number}"),
         }
@@ -245,8 +245,7 @@ pub struct Notification {
     pub destination: u32,
 }
 
-/// A post: a vector's request bit was set in a descriptor of the image, and ON where a notification
-/// is due.
+/// A post: a vector's request bit was set in a descriptor, and ON where a notification is due.
 #[derive(Clone, Copy, Debug, PartialEq, Eq, Hash)]
 pub struct Posted {
     /// The descriptor's host address: its 64 bytes lie in a page that is dirty now.
@@ -284,8 +283,7 @@ pub enum InterruptAnswer {
     Passed,
     /// It is delivered as the entry says.
     Remapped(Remapped),
-    /// It was posted to a descriptor in the image; the notification, where one is due, is to be
-    /// sent.
+    /// It was posted to a descriptor in memory; the notification, where one is due, is to be sent.
     Posted(Posted),
     /// It is blocked by a fault.
     Blocked(Fault),

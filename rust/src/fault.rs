@@ -107,7 +107,7 @@ impl fmt::Display for Reason {
 /// The fault of a blocked request. Only requests make one.
 ///
 /// ```
-/// use galitzaf::{MemoryAnswer, MemoryRequest, Reason, SourceId, Unit};
+/// use galitzaf::{Memory, MemoryAnswer, MemoryRequest, Reason, SourceId, Unit};
 /// # use galitzaf::{Levels, Registers};
 /// # let unit = Unit::new(&Registers {
 /// #     haw: 39,
@@ -118,7 +118,8 @@ impl fmt::Display for Reason {
 /// # });
 ///
 /// // With no memory at all, the root entry can't be fetched.
-/// let answer = unit.memory(&[], MemoryRequest::write(SourceId::from(0x0310), 0x1234));
+/// let write = MemoryRequest::write(SourceId::from(0x0310), 0x1234);
+/// let answer = unit.memory(&Memory::flat([]), write);
 /// let MemoryAnswer::Blocked(fault) = answer else { panic!("{answer:?}") };
 /// assert_eq!(fault.reason(), Reason::RootAccess);
 /// assert!(fault.recordable());

@@ -6,6 +6,8 @@
 
 #![allow(unsafe_code)]
 
+use crate::Window;
+
 /// The packed registers.
 pub(crate) const REGISTERS_SIZE: usize = 24;
 /// An answer.
@@ -39,6 +41,8 @@ extern "C" {
     fn galitzaf_memory_request(
         registers: *const u8,
         registers_len: usize,
+        windows: *const u64,
+        windows_len: usize,
         image: *const u8,
         image_len: usize,
         source: u16,
@@ -51,6 +55,8 @@ extern "C" {
     fn galitzaf_interrupt_request(
         registers: *const u8,
         registers_len: usize,
+        windows: *const u64,
+        windows_len: usize,
         image: *mut u8,
         image_len: usize,
         source: u16,
@@ -63,6 +69,8 @@ extern "C" {
     fn galitzaf_take(
         registers: *const u8,
         registers_len: usize,
+        windows: *const u64,
+        windows_len: usize,
         image: *mut u8,
         image_len: usize,
         descriptor: u64,
@@ -110,21 +118,30 @@ extern "C" {
     fn galitzaf_reset_meters(loads: *mut f64, loads_len: usize) -> u32;
 }
 
+/// How many numbers windows are: a `Window` is laid out as three of them.
+fn numbers(windows: &[Window]) -> usize {
+    windows.len().saturating_mul(3)
+}
+
 /// The answer bytes, or none where the library called an argument malformed.
 pub(crate) fn memory_request(
     registers: &[u8; REGISTERS_SIZE],
+    windows: &[Window],
     image: &[u8],
     source: u16,
     address: u64,
     write: bool,
 ) -> Option<[u8; ANSWER_SIZE]> {
     let mut answer = [0; ANSWER_SIZE];
-    // SAFETY: each pointer and length is that of a live slice or array. `answer` is the only one
-    // written, and a local, so that it overlaps no other. None is kept after the call.
+    // SAFETY: each pointer and length is that of a live slice or array, windows taken as numbers.
+    // `answer` is the only one written, and a local, so that it overlaps no other. None is kept after
+    // the call.
     let status = unsafe {
         galitzaf_memory_request(
             registers.as_ptr(),
             registers.len(),
+            windows.as_ptr().cast(),
+            numbers(windows),
             image.as_ptr(),
             image.len(),
             source,
@@ -140,19 +157,22 @@ pub(crate) fn memory_request(
 /// The answer bytes, or none where the library called an argument malformed.
 pub(crate) fn interrupt_request(
     registers: &[u8; REGISTERS_SIZE],
+    windows: &[Window],
     image: &mut [u8],
     source: u16,
     address: u64,
     data: u32,
 ) -> Option<[u8; ANSWER_SIZE]> {
     let mut answer = [0; ANSWER_SIZE];
-    // SAFETY: each pointer and length is that of a live slice or array. `image` and `answer` are
-    // written: the one is lent by `&mut`, the other a local, so that neither overlaps another. None
-    // is kept.
+    // SAFETY: each pointer and length is that of a live slice or array, windows taken as numbers.
+    // `image` and `answer` are written: the one is lent by `&mut`, the other a local, so that neither
+    // overlaps another. None is kept.
     let status = unsafe {
         galitzaf_interrupt_request(
             registers.as_ptr(),
             registers.len(),
+            windows.as_ptr().cast(),
+            numbers(windows),
             image.as_mut_ptr(),
             image.len(),
             source,
@@ -166,13 +186,21 @@ pub(crate) fn interrupt_request(
 }
 
 /// What the library said to a take.
-pub(crate) fn take(registers: &[u8; REGISTERS_SIZE], image: &mut [u8], descriptor: u64) -> u32 {
-    // SAFETY: each pointer and length is that of a live slice or array. `image`, which is written,
-    // is lent by `&mut`, so that it overlaps no other. None is kept after the call.
+pub(crate) fn take(
+    registers: &[u8; REGISTERS_SIZE],
+    windows: &[Window],
+    image: &mut [u8],
+    descriptor: u64,
+) -> u32 {
+    // SAFETY: each pointer and length is that of a live slice or array, windows taken as numbers.
+    // `image`, which is written, is lent by `&mut`, so that it overlaps no other. None is kept after
+    // the call.
     unsafe {
         galitzaf_take(
             registers.as_ptr(),
             registers.len(),
+            windows.as_ptr().cast(),
+            numbers(windows),
             image.as_mut_ptr(),
             image.len(),
             descriptor,

@@ -7,10 +7,14 @@
 //! give that one answer.
 //!
 //! Nothing has to be checked beforehand and nothing panics: any registers, any memory and any
-//! request get an answer. The crate needs neither `std` nor an allocator.
+//! request get an answer. The crate needs neither `std` nor an allocator. It is for programs of an
+//! operating system: the archive that it links uses the red zone below the stack, so the build script
+//! refuses targets without one.
+//!
+//! Guest memory with holes is shown in windows: [`Memory`] has an example.
 //!
 //! ```
-//! use galitzaf::{Levels, MemoryAnswer, MemoryRequest, Reason, Registers, SourceId, Unit};
+//! use galitzaf::{Levels, Memory, MemoryAnswer, MemoryRequest, Reason, Registers, SourceId, Unit};
 //!
 //! let unit = Unit::new(&Registers {
 //!     haw: 39,
@@ -32,10 +36,11 @@
 //! }
 //!
 //! let camera = SourceId::new(0x03, 0x10);
-//! let answer = unit.memory(&image, MemoryRequest::read(camera, 0x4020_1ABC));
+//! let memory = Memory::flat(&image);
+//! let answer = unit.memory(&memory, MemoryRequest::read(camera, 0x4020_1ABC));
 //! assert_eq!(answer, MemoryAnswer::Granted(0x1234_5ABC));
 //!
-//! let answer = unit.memory(&image, MemoryRequest::write(camera, 0x4020_1ABC));
+//! let answer = unit.memory(&memory, MemoryRequest::write(camera, 0x4020_1ABC));
 //! assert_eq!(answer.fault().map(|f| f.reason()), Some(Reason::WriteDenied));
 //! ```
 
@@ -60,6 +65,7 @@ mod answer;
 mod bytes;
 mod fault;
 mod ffi;
+mod memory;
 mod meters;
 mod recorder;
 mod registers;
@@ -72,6 +78,7 @@ pub use answer::{
     Remapped, TakeAnswer, TriggerMode,
 };
 pub use fault::{Fault, FaultRecord, Reason};
+pub use memory::{Memory, Window};
 pub use meters::{Gate, Meters, MetersError};
 pub use recorder::{Recorded, Recorder, RecorderState};
 pub use registers::{Levels, Registers};

@@ -35,7 +35,7 @@ pub struct RecorderState {
 /// a hypervisor shows them to its guest.
 ///
 /// ```
-/// use galitzaf::{MemoryRequest, Reason, Recorded, Recorder, SourceId, Unit};
+/// use galitzaf::{Memory, MemoryRequest, Reason, Recorded, Recorder, SourceId, Unit};
 /// # use galitzaf::{Levels, Registers};
 /// # let unit = Unit::new(&Registers {
 /// #     haw: 39,
@@ -46,7 +46,8 @@ pub struct RecorderState {
 /// # });
 ///
 /// let mut recorder = Recorder::new();
-/// let answer = unit.memory(&[], MemoryRequest::read(SourceId::from(0x0310), 0x1000));
+/// let read = MemoryRequest::read(SourceId::from(0x0310), 0x1000);
+/// let answer = unit.memory(&Memory::flat([]), read);
 /// assert_eq!(recorder.record(&answer), Ok(Recorded::Written));
 ///
 /// let (slot, record) = recorder.standing().next().unwrap();

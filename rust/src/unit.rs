@@ -2,12 +2,14 @@
 
 use crate::ffi::{self, REGISTERS_SIZE};
 use crate::{Access, InterruptAnswer, InterruptRequest, MemoryAnswer, MemoryRequest};
-use crate::{Refusal, Registers, TakeAnswer};
+use crate::{Memory, Refusal, Registers, TakeAnswer};
 
-/// A remapping unit: its registers, ready to answer requests over any image of guest memory.
+/// A remapping unit: its registers, ready to answer requests over any guest memory.
 ///
-/// It keeps nothing else. The image is lent to each request, byte n of it being host address n, and
-/// every table is read from it anew.
+/// It keeps nothing else. [`Memory`] is lent to each request, and every table is read from it anew.
+/// While a request is answered nobody else changes this memory, as Rust has it for what a reference
+/// lends. So posts and takes are plain writes and no atomic operations: virtual processors and devices
+/// that share the memory have to be kept off it meanwhile.
 #[derive(Clone, Copy, Debug, PartialEq, Eq, Hash)]
 pub struct Unit {
     registers: [u8; REGISTERS_SIZE],
@@ -21,50 +23,64 @@ impl Unit {
         }
     }
 
-    /// Where a memory request may go. Reads the image, and no more of it than the tables it walks.
+    /// Where a memory request may go. Reads memory, and no more of it than the tables it walks.
     ///
     /// ```
-    /// use galitzaf::{MemoryAnswer, MemoryRequest, Refusal, Registers, SourceId, Unit};
+    /// use galitzaf::{Memory, MemoryAnswer, MemoryRequest, Refusal, Registers, SourceId, Unit};
     ///
     /// // Registers of all zeros name no host width: refused.
     /// let unit = Unit::new(&Registers::default());
     /// let request = MemoryRequest::read(SourceId::from(0), 0);
-    /// assert_eq!(unit.memory(&[], request), MemoryAnswer::Refused(Refusal::BadRegisters));
+    /// let answer = unit.memory(&Memory::flat([]), request);
+    /// assert_eq!(answer, MemoryAnswer::Refused(Refusal::BadRegisters));
     /// ```
-    pub fn memory(&self, image: &[u8], request: MemoryRequest) -> MemoryAnswer {
+    pub fn memory<R: AsRef<[u8]>>(
+        &self,
+        memory: &Memory<R>,
+        request: MemoryRequest,
+    ) -> MemoryAnswer {
         let MemoryRequest {
             source,
             address,
             access,
         } = request;
         let write = access == Access::Write;
-        ffi::memory_request(&self.registers, image, source.into(), address, write).map_or(
+        let answer = memory.lend(|windows, run| {
+            ffi::memory_request(&self.registers, windows, run, source.into(), address, write)
+        });
+        answer.map_or(
             MemoryAnswer::Refused(Refusal::INTERFACE),
             MemoryAnswer::decode,
         )
     }
 
-    /// What becomes of an interrupt. Posting one sets its vector's request bit in the image and,
-    /// where a notification is due, the descriptor's ON bit; any other answer leaves the image as
-    /// it came.
+    /// What becomes of an interrupt. Posting one sets its vector's request bit in memory and, where a
+    /// notification is due, the descriptor's ON bit; any other answer leaves memory as it came.
     ///
     /// ```
-    /// use galitzaf::{InterruptAnswer, InterruptRequest, Levels, Registers, SourceId, Unit};
+    /// use galitzaf::{InterruptAnswer, InterruptRequest, Levels, Memory, Registers, SourceId, Unit};
     ///
     /// // With IRE off an interrupt passes unchanged.
     /// let unit = Unit::new(&Registers {
     ///     haw: 39, mgaw: 48, levels: Levels { four: true, ..Levels::NONE }, ..Registers::default()
     /// });
     /// let request = InterruptRequest::new(SourceId::from(0x0310), 0xFEE0_0000, 0x41);
-    /// assert_eq!(unit.interrupt(&mut [], request), InterruptAnswer::Passed);
+    /// assert_eq!(unit.interrupt(&mut Memory::flat([]), request), InterruptAnswer::Passed);
     /// ```
-    pub fn interrupt(&self, image: &mut [u8], request: InterruptRequest) -> InterruptAnswer {
+    pub fn interrupt<R: AsMut<[u8]>>(
+        &self,
+        memory: &mut Memory<R>,
+        request: InterruptRequest,
+    ) -> InterruptAnswer {
         let InterruptRequest {
             source,
             address,
             data,
         } = request;
-        ffi::interrupt_request(&self.registers, image, source.into(), address, data).map_or(
+        let answer = memory.lend_mut(|windows, run| {
+            ffi::interrupt_request(&self.registers, windows, run, source.into(), address, data)
+        });
+        answer.map_or(
             InterruptAnswer::Refused(Refusal::INTERFACE),
             InterruptAnswer::decode,
         )
@@ -72,11 +88,11 @@ impl Unit {
 
     /// Takes from the posted interrupt descriptor at a host address: its highest request bit is
     /// cleared and the vector handed out, or there is none. The descriptor's ON bit is cleared
-    /// either way, so that the next post has a notification again; a refused take leaves the image
-    /// as it came.
+    /// either way, so that the next post has a notification again; a refused take leaves memory as it
+    /// came.
     ///
     /// ```
-    /// use galitzaf::{Levels, Refusal, Registers, TakeAnswer, Unit};
+    /// use galitzaf::{Levels, Memory, Refusal, Registers, TakeAnswer, Unit};
     ///
     /// let unit = Unit::new(&Registers {
     ///     haw: 39, mgaw: 48, levels: Levels { four: true, ..Levels::NONE }, ..Registers::default()
@@ -86,14 +102,17 @@ impl Unit {
     /// image[0x46] = 0x02;
     /// image[0x50] = 0x01;
     /// image[0x60] = 0x01;
-    /// assert_eq!(unit.take(&mut image, 0x40), TakeAnswer::Vector(0x80));
-    /// assert_eq!(unit.take(&mut image, 0x40), TakeAnswer::Vector(0x31));
-    /// assert_eq!(unit.take(&mut image, 0x40), TakeAnswer::Nothing);
+    /// let mut memory = Memory::flat(&mut image);
+    /// assert_eq!(unit.take(&mut memory, 0x40), TakeAnswer::Vector(0x80));
+    /// assert_eq!(unit.take(&mut memory, 0x40), TakeAnswer::Vector(0x31));
+    /// assert_eq!(unit.take(&mut memory, 0x40), TakeAnswer::Nothing);
+    /// assert_eq!(unit.take(&mut memory, 0x41), TakeAnswer::Refused(Refusal::BadDescriptor));
     /// assert_eq!(image, [0; 0x80]);
-    /// assert_eq!(unit.take(&mut image, 0x41), TakeAnswer::Refused(Refusal::BadDescriptor));
     /// ```
-    pub fn take(&self, image: &mut [u8], descriptor: u64) -> TakeAnswer {
-        TakeAnswer::decode(ffi::take(&self.registers, image, descriptor))
+    pub fn take<R: AsMut<[u8]>>(&self, memory: &mut Memory<R>, descriptor: u64) -> TakeAnswer {
+        let status =
+            memory.lend_mut(|windows, run| ffi::take(&self.registers, windows, run, descriptor));
+        TakeAnswer::decode(status)
     }
 }
 

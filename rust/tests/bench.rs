@@ -4,19 +4,20 @@ mod common;
 
 use common::{bench_image, BENCH, SOURCE};
 use galitzaf::{
-    DeliveryMode, DestinationMode, Fault, InterruptAnswer, InterruptRequest, MemoryAnswer,
+    DeliveryMode, DestinationMode, Fault, InterruptAnswer, InterruptRequest, Memory, MemoryAnswer,
     MemoryRequest, Notification, Posted, Reason, Remapped, SourceId, TriggerMode, Unit,
 };
 
 fn read(source: SourceId, address: u64) -> MemoryAnswer {
-    Unit::new(&BENCH).memory(&bench_image(), MemoryRequest::read(source, address))
+    let memory = Memory::flat(bench_image());
+    Unit::new(&BENCH).memory(&memory, MemoryRequest::read(source, address))
 }
 
 fn interrupt(source: SourceId, address: u64, data: u32) -> InterruptAnswer {
-    let mut image = bench_image();
+    let mut memory = Memory::flat(bench_image());
     let request = InterruptRequest::new(source, address, data);
-    let answer = Unit::new(&BENCH).interrupt(&mut image, request);
-    assert_eq!(image, bench_image());
+    let answer = Unit::new(&BENCH).interrupt(&mut memory, request);
+    assert_eq!(memory.into_run(), bench_image());
     answer
 }
 
@@ -35,7 +36,7 @@ fn case_01() {
 #[test]
 fn case_02() {
     let request = MemoryRequest::write(SOURCE, 0x4020_1ABC);
-    let answer = Unit::new(&BENCH).memory(&bench_image(), request);
+    let answer = Unit::new(&BENCH).memory(&Memory::flat(bench_image()), request);
     let words = [0x4020_1000, 0x8000_0005_0000_0310];
     assert_eq!(told(answer.fault()), (0x05, words));
 }
@@ -68,7 +69,7 @@ fn case_07() {
     assert_eq!(read(SOURCE, 0x40BF_F000).granted(), Some(0x2345_6000));
     let image = bench_image();
     let request = MemoryRequest::read(SOURCE, 0x40BF_F000);
-    let answer = Unit::new(&BENCH).memory(&image[..32_767], request);
+    let answer = Unit::new(&BENCH).memory(&Memory::flat(&image[..32_767]), request);
     let reason = answer.fault().map(Fault::reason);
     assert_eq!(reason, Some(Reason::PageEntryAccess));
 }
@@ -117,12 +118,12 @@ fn case_11() {
 fn case_12() {
     let unit = Unit::new(&BENCH);
     let request = InterruptRequest::new(SOURCE, 0xFEE0_0090, 0);
-    let mut image = bench_image();
+    let mut memory = Memory::flat(bench_image());
     let notification = Notification {
         vector: 0xF2,
         destination: 7,
     };
-    let answer = unit.interrupt(&mut image, request);
+    let answer = unit.interrupt(&mut memory, request);
     let mut post = Posted {
         descriptor: 0x6400,
         vector: 0x31,
@@ -133,10 +134,10 @@ fn case_12() {
     let mut posted = bench_image();
     posted[0x6406] = 2;
     posted[0x6420] = 1;
-    assert_eq!(image, posted);
+    assert_eq!(*memory.run(), posted);
 
-    let answer = unit.interrupt(&mut image, request);
+    let answer = unit.interrupt(&mut memory, request);
     post.notification = None;
     assert_eq!(answer, InterruptAnswer::Posted(post));
-    assert_eq!(image, posted);
+    assert_eq!(*memory.run(), posted);
 }

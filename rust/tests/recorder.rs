@@ -4,13 +4,14 @@ mod common;
 
 use common::{bench_image, set, Random, BENCH, SOURCE};
 use galitzaf::{
-    Fault, MemoryAnswer, MemoryRequest, Recorded, Recorder, RecorderState, Refusal, SourceId, Unit,
+    Fault, Memory, MemoryAnswer, MemoryRequest, Recorded, Recorder, RecorderState, Refusal,
+    SourceId, Unit,
 };
 
 /// A fault of the page given by its number.
 fn fault(page: u64) -> Fault {
     let request = MemoryRequest::read(SourceId::from(0x0410), page << 12);
-    let answer = Unit::new(&BENCH).memory(&bench_image(), request);
+    let answer = Unit::new(&BENCH).memory(&Memory::flat(bench_image()), request);
     *answer.fault().expect("a fault")
 }
 
@@ -18,7 +19,7 @@ fn fault(page: u64) -> Fault {
 fn silent() -> Fault {
     let mut image = bench_image();
     set(&mut image, 0x2100, 2);
-    let answer = Unit::new(&BENCH).memory(&image, MemoryRequest::read(SOURCE, 0));
+    let answer = Unit::new(&BENCH).memory(&Memory::flat(image), MemoryRequest::read(SOURCE, 0));
     *answer.fault().expect("a fault")
 }
 
@@ -62,7 +63,7 @@ fn each_slot_then_overflow() {
 fn what_holds_no_fault_or_a_silent_one_changes_nothing() {
     let mut recorder = Recorder::new();
     let request = MemoryRequest::read(SOURCE, 0x4020_1ABC);
-    let granted = Unit::new(&BENCH).memory(&bench_image(), request);
+    let granted = Unit::new(&BENCH).memory(&Memory::flat(bench_image()), request);
     assert_eq!(recorder.record(&granted), Ok(Recorded::NoFault));
     assert_eq!(recorder.record(None), Ok(Recorded::NoFault));
     assert!(!silent().recordable());

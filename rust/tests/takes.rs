@@ -4,7 +4,7 @@
 mod common;
 
 use common::Random;
-use galitzaf::{InterruptAnswer, InterruptRequest, Levels, Refusal};
+use galitzaf::{InterruptAnswer, InterruptRequest, Levels, Memory, Refusal};
 use galitzaf::{Registers, SourceId, TakeAnswer, Unit};
 use std::collections::BTreeSet;
 
@@ -38,14 +38,14 @@ fn image() -> Vec<u8> {
 fn post(image: &mut [u8], vector: u8) -> bool {
     let address = 0xFEE0_0010 | u64::from(vector) << 5;
     let request = InterruptRequest::new(SourceId::from(0x0310), address, 0);
-    match unit().interrupt(image, request) {
+    match unit().interrupt(&mut Memory::flat(image), request) {
         InterruptAnswer::Posted(post) => post.notification.is_some(),
         other => panic!("{other:?}"),
     }
 }
 
 fn take(image: &mut [u8]) -> TakeAnswer {
-    unit().take(image, DESCRIPTOR as u64)
+    unit().take(&mut Memory::flat(image), DESCRIPTOR as u64)
 }
 
 #[test]
@@ -98,14 +98,15 @@ fn refused() {
     let mut image = image();
     post(&mut image, 0x31);
     let before = image.clone();
+    let mut memory = Memory::flat(image);
     let bad = Unit::new(&Registers::default());
     for descriptor in [0x1000, 0x1001] {
         let refused = TakeAnswer::Refused(Refusal::BadRegisters);
-        assert_eq!(bad.take(&mut image, descriptor), refused);
+        assert_eq!(bad.take(&mut memory, descriptor), refused);
     }
     for descriptor in [0x1001, 0x1020, 0x1040, 1 << 63, 0u64.wrapping_sub(64)] {
         let refused = TakeAnswer::Refused(Refusal::BadDescriptor);
-        assert_eq!(unit().take(&mut image, descriptor), refused);
+        assert_eq!(unit().take(&mut memory, descriptor), refused);
     }
-    assert!(image == before);
+    assert!(memory.into_run() == before);
 }

@@ -1,6 +1,7 @@
 //! Images of eight pages, into which a request's entries are laid.
 
 use crate::common::{set, Random};
+use galitzaf::Window;
 
 /// Pages of an image.
 pub const PAGES: u64 = 8;
@@ -34,4 +35,40 @@ pub fn put(random: &mut Random, image: &mut [u8], address: u64, words: &[u64]) {
 /// The address of one of the pages.
 pub fn page(random: &mut Random) -> u64 {
     random.below(PAGES) << 12
+}
+
+/// An image cut into windows, whose parts of the run stand the other way round: at most four, some
+/// without their last bytes, now and then one too many.
+pub fn cut(random: &mut Random, image: &[u8]) -> (Vec<Window>, Vec<u8>) {
+    let mut pages: Vec<usize> = (0..image.len().div_ceil(4096)).collect();
+    while pages.len() > 4 && random.below(50) != 0 {
+        let one = random.below(pages.len() as u64 - 1) as usize;
+        pages.remove(1 + one);
+    }
+    let mut windows = Vec::new();
+    let mut run = Vec::new();
+    for (n, &page) in pages.iter().enumerate().rev() {
+        let end = pages.get(n + 1).map_or(image.len(), |next| 4096 * next);
+        let part = &image[4096 * page..end];
+        let less = random.pick(&[0, 0, 0, 1, 9]).min(part.len() - 1);
+        let part = &part[..part.len() - less];
+        windows.push(Window {
+            start: 4096 * page as u64,
+            offset: run.len() as u64,
+            length: part.len() as u64,
+        });
+        run.extend_from_slice(part);
+    }
+    windows.reverse();
+    (windows, run)
+}
+
+/// The same windows in the reference's form.
+pub fn theirs(windows: &[Window]) -> Vec<reference::Window> {
+    let theirs = windows.iter().map(|window| reference::Window {
+        start: window.start,
+        from: window.offset,
+        length: window.length,
+    });
+    theirs.collect()
 }

@@ -1,10 +1,11 @@
 //! Interrupts.
 
 use crate::common::Random;
-use crate::image::{length, put, PAGES};
+use crate::image::{self, cut, length, put, PAGES};
 use crate::met::{expect_met, meet, Met};
 use crate::{outcome, registers, CASES};
-use galitzaf::{InterruptRequest, Registers, SourceId, Unit};
+use galitzaf::{InterruptRequest, Memory, Registers, SourceId, Unit};
+use reference::{interrupt_request_in, Slip};
 
 /// A destination in the place it has in entries and descriptors.
 fn destination(random: &mut Random, registers: &Registers) -> u64 {
@@ -98,14 +99,26 @@ fn interrupts() {
         let (index, address, data) = message(&mut random);
         let mut image = tables(&mut random, &registers, source, index);
         image.truncate(length(&mut random));
-        let mut after = image.clone();
+        let (windows, mut run) = cut(&mut random, &image);
+        let mut memory = Memory::flat(image.clone());
         let request = InterruptRequest::new(source, address, data);
-        let ours = outcome::of_interrupt(Unit::new(&registers).interrupt(&mut after, request));
+        let unit = Unit::new(&registers);
+        let ours = outcome::of_interrupt(unit.interrupt(&mut memory, request));
         let (theirs, id) = (registers::theirs(&registers), source.into());
         let expected = reference::interrupt_request(&theirs, &mut image, id, address, data);
         assert_eq!(ours, expected, "{registers:?} {request:?}");
-        assert!(after == image, "{registers:?} {request:?}");
+        assert!(*memory.run() == image, "{registers:?} {request:?}");
         meet(&mut met, &ours);
+
+        let mut memory = Memory::new(run.clone(), &windows);
+        let ours = outcome::of_interrupt(unit.interrupt(&mut memory, request));
+        let (none, shown) = (Slip::None, image::theirs(&windows));
+        let expected = interrupt_request_in(none, &theirs, &shown, &mut run, id, address, data);
+        assert_eq!(ours, expected, "{registers:?} {windows:?} {request:?}");
+        assert!(
+            *memory.run() == run,
+            "{registers:?} {windows:?} {request:?}"
+        );
     }
     expect_met(&met, &["passed", "remapped", "posted", "posted, notified"]);
     expect_met(&met, &["silent", "refused 1", "refused 2"]);

@@ -1,10 +1,11 @@
 //! Memory requests.
 
 use crate::common::Random;
-use crate::image::{length, page, put, PAGES};
+use crate::image::{self, cut, length, page, put, PAGES};
 use crate::met::{expect_met, meet, Met};
 use crate::{outcome, registers, CASES};
-use galitzaf::{MemoryRequest, Registers, SourceId, Unit};
+use galitzaf::{Memory, MemoryRequest, Registers, SourceId, Unit};
+use reference::{memory_request_in, Slip};
 
 /// Lays the page entries of an address, and answers the top table.
 fn pages(
@@ -79,11 +80,18 @@ fn memory_requests() {
         } else {
             MemoryRequest::read(source, address)
         };
-        let ours = outcome::of_memory(Unit::new(&registers).memory(&image, request));
+        let unit = Unit::new(&registers);
+        let ours = outcome::of_memory(unit.memory(&Memory::flat(&image), request));
         let (theirs, id) = (registers::theirs(&registers), source.into());
         let expected = reference::memory_request(&theirs, &image, id, address, write);
         assert_eq!(ours, expected, "{registers:?} {request:?}");
         meet(&mut met, &ours);
+
+        let (windows, run) = cut(&mut random, &image);
+        let ours = outcome::of_memory(unit.memory(&Memory::new(&run, &windows), request));
+        let (none, shown) = (Slip::None, image::theirs(&windows));
+        let expected = memory_request_in(none, &theirs, &shown, &run, id, address, write);
+        assert_eq!(ours, expected, "{registers:?} {windows:?} {request:?}");
     }
     expect_met(
         &met,

@@ -7,6 +7,8 @@
 // Links the library.
 use galitzaf as _;
 
+use std::ops::Deref;
+
 mod meters;
 
 pub use meters::{reset_meters, tick_meters, Gates};
@@ -24,6 +26,8 @@ extern "C" {
     fn galitzaf_memory_request(
         registers: *const u8,
         registers_len: usize,
+        windows: *const u64,
+        windows_len: usize,
         image: *const u8,
         image_len: usize,
         source: u16,
@@ -36,6 +40,8 @@ extern "C" {
     fn galitzaf_interrupt_request(
         registers: *const u8,
         registers_len: usize,
+        windows: *const u64,
+        windows_len: usize,
         image: *mut u8,
         image_len: usize,
         source: u16,
@@ -48,6 +54,8 @@ extern "C" {
     fn galitzaf_take(
         registers: *const u8,
         registers_len: usize,
+        windows: *const u64,
+        windows_len: usize,
         image: *mut u8,
         image_len: usize,
         descriptor: u64,
@@ -78,10 +86,31 @@ extern "C" {
     ) -> u32;
 }
 
+/// The windows of a plain image of some length: one from 0, or none.
+#[derive(Clone, Copy)]
+pub struct Flat([u64; 3]);
+
+/// `GALITZAF_FLAT`.
+pub fn flat(length: usize) -> Flat {
+    Flat([0, 0, length as u64])
+}
+
+impl Deref for Flat {
+    type Target = [u64];
+
+    fn deref(&self) -> &[u64] {
+        match self.0 {
+            [_, _, 0] => &[],
+            _ => &self.0,
+        }
+    }
+}
+
 /// `galitzaf_memory_request`.
 #[inline(always)]
 pub fn memory_request(
     registers: &[u8],
+    windows: &[u64],
     image: &[u8],
     source: u16,
     address: u64,
@@ -94,6 +123,8 @@ pub fn memory_request(
         galitzaf_memory_request(
             registers.as_ptr(),
             registers.len(),
+            windows.as_ptr(),
+            windows.len(),
             image.as_ptr(),
             image.len(),
             source,
@@ -109,6 +140,7 @@ pub fn memory_request(
 #[inline(always)]
 pub fn interrupt_request(
     registers: &[u8],
+    windows: &[u64],
     image: &mut [u8],
     source: u16,
     address: u64,
@@ -121,6 +153,8 @@ pub fn interrupt_request(
         galitzaf_interrupt_request(
             registers.as_ptr(),
             registers.len(),
+            windows.as_ptr(),
+            windows.len(),
             image.as_mut_ptr(),
             image.len(),
             source,
@@ -133,13 +167,15 @@ pub fn interrupt_request(
 }
 
 /// `galitzaf_take`.
-pub fn take(registers: &[u8], image: &mut [u8], descriptor: u64) -> u32 {
+pub fn take(registers: &[u8], windows: &[u64], image: &mut [u8], descriptor: u64) -> u32 {
     // SAFETY: each pointer and length is that of a live slice. `image`, which is written, is lent by
     // `&mut`, so that it overlaps no other. None is kept after the call.
     unsafe {
         galitzaf_take(
             registers.as_ptr(),
             registers.len(),
+            windows.as_ptr(),
+            windows.len(),
             image.as_mut_ptr(),
             image.len(),
             descriptor,

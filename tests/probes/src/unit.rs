@@ -149,6 +149,7 @@ impl Unit {
         let registers = self.registers.to_bytes();
         interface::memory_request(
             &registers,
+            &interface::flat(self.image.len()),
             &self.image,
             source,
             address,
@@ -168,6 +169,7 @@ impl Unit {
         let registers = self.registers.to_bytes();
         interface::interrupt_request(
             &registers,
+            &interface::flat(self.image.len()),
             &mut self.image,
             source,
             address,
