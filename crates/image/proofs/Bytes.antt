@@ -101,6 +101,15 @@ last-byte zero (x ∷ xs) h = simp (mul-zero, add-zero, one-mul, zero-add)
 last-byte (suc n) (x ∷ xs) h =
     rw (last-byte n xs (omega arith), mul-add, ← add-assoc, ← mul-assoc, ← pow-succ' 256 n)
 
+-- a run of bytes by its first n
+pub run-split : (n m : ℕ) (xs : List ℕ) → n ≤ length xs
+    → littleEndian (take (n + m) xs) ≡ littleEndian (take n xs) + 256 ^ n * littleEndian (take m (drop n xs))
+unfolding littleEndian
+run-split zero m xs h = simp (zero-add, one-mul)
+run-split (suc n) m [] h = absurd (omega arith)
+run-split (suc n) m (x ∷ xs) h =
+    rw (suc-add n m) (rw (run-split n m xs (omega arith), mul-add, ← add-assoc, ← mul-assoc, ← pow-succ' 256 n))
+
 -- a run of bytes, each below 256
 abbrev pub AreBytes : List ℕ → Type 0
 AreBytes xs = (i : ℕ) → getD xs i 0 < 256

@@ -14,4 +14,7 @@ pub mod Stores
 pub mod Trees
 pub mod Unfetched
 pub mod WordFields
+pub mod GoodWindows
+pub mod WindowEntries
+pub mod WindowRows
 pub mod Words

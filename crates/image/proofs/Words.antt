@@ -6,12 +6,13 @@ use native.Mathlib.Decide.{decLe}
 use native.Mathlib.Omega.{arith}
 use native.Mathlib.Nat.{mul-zero, add-zero, add-assoc}
 use native.Mathlib.Numerals.{add-one}
-use lib.ListN.{length, getD, take, drop}
-use lib.Seq.{drop-cons}
+use lib.ListN.{length, getD, take, drop, length-drop}
+use lib.Seq.{drop-cons, drop-drop}
 use borrow.Author.Tests.{le-leb, lt-leb}
 use Rattle.image.specs.Bytes.{littleEndian}
 use Rattle.image.specs.Memory.{Fetched, missing, found, join, wordAt, ofImage, entry}
 use Rattle.image.specs.Entries.{spell}
+use Rattle.image.proofs.Bytes.{run-split}
 
 -- so many bytes from an address, and so many words
 unfoldable pub bytesFrom : List ℕ → ℕ → ℕ → List ℕ
@@ -22,7 +23,7 @@ unfoldable pub wordsIn : List ℕ → ℕ → ℕ → List ℕ
 wordsIn image zero at = []
 wordsIn image (suc n) at = wordAt image at ∷ wordsIn image n (at + 8)
 
-join-missing : (f : Fetched) → join f missing ≡ missing
+pub join-missing : (f : Fetched) → join f missing ≡ missing
 join-missing missing = refl
 join-missing (found w) = refl
 
@@ -67,6 +68,16 @@ module _ (image : List ℕ) where
   -- the same as a fetch says it: the words that it read are those of the image
   pub fetched : (n at : ℕ) (ws : List ℕ) → at + 8 * n ≤ length image → ws ≡ wordsIn image n at → found (spell ws) ≡ entry n (ofImage image) at
   fetched n at ws h e = ap (λ (l : List ℕ). found (spell l)) e ∙ sym (inside n at h)
+
+-- words one behind the other spell the number of all their bytes
+pub spell-run : (image : List ℕ) (n at : ℕ) → at + 8 * n ≤ length image → spell (wordsIn image n at) ≡ littleEndian (take (8 * n) (drop at image))
+unfolding spell wordsIn wordAt littleEndian
+spell-run image zero at h = refl
+spell-run image (suc n) at h =
+    let more : 8 * suc n ≡ 8 + 8 * n = omega arith in
+    let fits : 8 ≤ length (drop at image) = rw (length-drop at image) (omega arith) in
+    rw (spell-run image n (at + 8) (omega arith), ← drop-drop 8 at image, more)
+    (sym (run-split 8 (8 * n) (drop at image) fits))
 
 pub spell-one : (w : ℕ) → spell (w ∷ []) ≡ w
 unfolding spell

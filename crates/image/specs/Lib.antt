@@ -10,4 +10,5 @@ pub mod Place
 pub mod Rules
 pub mod Stage
 pub mod Unfetched
+pub mod WindowRow
 pub mod Windows

@@ -1,6 +1,6 @@
 -- Guest memory with holes (document 02, ask 9): none to four windows on the one lent run of bytes. They are lent as numbers, three a
 -- window: the host address of its first byte, the place of that byte in the run, and its length.
-use Prim.Native.Nat.{ℕ, zero, suc, _+_, _-_, _%_, _^_}
+use Prim.Native.Nat.{ℕ, zero, suc, _+_, _-_, _%_, _^_, min}
 use mathlib.Core.Bool.{Bool, false, not, _&&_, _||_}
 use mathlib.Core.List.{List, [], _∷_}
 use lib.Dec.{leb, ltb, eqb}
@@ -20,6 +20,10 @@ windowsOf [] = []
 windowsOf (s ∷ []) = []
 windowsOf (s ∷ p ∷ []) = []
 windowsOf (s ∷ p ∷ n ∷ rest) = record { start = s; place = p; size = n } ∷ windowsOf rest
+
+-- the window whose three numbers stand from an index on
+abbrev pub windowAt : (numbers : List ℕ) → (i : ℕ) → Window
+windowAt numbers i = record { start = getD numbers i 0; place = getD numbers (i + 1) 0; size = getD numbers (i + 2) 0 }
 
 -- the host address behind a window's last byte
 abbrev pub endOf : Window → ℕ
@@ -56,6 +60,11 @@ ofWindows numbers run at = entryIn numbers run 8 at
 -- the byte at a host address; 0 where no window shows one
 unfoldable pub byteAt : (numbers run : List ℕ) → (at : ℕ) → ℕ
 byteAt numbers run at = onSpot (spotIn (windowsOf numbers) 1 at) 0 (λ place left. getD run place 0)
+
+-- the page of a table, as much of it as the window in which it begins holds; none where no window does
+unfoldable pub pageIn : (numbers run : List ℕ) → (table : ℕ) → List ℕ
+pageIn numbers run table =
+    onSpot (spotIn (windowsOf numbers) 1 table) [] (λ place left. take (min 4096 left) (drop place run))
 
 -- Refusal 1's part on windows. One alone: a start that is no multiple of 4096, an empty part, an end past the run or past 2^64.
 abbrev pub badWindow : Window → (run : ℕ) → Bool

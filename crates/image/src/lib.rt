@@ -11,6 +11,7 @@ ghost use Rattle.image.specs.Memory.{wordAt, ofImage, entry, withWord};
 ghost use Rattle.image.specs.Entries.{fetched8, fetched16, fetched64, missed8, missed16, missed64};
 
 mod entry_fields;
+mod windows;
 
 pub use entry_fields::any_set16;
 pub use entry_fields::any_set64;

@@ -1,0 +1,220 @@
+-- Entries through windows: one that doesn't leave its page is fetched exactly where it lies whole in a single window. Windows begin at
+-- multiples of 4096, so that none of its words can stand in one window and the next in another, also where the two touch.
+use Prim.Native.Nat.{ℕ, zero, suc, _+_, _-_, _*_, _%_, _^_, _≤_, _<_, min}
+use mathlib.Core.Bool.{Bool, true, false}
+use mathlib.Core.Path.{_≡_, refl, ap, sym, _∙_}
+use mathlib.Core.List.{List, [], _∷_}
+use native.Mathlib.Omega.{arith}
+use native.Mathlib.Decide.{decLe}
+use lib.ListN.{length, take, drop, length-take}
+use Rattle.image.specs.Bytes.{littleEndian}
+use Rattle.image.specs.Choice.{if_then_else_}
+use Rattle.image.specs.Entries.{spell}
+use Rattle.image.specs.Memory.{Memory, Fetched, missing, found, join, wordAt, ofImage, entry}
+use Rattle.image.specs.Windows.{Window, windowsOf, endOf, holdsAll, Spot, nowhere, here, onSpot, spotIn, entryIn, ofWindows, pageIn, badWindows}
+use Rattle.image.proofs.GoodWindows.{GoodWindow, GoodWithAll, Good, good, held, holding, before-it, past-it, spot-first, spot-next}
+use Rattle.image.proofs.Pages.{in-page}
+use Rattle.image.proofs.Words.{wordsIn, inside, outside, join-missing, spell-run}
+
+-- what was spotted lies in the run, with all that its window has from there on
+pub spot-in : (run : ℕ) (ws : List Window) (size at : ℕ) {place left : ℕ} → Good ws run → spotIn ws size at ≡ here place left
+    → (place + left ≤ run) × (size ≤ left)
+unfolding spotIn Good
+spot-in run [] size at g h = let z : _≡_ {A = ℕ} 0 1 = cc in absurd (omega arith)
+spot-in run (w ∷ ws) size at {place} {left} g h = go (holdsAll w size at) refl h (spot-in run ws size at (g .2))
+  where
+    go : (t : Bool) → holdsAll w size at ≡ t
+        → (if t then here (w .place + (at - w .start)) (endOf w - at) else spotIn ws size at) ≡ here place left
+        → (spotIn ws size at ≡ here place left → (place + left ≤ run) × (size ≤ left)) → (place + left ≤ run) × (size ≤ left)
+    go true e h rest =
+        let lies = held w size at e in
+        let is : place ≡ w .place + (at - w .start) = cc in
+        let has : left ≡ endOf w - at = cc in
+        (omega (arith, lies .0, lies .1, g .0 .inRun), omega (arith, lies .0, lies .1))
+    go false e h rest = rest h
+
+-- nothing is spotted before every window
+unfoldable AllFrom : ℕ → List Window → Type 0
+AllFrom from [] = Unit {0}
+AllFrom from (w ∷ ws) = (from < w .start) × AllFrom from ws
+
+spot-none : (ws : List Window) (size at : ℕ) → AllFrom at ws → spotIn ws size at ≡ nowhere
+unfolding spotIn AllFrom
+spot-none [] size at h = refl
+spot-none (w ∷ ws) size at h = rw (before-it w size at (h .0)) (spot-none ws size at (h .1))
+
+-- the windows after one that ends behind an address begin behind it too, and behind all of that address's page
+all-after : (w : Window) (ws : List Window) (at : ℕ) → GoodWithAll w ws → at < endOf w → AllFrom at ws
+unfolding GoodWithAll AllFrom
+all-after w [] at after h = tt
+all-after w (v ∷ vs) at after h = (omega (arith, after .0 .sorted), all-after w vs at (after .1) h)
+
+next-page : (run : ℕ) (w : Window) (ws : List Window) (at size a : ℕ) → Good ws run → GoodWithAll w ws → at < endOf w
+    → at % 4096 + size ≤ 4096 → a < at + size → AllFrom a ws
+unfolding Good GoodWithAll AllFrom
+next-page run w [] at size a g after h page in-it = tt
+next-page run w (v ∷ vs) at size a g after h page in-it =
+    (omega (arith, g .0 .aligned, after .0 .sorted), next-page run w vs at size a (g .2) (after .1) h page in-it)
+
+-- where so many bytes stand, by where the first of them stands
+pub wider : (run : ℕ) (ws : List Window) (size at : ℕ) → Good ws run → 0 < size
+    → spotIn ws size at ≡ onSpot (spotIn ws 1 at) nowhere (λ place left. if lib.Dec.leb size left then here place left else nowhere)
+unfolding spotIn Good
+wider run [] size at g some = refl
+wider run (w ∷ ws) size at g some = go (decLe (w .start) at) (decLe (at + 1) (endOf w)) (decLe (at + size) (endOf w)) (wider run ws size at (g .2) some)
+  where
+    all : List Window → Type 0
+    all l = spotIn l size at ≡ onSpot (spotIn l 1 at) nowhere (λ place left. if lib.Dec.leb size left then here place left else nowhere)
+
+    go : Dec (w .start ≤ at) → Dec (at + 1 ≤ endOf w) → Dec (at + size ≤ endOf w) → all ws → all (w ∷ ws)
+    go (no from) one to rest = rw (before-it w size at (omega arith), before-it w 1 at (omega arith)) rest
+    go (yes from) (no one) to rest = rw (past-it w size at (omega arith), past-it w 1 at (omega arith)) rest
+    go (yes from) (yes one) (yes to) rest =
+        rw (holding w size at from to, holding w 1 at from one, borrow.Author.Tests.le-leb size (endOf w - at) (omega arith))
+    go (yes from) (yes one) (no to) rest =
+        rw (past-it w size at (omega arith), holding w 1 at from one, borrow.Author.Tests.lt-leb size (endOf w - at) (omega arith))
+        (spot-none ws size at (all-after w ws at (g .1) (omega arith)))
+
+-- an entry whose words are the same in two memories, and one whose last word is missing
+module _ (m m′ : Memory) where
+  pub same-words : (n at : ℕ) → ((a : ℕ) → at ≤ a → a + 8 ≤ at + 8 * n → m a ≡ m′ a) → entry n m at ≡ entry n m′ at
+  unfolding entry
+  same-words zero at h = refl
+  same-words (suc n) at h =
+      rw (h at (omega arith) (omega arith), same-words n (at + 8) (λ a from to. h a (omega arith) (omega arith)))
+
+pub lacks-last : (m : Memory) (n at : ℕ) → m (at + 8 * n) ≡ missing → entry (suc n) m at ≡ missing
+unfolding entry
+lacks-last m zero at h = let there : at + 8 * 0 ≡ at = omega arith in rw (rw there at h)
+lacks-last m (suc n) at h =
+    let there : at + 8 * suc n ≡ (at + 8) + 8 * n = omega arith in
+    rw (lacks-last m n (at + 8) (rw there at h)) (join-missing (m at))
+
+module _ (run : List ℕ) where
+  -- the memory that a list of windows shows, and an entry that lies whole in one of them, by its words
+  abbrev shown : List Window → Memory
+  shown ws at = onSpot (spotIn ws 8 at) missing (λ place left. found (littleEndian (take 8 (drop place run))))
+
+  abbrev told : ℕ → Spot → Fetched
+  told n spot = onSpot spot missing (λ place left. found (spell (wordsIn run n place)))
+
+  -- all words in the first window
+  in-first : (w : Window) (ws : List Window) (n at k : ℕ) → w .start ≤ at → at + 8 * n ≤ endOf w → k ≡ w .place + (at - w .start)
+      → entry n (shown (w ∷ ws)) at ≡ found (spell (wordsIn run n k))
+  unfolding entry spell wordsIn wordAt
+  in-first w ws zero at k from to is = refl
+  in-first w ws (suc n) at k from to is =
+      rw (spot-first w 8 at ws (holding w 8 at from (omega arith)), in-first w ws n (at + 8) (k + 8) (omega arith) (omega arith) (omega arith), is)
+
+  skip : (w : Window) (ws : List Window) (a : ℕ) → holdsAll w 8 a ≡ false → shown (w ∷ ws) a ≡ shown ws a
+  skip w ws a h = rw (spot-next w 8 a ws h)
+
+  none-there : (ws : List Window) (a : ℕ) → spotIn ws 8 a ≡ nowhere → shown ws a ≡ missing
+  none-there ws a h = rw h
+
+  single-words : (len : ℕ) (ws : List Window) (n at : ℕ) → Good ws len → at % 4096 + 8 * suc n ≤ 4096
+      → entry (suc n) (shown ws) at ≡ told (suc n) (spotIn ws (8 * suc n) at)
+  unfolding Good AllFrom
+  single-words len [] n at g page =
+      lacks-last (shown []) n at (none-there [] (at + 8 * n) (spot-none [] 8 (at + 8 * n) tt))
+      ∙ ap (told (suc n)) (sym (spot-none [] (8 * suc n) at tt))
+  single-words len (w ∷ ws) n at g page =
+      split (single-words len ws n at (g .2) page) (decLe (w .start) at) (decLe (at + 8 * suc n) (endOf w)) (decLe (endOf w) at)
+    where
+      Holds : List Window → Type 0
+      Holds l = entry (suc n) (shown l) at ≡ told (suc n) (spotIn l (8 * suc n) at)
+
+      apart : Holds ws → ((a : ℕ) → at ≤ a → a + 8 ≤ at + 8 * suc n → holdsAll w 8 a ≡ false) → holdsAll w (8 * suc n) at ≡ false
+          → Holds (w ∷ ws)
+      apart rest each all =
+          same-words (shown (w ∷ ws)) (shown ws) (suc n) at (λ a from to. skip w ws a (each a from to))
+          ∙ rest
+          ∙ ap (told (suc n)) (sym (spot-next w (8 * suc n) at ws all))
+
+      split : Holds ws → Dec (w .start ≤ at) → Dec (at + 8 * suc n ≤ endOf w) → Dec (endOf w ≤ at) → Holds (w ∷ ws)
+      split rest (no o) to past =
+          apart rest (λ a from upto. before-it w 8 a (omega (arith, g .0 .aligned))) (before-it w (8 * suc n) at (omega arith))
+      split rest (yes from) (yes to) past =
+          in-first w ws (suc n) at (w .place + (at - w .start)) from to refl
+          ∙ ap (told (suc n)) (sym (spot-first w (8 * suc n) at ws (holding w (8 * suc n) at from to)))
+      split rest (yes from) (no to) (yes past) =
+          apart rest (λ a at-a upto. past-it w 8 a (omega arith)) (past-it w (8 * suc n) at (omega arith))
+      split rest (yes from) (no to) (no past) =
+          let last = at + 8 * n in
+          lacks-last (shown (w ∷ ws)) n at
+          (skip w ws last (past-it w 8 last (omega arith))
+          ∙ none-there ws last (spot-none ws 8 last (next-page len w ws at (8 * suc n) last (g .2) (g .1) (omega arith) page (omega arith))))
+          ∙ ap (told (suc n)) (sym (spot-next w (8 * suc n) at ws (past-it w (8 * suc n) at (omega arith))
+          ∙ spot-none ws (8 * suc n) at (next-page len w ws at (8 * suc n) at (g .2) (g .1) (omega arith) page (omega arith))))
+
+  -- the words of a page that was handed on
+  within : (w : Window) (n table offset : ℕ) → w .place + w .size ≤ length run → w .start ≤ table → table < endOf w
+      → offset + 8 * suc n ≤ 4096 → table + offset + 8 * suc n ≤ endOf w
+      → entry (suc n) (ofImage (take (min 4096 (endOf w - table)) (drop (w .place + (table - w .start)) run))) offset
+      ≡ found (spell (wordsIn run (suc n) (w .place + (table + offset - w .start))))
+  within w n table offset in-run from held-it page to =
+      let k = w .place + (table - w .start) in
+      let there : k + offset ≡ w .place + (table + offset - w .start) = omega arith in
+      in-page (min 4096 (endOf w - table)) run k (suc n) offset (omega arith)
+      ∙ inside run (suc n) (k + offset) (omega arith)
+      ∙ ap (λ (x : ℕ). found (spell (wordsIn run (suc n) x))) there
+
+  beyond : (size k n offset : ℕ) → size < offset + 8 * suc n → entry (suc n) (ofImage (take size (drop k run))) offset ≡ missing
+  beyond size k n offset h = outside (take size (drop k run)) n offset (rw (length-take size (drop k run)) (omega arith))
+
+  abbrev page-of : Spot → List ℕ
+  page-of spot = onSpot spot [] (λ place left. take (min 4096 left) (drop place run))
+
+  page-words : (ws : List Window) (n table offset : ℕ) → Good ws (length run) → table % 4096 ≡ 0 → offset + 8 * suc n ≤ 4096
+      → entry (suc n) (ofImage (page-of (spotIn ws 1 table))) offset ≡ told (suc n) (spotIn ws (8 * suc n) (table + offset))
+  unfolding Good AllFrom
+  page-words [] n table offset g aligned page =
+      rw (spot-none [] 1 table tt, spot-none [] (8 * suc n) (table + offset) tt) (outside [] n offset (omega arith))
+  page-words (w ∷ ws) n table offset g aligned page =
+      split (page-words ws n table offset (g .2) aligned page) (decLe (w .start) table) (decLe (endOf w) table) (decLe (table + offset + 8 * suc n) (endOf w))
+    where
+      Holds : List Window → Type 0
+      Holds l = entry (suc n) (ofImage (page-of (spotIn l 1 table))) offset ≡ told (suc n) (spotIn l (8 * suc n) (table + offset))
+
+      split : Holds ws → Dec (w .start ≤ table) → Dec (endOf w ≤ table) → Dec (table + offset + 8 * suc n ≤ endOf w) → Holds (w ∷ ws)
+      split rest (no o) past to =
+          rw (spot-next w 1 table ws (before-it w 1 table (omega arith)), spot-next w (8 * suc n) (table + offset) ws (before-it w (8 * suc n) (table + offset) (omega (arith, g .0 .aligned)))) rest
+      split rest (yes from) (yes past) to =
+          rw (spot-next w 1 table ws (past-it w 1 table (omega arith)), spot-next w (8 * suc n) (table + offset) ws (past-it w (8 * suc n) (table + offset) (omega arith))) rest
+      split rest (yes from) (no past) (yes to) =
+          rw (spot-first w 1 table ws (holding w 1 table from (omega arith)), spot-first w (8 * suc n) (table + offset) ws (holding w (8 * suc n) (table + offset) (omega arith) to))
+          (within w n table offset (g .0 .inRun) from (omega arith) page to)
+      split rest (yes from) (no past) (no to) =
+          rw (
+            spot-first w 1 table ws (holding w 1 table from (omega arith)),
+            spot-next w (8 * suc n) (table + offset) ws (past-it w (8 * suc n) (table + offset) (omega arith)),
+            spot-none ws (8 * suc n) (table + offset) (next-page (length run) w ws table 4096 (table + offset) (g .2) (g .1) (omega arith) (omega arith) (omega arith)),
+          )
+          (beyond (min 4096 (endOf w - table)) (w .place + (table - w .start)) n offset (omega arith))
+
+-- windows that aren't refused
+module _ (numbers run : List ℕ) (fine : badWindows numbers (length run) ≡ false) where
+  by-words : (n at : ℕ) → told run n (spotIn (windowsOf numbers) (8 * n) at) ≡ entryIn numbers run (8 * n) at
+  unfolding entryIn
+  by-words n at = go (spotIn (windowsOf numbers) (8 * n) at) refl
+    where
+      go : (spot : Spot) → spotIn (windowsOf numbers) (8 * n) at ≡ spot
+          → told run n spot ≡ onSpot spot missing (λ place left. found (littleEndian (take (8 * n) (drop place run))))
+      go nowhere h = refl
+      go (here place left) h =
+          let lies = spot-in (length run) (windowsOf numbers) (8 * n) at (good numbers (length run) fine) h in
+          ap found (spell-run run n place (omega (arith, lies .0, lies .1)))
+
+  -- an entry that doesn't leave its page is fetched exactly if it lies whole in a single window
+  pub single : (n at : ℕ) → at % 4096 + 8 * suc n ≤ 4096 → entry (suc n) (ofWindows numbers run) at ≡ entryIn numbers run (8 * suc n) at
+  unfolding ofWindows entryIn
+  single n at page = single-words run (length run) (windowsOf numbers) n at (good numbers (length run) fine) page ∙ by-words (suc n) at
+
+  -- an entry taken from its table's page
+  pub in-its-page : (n table offset : ℕ) → table % 4096 ≡ 0 → offset + 8 * suc n ≤ 4096
+      → entry (suc n) (ofImage (pageIn numbers run table)) offset ≡ entry (suc n) (ofWindows numbers run) (table + offset)
+  unfolding pageIn
+  in-its-page n table offset aligned page =
+      page-words run (windowsOf numbers) n table offset (good numbers (length run) fine) aligned page
+      ∙ by-words (suc n) (table + offset)
+      ∙ sym (single n (table + offset) (omega arith))

@@ -1,0 +1,264 @@
+// Guest memory with holes (document 02, ask 9): none to four windows on the one lent run. Three numbers a window: the host address of
+// its first byte, the place of that byte in the run, and its length.
+ghost use mathlib.Core.Bool.{true, false};
+ghost use mathlib.Core.Path.{_≡_};
+ghost use Prim.Native.Nat.{_+_, _-_, _%_, _^_, _≤_, _<_};
+ghost use lib.ListN.{length};
+ghost use Rattle.image.specs.Windows.{windowsOf, windowAt, endOf, holdsAll, onSpot, spotIn, badWindow, badWindows};
+ghost use Rattle.image.specs.WindowRow.{badPart, badNext, badRow, share, sharing, rises, rising};
+use std::num::wrapping_add_u64;
+use std::num::wrapping_sub_u64;
+
+// A window alone, but for its end in host addresses. An end in the run that isn't above the place is one of an empty part, or of one past 2^64.
+fn bad_part(windows: &[u64], i: usize, run: usize) -> bool
+    requires { ⌜ i + 3 ≤ length (now windows) ⌝ }
+    ensures { λ r. ⌜ r ≡ badPart (windowAt (now (windows .entry)) i) run ⌝ }
+{
+    if windows[i] % 4096 != 0 {
+        return true;
+    }
+    let place = windows[i + 1];
+    let end = wrapping_add_u64(place, windows[i + 2]);
+    if end <= place {
+        return true;
+    }
+    (run as u64) < end
+}
+
+// A window that isn't the last: it ends before the next one begins.
+fn bad_next(windows: &[u64], i: usize, run: usize) -> bool
+    requires { ⌜ i + 6 ≤ length (now windows) ⌝ }
+    ensures { λ r. ⌜ r ≡ badNext (windowAt (now (windows .entry)) i) (windowAt (now (windows .entry)) (i + 3)) run ⌝ }
+{
+    if bad_part(windows, i, run) {
+        return true;
+    }
+    let start = windows[i];
+    let end = wrapping_add_u64(start, windows[i + 2]);
+    if end <= start {
+        return true;
+    }
+    windows[i + 3] < end
+}
+
+// The last window: it may end at 2^64.
+fn bad_last(windows: &[u64], i: usize, run: usize) -> bool
+    requires { ⌜ i + 3 ≤ length (now windows) ⌝ }
+    ensures { λ r. ⌜ r ≡ badWindow (windowAt (now (windows .entry)) i) run ⌝ }
+{
+    if bad_part(windows, i, run) {
+        return true;
+    }
+    18446744073709551615 - windows[i] < windows[i + 2] - 1
+}
+
+// A window's part of the run ends before another's begins.
+fn rises_to(windows: &[u64], i: usize, j: usize) -> bool
+    requires { ⌜ (i + 3 ≤ length (now windows)) × (j + 3 ≤ length (now windows)) ⌝ }
+    ensures { λ r. ⌜ r ≡ rises (windowAt (now (windows .entry)) i) (windowAt (now (windows .entry)) j) ⌝ }
+{
+    let from = windows[i + 1];
+    let to = windows[j + 1];
+    if to < from {
+        return false;
+    }
+    windows[i + 2] <= to - from
+}
+
+fn shares(windows: &[u64], i: usize, j: usize) -> bool
+    requires { ⌜ (i + 3 ≤ length (now windows)) × (j + 3 ≤ length (now windows)) ⌝ }
+    ensures { λ r. ⌜ r ≡ share (windowAt (now (windows .entry)) i) (windowAt (now (windows .entry)) j) ⌝ }
+{
+    if rises_to(windows, i, j) {
+        return false;
+    }
+    !rises_to(windows, j, i)
+}
+
+// A row of windows that each end before the next one begins.
+fn bad_row(windows: &[u64], run: usize) -> bool
+    requires { ⌜ (3 ≤ length (now windows)) × (length (now windows) ≤ 12) × (length (now windows) % 3 ≡ 0) ⌝ }
+    ensures { λ r. ⌜ r ≡ badRow (windowsOf (now (windows .entry))) run ⌝ }
+{
+    let count = windows.len();
+    if count < 6 {
+        return bad_last(windows, 0, run);
+    }
+    if bad_next(windows, 0, run) {
+        return true;
+    }
+    if count < 9 {
+        return bad_last(windows, 3, run);
+    }
+    if bad_next(windows, 3, run) {
+        return true;
+    }
+    if count < 12 {
+        return bad_last(windows, 6, run);
+    }
+    if bad_next(windows, 6, run) {
+        return true;
+    }
+    bad_last(windows, 9, run)
+}
+
+// Windows in the order of their parts of the run, as they mostly are: none of them shares a byte with another.
+fn all_rise(windows: &[u64]) -> bool
+    requires { ⌜ (3 ≤ length (now windows)) × (length (now windows) ≤ 12) × (length (now windows) % 3 ≡ 0) ⌝ }
+    ensures { λ r. ⌜ r ≡ rising (windowsOf (now (windows .entry))) ⌝ }
+{
+    let count = windows.len();
+    if count < 6 {
+        return true;
+    }
+    if !rises_to(windows, 0, 3) {
+        return false;
+    }
+    if count < 9 {
+        return true;
+    }
+    if !rises_to(windows, 3, 6) {
+        return false;
+    }
+    if count < 12 {
+        return true;
+    }
+    rises_to(windows, 6, 9)
+}
+
+fn three_share(windows: &[u64]) -> bool
+    requires { ⌜ length (now windows) ≡ 9 ⌝ }
+    ensures { λ r. ⌜ r ≡ sharing (windowsOf (now (windows .entry))) ⌝ }
+{
+    if shares(windows, 0, 3) {
+        return true;
+    }
+    if shares(windows, 0, 6) {
+        return true;
+    }
+    shares(windows, 3, 6)
+}
+
+fn four_share(windows: &[u64]) -> bool
+    requires { ⌜ length (now windows) ≡ 12 ⌝ }
+    ensures { λ r. ⌜ r ≡ sharing (windowsOf (now (windows .entry))) ⌝ }
+{
+    if shares(windows, 0, 3) {
+        return true;
+    }
+    if shares(windows, 0, 6) {
+        return true;
+    }
+    if shares(windows, 0, 9) {
+        return true;
+    }
+    if shares(windows, 3, 6) {
+        return true;
+    }
+    if shares(windows, 3, 9) {
+        return true;
+    }
+    shares(windows, 6, 9)
+}
+
+fn any_share(windows: &[u64]) -> bool
+    requires { ⌜ (3 ≤ length (now windows)) × (length (now windows) ≤ 12) × (length (now windows) % 3 ≡ 0) ⌝ }
+    ensures { λ r. ⌜ r ≡ sharing (windowsOf (now (windows .entry))) ⌝ }
+{
+    let count = windows.len();
+    if count < 6 {
+        return false;
+    }
+    if count < 9 {
+        return shares(windows, 0, 3);
+    }
+    if count < 12 {
+        return three_share(windows);
+    }
+    four_share(windows)
+}
+
+// Refusal 1's part on windows: these are refused on a run of so many bytes.
+pub fn bad_windows(windows: &[u64], run: usize) -> bool
+    ensures { λ r. ⌜ r ≡ badWindows (now (windows .entry)) run ⌝ }
+{
+    let count = windows.len();
+    if count == 0 {
+        return false;
+    }
+    if 12 < count {
+        return true;
+    }
+    if count % 3 != 0 {
+        return true;
+    }
+    if bad_row(windows, run) {
+        return true;
+    }
+    if all_rise(windows) {
+        return false;
+    }
+    any_share(windows)
+}
+
+// The part of the run from a host address's byte to the end of its window; empty where no window holds that byte.
+struct Part {
+    place: usize,
+    size: usize,
+}
+
+// One test: the difference wraps past every window's size where the window begins behind the address.
+fn holds(windows: &[u64], i: usize, at: u64) -> bool
+    requires { ⌜ (i + 3 ≤ length (now windows)) × (endOf (windowAt (now windows) i) ≤ 2 ^ 64) ⌝ }
+    ensures { λ r. ⌜ r ≡ holdsAll (windowAt (now (windows .entry)) i) 1 at ⌝ }
+{
+    wrapping_sub_u64(at, windows[i]) < windows[i + 2]
+}
+
+// Place less start depends on the window alone, so that a single sum stands between address and load.
+fn part_in(windows: &[u64], i: usize, at: u64) -> Part
+    requires { ⌜ (i + 3 ≤ length (now windows)) × (holdsAll (windowAt (now windows) i) 1 at ≡ true)
+        × (windowAt (now windows) i .place + windowAt (now windows) i .size < 2 ^ 64) ⌝ }
+    ensures { λ r. ⌜ r .place ≡ windowAt (now (windows .entry)) i .place + (at - windowAt (now (windows .entry)) i .start) ⌝ }
+    ensures { λ r. ⌜ r .size ≡ endOf (windowAt (now (windows .entry)) i) - at ⌝ }
+{
+    let start = windows[i];
+    Part {
+        place: wrapping_add_u64(at, wrapping_sub_u64(windows[i + 1], start)) as usize,
+        size: (windows[i + 2] - (at - start)) as usize,
+    }
+}
+
+// Unrolled: a loop over the windows is slower than their tests.
+fn part_from(windows: &[u64], run: usize, at: u64) -> Part
+    requires { ⌜ badWindows (now windows) run ≡ false ⌝ }
+    ensures { λ r. ⌜ r .place ≡ onSpot (spotIn (windowsOf (now (windows .entry))) 1 at) 0 (λ place left. place) ⌝ }
+    ensures { λ r. ⌜ r .size ≡ onSpot (spotIn (windowsOf (now (windows .entry))) 1 at) 0 (λ place left. left) ⌝ }
+{
+    let count = windows.len();
+    if count < 3 {
+        return Part { place: 0, size: 0 };
+    }
+    if holds(windows, 0, at) {
+        return part_in(windows, 0, at);
+    }
+    if count < 6 {
+        return Part { place: 0, size: 0 };
+    }
+    if holds(windows, 3, at) {
+        return part_in(windows, 3, at);
+    }
+    if count < 9 {
+        return Part { place: 0, size: 0 };
+    }
+    if holds(windows, 6, at) {
+        return part_in(windows, 6, at);
+    }
+    if count < 12 {
+        return Part { place: 0, size: 0 };
+    }
+    if holds(windows, 9, at) {
+        return part_in(windows, 9, at);
+    }
+    Part { place: 0, size: 0 }
+}
