@@ -4,10 +4,12 @@ use Prim.Native.Nat.{ℕ}
 use mathlib.Core.Bool.{Bool, true, false}
 use mathlib.Core.Path.{_≡_, ap, ap₂, sym, _∙_}
 use native.Mathlib.Omega.{arith}
+use Rattle.image.specs.Place.{noEntry}
 use Rattle.image.specs.Rules.{run, Outside}
 use Rattle.image.proofs.Forks.{every-outside}
-use Rattle.image.proofs.Isolated.{isolated}
-use Rattle.image.proofs.Places.{isolated-place}
+use Rattle.image.proofs.Local.{local}
+use Rattle.image.proofs.Places.{local-place}
+use Rattle.image.proofs.Trees.{met as complete}
 use Rattle.registers.specs.declared.Registers.{Registers}
 use Rattle.dma.specs.Isolation.{accessFault, answerOver, Locality}
 use Rattle.dma.specs.Requests.{memoryRules, concerned}
@@ -20,9 +22,9 @@ outside-memory registers request =
     (memory-forks registers request)
 
 pub locality : Locality
-locality registers request image image′ answered same =
+locality registers request m m′ answered same =
     let q = memoryRules registers request in
-    let met : accessFault (answerOver registers request image) ≡ true → ⊥ = λ ended. let z : _≡_ {A = Bool} true false = sym ended ∙ answered in let y : _≡_ {A = ℕ} 0 1 = cc in omega arith in
-    let alike = isolated (λ o. accessFault o ≡ true) q image image′ (outside-memory registers request) met same in
-    let place = isolated-place (λ o. accessFault o ≡ true) q image image′ (outside-memory registers request) met same in
-    (sym alike, sym (ap₂ concerned alike place))
+    let met : accessFault (answerOver registers request m) ≡ true → ⊥ = λ ended. let z : _≡_ {A = Bool} true false = sym ended ∙ answered in let y : _≡_ {A = ℕ} 0 1 = cc in omega arith in
+    let all = complete (λ o. accessFault o ≡ true) q m (outside-memory registers request) met in
+    let alike = local q m m′ all same in
+    (sym alike, sym (ap₂ concerned alike (local-place noEntry q m m′ all same)))

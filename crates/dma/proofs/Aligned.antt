@@ -12,5 +12,5 @@ use Rattle.dma.proofs.Forks.{Fork, Ends, memory-forks}
 
 pub aligned-walked : (registers : Registers) (request : MemoryRequest) (m : Memory) (a : ℕ) → List·Memᴰ a (walked registers request m) → a % 8 ≡ 0
 aligned-walked registers request m a =
-    every-entry Fork Ends isPage (λ at. at % 8 ≡ 0) (λ kind at o fork. fork .1) 9 (memoryRules registers request) m a
+    every-entry Fork Ends isPage (λ at. at % 8 ≡ 0) (λ kind at o fork page. fork .1) 9 (memoryRules registers request) m a
     (memory-forks registers request)

@@ -5,7 +5,7 @@ use mathlib.Core.Path.{_≡_, refl, sym, _∙_, subst}
 use native.Mathlib.Omega.{arith}
 use Rattle.image.specs.Check.{Check, stop, go, onCheck}
 use Rattle.image.specs.Choice.{if_then_else_}
-use Rattle.image.specs.EntryKind.{EntryKind, isPage}
+use Rattle.image.specs.EntryKind.{EntryKind}
 use Rattle.image.specs.Memory.{Memory}
 use Rattle.image.specs.Rules.{Rules, run, mapRules}
 use Rattle.image.proofs.Forks.{Every, every-answer, every-more, every-run, every-map, every-weaken}
@@ -20,17 +20,19 @@ use Rattle.dma.specs.Translation.{Translation, through, leaf, fault, Rea
 use Rattle.dma.specs.Walk.{Step, done, down, placeIn}
 use Rattle.dma.specs.declared.context.Context.{Context}
 use Rattle.dma.specs.declared.MemoryRequest.{MemoryRequest}
+use Rattle.dma.proofs.Admissions.{taken-root}
 use Rattle.dma.proofs.Cases.{width-cases}
 use Rattle.dma.proofs.Leaves.{leaf-no-access}
 use Rattle.dma.proofs.Lookups.{every-lookup}
 use Rattle.dma.proofs.Reasons.{Otherwise, root-otherwise, context-otherwise, page-otherwise}
+use Rattle.dma.proofs.Stages.{root-aligned}
 use Rattle.dma.proofs.Steps.{page-frame-lt, leaf-low}
 use Rattle.dma.proofs.Stepped.{leads, leads-aligned, more-levels}
 use Rattle.dma.proofs.Walks.{every-walk}
 
--- an entry that can't be fetched is answered with an access fault; a page entry is a word, at a multiple of 8
+-- an entry that can't be fetched is answered with an access fault; every entry is at a multiple of 8
 abbrev pub Fork : EntryKind → ℕ → MemoryOutcome → Type 0
-Fork kind at o = (accessFault o ≡ true) × (isPage kind ≡ true → at % 8 ≡ 0)
+Fork kind at o = (accessFault o ≡ true) × (at % 8 ≡ 0)
 
 -- and no other answer is an access fault
 abbrev pub Ends : MemoryOutcome → Type 0
@@ -87,19 +89,18 @@ module _ (registers : Registers) (request : MemoryRequest) where
   unfolding memoryFault
   walk-forks fpd levels top few here =
       every-walk (request .address) (λ s. fault 0x07 fpd) (pageStep registers (request .address) (request .write) fpd) Asks Says Table 5
-      (λ table s h. absurd (omega (arith, h .1))) (λ n table s h. (refl, λ _. omega (arith, h .0))) (step-says fpd)
+      (λ table s h. absurd (omega (arith, h .1))) (λ n table s h. (refl, omega (arith, h .0))) (step-says fpd)
       (λ n place s e next t told. (
         leads-aligned registers (request .address) (request .write) fpd (suc n) place s e next t told,
         more-levels n e (leads registers (request .address) (request .write) fpd (suc n) place e told .1),
       ))
       levels top tt few here
 
-  translation-forks : Every Asks Says 9 rules
+  translation-forks : registers .«root_table» % 4096 ≡ 0 → Every Asks Says 9 rules
   unfolding memoryFault
-  translation-forks =
+  translation-forks aligned =
       every-lookup Asks Says 5 registers fault (widthRules registers (request .address) (request .write))
-      (λ place. (refl, λ page. let z : _≡_ {A = ℕ} 0 1 = cc in absurd (omega arith)))
-      (λ place. (refl, λ page. let z : _≡_ {A = ℕ} 0 1 = cc in absurd (omega arith)))
+      (request .source .id) (refl, omega arith) (λ e table led. (refl, omega (arith, root-aligned (registers .haw) e led)))
       (λ e reason. stops _ reason false (root-otherwise (registers .haw) e))
       (λ e reason. stops _ reason (faultProcessingDisabled e) (context-otherwise registers e))
       (λ c good.
@@ -107,13 +108,12 @@ module _ (registers : Registers) (request : MemoryRequest) where
       (every-answer Asks Says 5 (fault 0x04 (c .fpd)) (stops {A = ℕ} (stop 0x04) 0x04 (c .fpd) refl refl))
       (every-answer Asks Says 5 through (tt, no-grant (request .address)))
       (every-more Asks Says (c .levels) 5 _ (good .1) (walk-forks (c .fpd) (c .levels) (c .top) (good .1) (omega (arith, good .2), good .0))))
-      (request .source .id)
 
   -- what a translation is answered, it can answer
-  pub reachable : (m : Memory) → Reachable (run rules m)
-  reachable m =
+  pub reachable : (m : Memory) → registers .«root_table» % 4096 ≡ 0 → Reachable (run rules m)
+  reachable m aligned =
       every-run Asks Reachable (λ kind at t is. faults t (is .0)) 9 rules m
-      (every-weaken Asks Asks Says Reachable (λ kind at t h. h) (λ t h. h .0) 9 rules translation-forks)
+      (every-weaken Asks Asks Says Reachable (λ kind at t h. h) (λ t h. h .0) 9 rules (translation-forks aligned))
     where
       faults : (t : Translation) → accessFault (memoryOutcome request t) ≡ true → Reachable t
       faults through is = tt
@@ -122,11 +122,13 @@ module _ (registers : Registers) (request : MemoryRequest) where
 
   pub memory-forks : Every Fork Ends 9 (memoryRules registers request)
   unfolding memoryRules
-  memory-forks = on (admission registers (inInterruptRange (request .address)) (registers .te))
+  memory-forks = on (admission registers (inInterruptRange (request .address)) (registers .te)) refl
     where
-      on : (k : Admitted) → Every Fork Ends 9 (onAdmission k refused (granted (request .address)) (mapRules (memoryOutcome request) rules))
-      on (refusal n) = every-answer Fork Ends 9 (refused n) (λ is. let z : _≡_ {A = ℕ} 0 1 = cc in omega arith)
-      on pass = every-answer Fork Ends 9 (granted (request .address)) (no-grant (request .address))
-      on take =
+      on : (k : Admitted) → k ≡ admission registers (inInterruptRange (request .address)) (registers .te)
+          → Every Fork Ends 9 (onAdmission k refused (granted (request .address)) (mapRules (memoryOutcome request) rules))
+      on (refusal n) h = every-answer Fork Ends 9 (refused n) (λ is. let z : _≡_ {A = ℕ} 0 1 = cc in omega arith)
+      on pass h = every-answer Fork Ends 9 (granted (request .address)) (no-grant (request .address))
+      on take taken =
           every-map (memoryOutcome request) Fork Ends 9 rules
-          (every-weaken Asks Asks Says (λ t. Ends (memoryOutcome request t)) (λ kind at t h. h) (λ t h. h .1) 9 rules translation-forks)
+          (every-weaken Asks Asks Says (λ t. Ends (memoryOutcome request t)) (λ kind at t h. h) (λ t h. h .1) 9 rules
+          (translation-forks (taken-root registers _ (registers .te) taken)))

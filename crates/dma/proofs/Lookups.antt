@@ -21,22 +21,23 @@ use Rattle.dma.proofs.Stages.{usable}
 
 -- what holds of the forks and answers of a lookup and of what follows a context
 module _ {A : Type 0} (Fork : EntryKind → ℕ → A → Type 0) (Ends : A → Type 0) (most : ℕ) (registers : Registers)
-    (faulted : (reason : ℕ) (fpd : Bool) → A) (next : Context → Rules A)
-    (root-read : (place : ℕ) → Fork rootEntry place (faulted 0x08 false))
-    (context-read : (place : ℕ) → Fork contextEntry place (faulted 0x09 false))
+    (faulted : (reason : ℕ) (fpd : Bool) → A) (next : Context → Rules A) (source : ℕ)
+    (root-read : Fork rootEntry (registers .«root_table» + 16 * busOf source) (faulted 0x08 false))
+    (context-read : (e table : ℕ) → rootCheck (registers .haw) e ≡ go table
+    → Fork contextEntry (table + 16 * devfnOf source) (faulted 0x09 false))
     (root-stops : (e reason : ℕ) → rootCheck (registers .haw) e ≡ stop reason → Ends (faulted reason false))
     (context-stops : (e reason : ℕ) → contextCheck registers e ≡ stop reason → Ends (faulted reason (faultProcessingDisabled e)))
     (follows : (c : Context) → Usable c → Every Fork Ends most (next c)) where
-  pub every-lookup : (source : ℕ) → Every Fork Ends (4 + most) (rootRules registers faulted next source)
+  pub every-lookup : Every Fork Ends (4 + most) (rootRules registers faulted next source)
   unfolding rootRules contextRules
-  every-lookup source =
+  every-lookup =
       every-fetch Fork Ends (4 + most) (2 + most) rootEntry (registers .«root_table» + 16 * busOf source) (faulted 0x08 false) _ (omega arith)
-      (root-read _)
+      root-read
       (λ e.
       check-cases (Every Fork Ends (2 + most)) (rootCheck (registers .haw) e) (λ reason. faulted reason false)
       (contextRules registers faulted next source) (λ reason told. every-answer Fork Ends (2 + most) (faulted reason false) (root-stops e reason told))
-      (λ table _.
-      every-fetch Fork Ends (2 + most) most contextEntry (table + 16 * devfnOf source) (faulted 0x09 false) _ (omega arith) (context-read _)
+      (λ table led.
+      every-fetch Fork Ends (2 + most) most contextEntry (table + 16 * devfnOf source) (faulted 0x09 false) _ (omega arith) (context-read e table led)
       (λ e.
       check-cases (Every Fork Ends most) (contextCheck registers e) (λ reason. faulted reason (faultProcessingDisabled e)) next
       (λ reason told. every-answer Fork Ends most _ (context-stops e reason told))
@@ -187,6 +188,6 @@ Finds l = onLookup l (λ reason fpd. Unit {0}) Usable
 pub finds : (registers : Registers) (source : ℕ) (m : Memory) → Finds (run (lookupRules registers source) m)
 finds registers source m =
     every-run (λ kind at l. Finds l) Finds (λ kind at l found. found) 4 (lookupRules registers source) m
-    (every-lookup (λ kind at l. Finds l) Finds 0 registers noContext (λ c. answer (context c)) (λ place. tt) (λ place. tt) (λ e reason _. tt)
+    (every-lookup (λ kind at l. Finds l) Finds 0 registers noContext (λ c. answer (context c)) source tt (λ e table _. tt) (λ e reason _. tt)
     (λ e reason _. tt)
-    (λ c good. every-answer (λ kind at l. Finds l) Finds 0 (context c) good) source)
+    (λ c good. every-answer (λ kind at l. Finds l) Finds 0 (context c) good))

@@ -3,7 +3,6 @@ use Prim.Native.Nat.{ℕ}
 use mathlib.Core.Bool.{Bool, true, false}
 use mathlib.Core.Path.{_≡_, refl, ap, sym, _∙_}
 use mathlib.Core.List.{List, [], _∷_, _++_}
-use Rattle.image.specs.Memory.{ofImage}
 use Rattle.image.specs.Rules.{mapRules, named}
 use Rattle.image.proofs.Forks.{every-named}
 use Rattle.registers.specs.Admission.{Admitted, refusal, pass, take, admission, onAdmission, inInterruptRange}
@@ -15,16 +14,16 @@ use Rattle.dma.specs.declared.MemoryRequest.{MemoryRequest}
 use Rattle.dma.proofs.Forks.{Fork, Ends, memory-forks}
 
 pub at-most-nine : AtMostNine
-at-most-nine registers request image =
-    every-named Fork Ends 9 (memoryRules registers request) (ofImage image) (memory-forks registers request)
+at-most-nine registers request m =
+    every-named Fork Ends 9 (memoryRules registers request) m (memory-forks registers request)
 
 pub none-untaken : NoneUntaken
 unfolding memoryRules named
-none-untaken registers request image = on (admission registers (inInterruptRange (request .address)) (registers .te)) refl
+none-untaken registers request m = on (admission registers (inInterruptRange (request .address)) (registers .te)) refl
   where
     on : (k : Admitted) → k ≡ admission registers (inInterruptRange (request .address)) (registers .te)
         → (take ≡ admission registers (inInterruptRange (request .address)) (registers .te) → ⊥)
-        → named (onAdmission k refused (granted (request .address)) (mapRules (memoryOutcome request) (translationRules registers (request .address) (request .write) (request .source .id)))) (ofImage image) ≡ []
+        → named (onAdmission k refused (granted (request .address)) (mapRules (memoryOutcome request) (translationRules registers (request .address) (request .write) (request .source .id)))) m ≡ []
     on (refusal n) h not = refl
     on pass h not = refl
     on take h not = absurd (not h)

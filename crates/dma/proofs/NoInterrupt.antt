@@ -1,14 +1,13 @@
 -- No granted host address lies in the interrupt range.
 use Prim.Native.Nat.{ℕ, suc, _+_, _-_, _*_, _^_, _≤_, _<_}
 use mathlib.Core.Bool.{Bool, true, false, _&&_}
-use mathlib.Core.List.{List}
 use mathlib.Core.Path.{_≡_, refl, ap, sym, _∙_, subst}
 use native.Mathlib.Decide.{decLe}
 use native.Mathlib.Omega.{arith}
 use borrow.Author.Tests.{leb-false, le-leb, lt-leb, lt-ltb, le-ltb}
 use lib.Dec.{leb, ltb}
 use Rattle.image.specs.Choice.{if_then_else_}
-use Rattle.image.specs.Memory.{ofImage}
+use Rattle.image.specs.Memory.{Memory}
 use Rattle.image.specs.Rules.{Rules, run}
 use Rattle.registers.specs.Admission.{Admitted, refusal, pass, take, admission, inInterruptRange}
 use Rattle.registers.specs.Registers.{registersBad}
@@ -66,7 +65,7 @@ module _ (frame span : ℕ) where
 pub whole-frame-tested : WholeFrameTested
 whole-frame-tested frame span some = record { clear = clear frame span; untouched = untouched frame span some }
 
-module _ (registers : Registers) (request : MemoryRequest) (image : List ℕ) (host : ℕ) where
+module _ (registers : Registers) (request : MemoryRequest) (m : Memory) (host : ℕ) where
   abbrev rules : Rules Translation
   rules = translationRules registers (request .address) (request .write) (request .source .id)
 
@@ -92,19 +91,19 @@ module _ (registers : Registers) (request : MemoryRequest) (image : List ℕ) (h
   translated free (fault reason fpd) was = let z : _≡_ {A = ℕ} 0 1 = cc in absurd (omega arith)
 
   admitted : (k : Admitted) → k ≡ admission registers (inInterruptRange (request .address)) (registers .te)
-      → answerOver registers request image ≡ granted host → inInterruptRange host ≡ false
+      → answerOver registers request m ≡ granted host → inInterruptRange host ≡ false
   admitted (refusal n) h was =
-      let no : refused n ≡ granted host = refuses registers request (ofImage image) refl h ∙ was in
+      let no : refused n ≡ granted host = refuses registers request m refl h ∙ was in
       let z : _≡_ {A = ℕ} 0 1 = cc in
       absurd (omega arith)
   admitted pass h was =
-      let is : granted (request .address) ≡ granted host = passes registers request (ofImage image) refl h ∙ was in
+      let is : granted (request .address) ≡ granted host = passes registers request m refl h ∙ was in
       let same : host ≡ request .address = cc in
       rw same (admitted-outside (λ n other. let z : _≡_ {A = ℕ} 0 1 = cc in omega arith))
   admitted take h was =
-      translated (admitted-outside (λ n other. let z : _≡_ {A = ℕ} 0 1 = cc in omega arith)) (run rules (ofImage image))
-      (takes registers request (ofImage image) refl h ∙ was)
+      translated (admitted-outside (λ n other. let z : _≡_ {A = ℕ} 0 1 = cc in omega arith)) (run rules m)
+      (takes registers request m refl h ∙ was)
 
 pub no-interrupt-granted : NoInterruptGranted
-no-interrupt-granted registers request image host =
-    admitted registers request image host (admission registers (inInterruptRange (request .address)) (registers .te)) refl
+no-interrupt-granted registers request m host =
+    admitted registers request m host (admission registers (inInterruptRange (request .address)) (registers .te)) refl

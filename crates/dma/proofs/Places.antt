@@ -2,7 +2,6 @@
 use Prim.Native.Nat.{ℕ}
 use mathlib.Core.Path.{_≡_, sym, _∙_, subst}
 use native.Mathlib.Omega.{arith}
-use Rattle.image.specs.Memory.{ofImage}
 use Rattle.image.specs.Place.{Place, noEntry, entryAt, stoppedAt}
 use Rattle.image.specs.Rules.{Rules, run, mapRules}
 use Rattle.image.proofs.Places.{Some, some-fetch, tried-map}
@@ -16,7 +15,7 @@ use Rattle.dma.specs.declared.MemoryRequest.{MemoryRequest}
 
 pub always-an-entry : AlwaysAnEntry
 unfolding memoryRules run rootRules
-always-an-entry registers request image f ended none = on (admission registers (inInterruptRange (request .address)) (registers .te)) ended none
+always-an-entry registers request m f ended none = on (admission registers (inInterruptRange (request .address)) (registers .te)) ended none
   where
     rules : Rules Translation
     rules = translationRules registers (request .address) (request .write) (request .source .id)
@@ -24,11 +23,11 @@ always-an-entry registers request image f ended none = on (admission registers (
     tree : Admitted → Rules MemoryOutcome
     tree a = onAdmission a refused (granted (request .address)) (mapRules (memoryOutcome request) rules)
 
-    on : (a : Admitted) → run (tree a) (ofImage image) ≡ blocked f
-        → concerned (run (tree a) (ofImage image)) (stoppedAt (tree a) (ofImage image)) ≡ noEntry → ⊥
+    on : (a : Admitted) → run (tree a) m ≡ blocked f
+        → concerned (run (tree a) m) (stoppedAt (tree a) m) ≡ noEntry → ⊥
     on (refusal n) ended none = let z : _≡_ {A = ℕ} 0 1 = cc in omega arith
     on pass ended none = let z : _≡_ {A = ℕ} 0 1 = cc in omega arith
     on take ended none =
-        let there : stoppedAt (tree take) (ofImage image) ≡ noEntry = rw ended at none in
-        subst Some (sym (tried-map (memoryOutcome request) noEntry rules (ofImage image)) ∙ there)
-        (some-fetch _ _ _ _ (ofImage image))
+        let there : stoppedAt (tree take) m ≡ noEntry = rw ended at none in
+        subst Some (sym (tried-map (memoryOutcome request) noEntry rules m) ∙ there)
+        (some-fetch _ _ _ _ m)

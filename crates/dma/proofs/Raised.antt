@@ -12,18 +12,17 @@ use Rattle.image.specs.Choice.{if_then_else_}
 use Rattle.image.specs.Memory.{Memory, Fetched, entry}
 use Rattle.image.specs.Rules.{run}
 use Rattle.registers.specs.declared.Registers.{Registers}
+use Rattle.dma.specs.Isolation.{SwitchedEntry, BothFetched}
 use Rattle.dma.specs.Page.{denied, ownRight, leafAt, pageReserved, pageCheck}
 use Rattle.dma.specs.Translation.{Translation, through, leaf, fault, pageStep, pageRules}
 use Rattle.dma.specs.Walk.{Step, done, down}
 use Rattle.dma.proofs.Steps.{past, page-frame}
 use Rattle.dma.proofs.Stepped.{leads-aligned}
-use Rattle.dma.proofs.Walks.{BothFetched, KeptStep, kept-walk}
+use Rattle.dma.proofs.Walks.{KeptStep, kept-walk}
 
 -- the same entry with rights switched on
-pub record Raised (e e′ : ℕ) : Type 0 where
-  pub other-bits : e′ / 4 ≡ e / 4
-  pub read : bits e 0 0 ≤ bits e′ 0 0
-  pub write : bits e 1 1 ≤ bits e′ 1 1
+abbrev pub Raised : ℕ → ℕ → Type 0
+Raised = SwitchedEntry (λ before after. before ≤ after)
 
 -- what is fetched with rights switched on: nothing where there was nothing
 abbrev pub RaisedFetch : Fetched → Fetched → Type 0
@@ -92,7 +91,7 @@ module _ (registers : Registers) (haw : 2 ≤ registers .haw) (address : ℕ) (w
       on (go frame) told =
           rw (raised-check registers haw up write level frame told, same-leaf registers haw up level) (by-leaf (leafAt level e) frame)
 
-  pub raised-walk : (m m′ : Memory) → ((a : ℕ) → a % 8 ≡ 0 → RaisedFetch (entry 1 m a) (entry 1 m′ a))
+  pub raised-walk : (m m′ : Memory) → ((a : ℕ) → a % 8 ≡ 0 → RaisedFetch (m a) (m′ a))
       → (level table : ℕ) (t : Translation) → Reaches t → table % 8 ≡ 0
       → run (pageRules registers address write fpd level table) m ≡ t
       → run (pageRules registers address write fpd level table) m′ ≡ t

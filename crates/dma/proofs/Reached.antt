@@ -4,7 +4,6 @@ use mathlib.Core.Bool.{Bool, true, false, not, _&&_}
 use mathlib.Core.Path.{_≡_, refl, ap, sym, _∙_, subst}
 use mathlib.Core.List.{List, [], _∷_, _++_, List·Memᴰ, List·Memᴰ·not-nil, List·Memᴰ·cases-cons}
 use mathlib.Core.Logic.{_⊎_, inl, inr, ⊎-elim}
-use native.Mathlib.Decide.{decLe}
 use native.Mathlib.Omega.{arith}
 use borrow.Author.Tests.{le-leb, eqb-true, ne-eqb, not-false}
 use lib.Dec.{eqb, leb}
@@ -13,21 +12,21 @@ use Rattle.image.specs.Bits.{bit, bits, anySet, inPlace}
 use Rattle.image.specs.Check.{Check, stop, go, onCheck}
 use Rattle.image.specs.Choice.{if_then_else_}
 use Rattle.image.specs.EntryKind.{EntryKind, isPage}
-use Rattle.image.specs.Memory.{Memory, Fetched, missing, found, wordAt, ofImage, entry, onFetch}
+use Rattle.image.specs.Memory.{Memory, Fetched, missing, found, entry, onFetch}
 use Rattle.image.specs.Rules.{Rules, answer, fetch, run, entriesOf}
 use Rattle.image.proofs.Forks.{every-run}
+use Rattle.image.proofs.Same.{one-word}
 use Rattle.image.proofs.Trees.{entries-map}
-use Rattle.image.proofs.Words.{word-inside, whole-entry}
 use Rattle.registers.specs.Admission.{Admitted, refusal, pass, take, admission, inInterruptRange}
 use Rattle.registers.specs.Registers.{registersBad}
 use Rattle.registers.specs.Source.{busOf, devfnOf}
 use Rattle.registers.specs.declared.Registers.{Registers}
 use Rattle.dma.specs.Context.{contextCheck, faultProcessingDisabled}
-use Rattle.dma.specs.Isolation.{answerOver, walkedOver}
+use Rattle.dma.specs.Isolation.{answerOver}
 use Rattle.dma.specs.Lookup.{Lookup, context, noContext, onLookup, contextRules, rootRules, lookupRules}
 use Rattle.dma.specs.Page.{denied, ownRight, leafAt, pageReserved, pageCheck, hostAddress}
 use Rattle.dma.specs.Reached.{Path, frameOf, Reached, PassesThrough, Unchanged, GrantedByOwnWalk}
-use Rattle.dma.specs.Requests.{MemoryOutcome, granted, blocked, refused, memoryOutcome, memoryRules}
+use Rattle.dma.specs.Requests.{MemoryOutcome, granted, blocked, refused, memoryOutcome, memoryRules, walked}
 use Rattle.dma.specs.Root.{rootCheck}
 use Rattle.dma.specs.Translation.{Translation, through, leaf, fault, pageStep, pageRules, widthRules, translationRules}
 use Rattle.dma.specs.Walk.{Step, done, down, onStep, placeIn, walkRules}
@@ -51,8 +50,8 @@ passed-right registers write level e frame h =
     not-false (ownRight write e) (h3 .0)
 
 -- a path to the page with this frame, whose leaf is of this level
-record Leads (request : MemoryRequest) (image entries : List ℕ) (top frame k : ℕ) : Type 0 where
-  path : Path request image entries top
+record Leads (request : MemoryRequest) (m : Memory) (entries : List ℕ) (top frame k : ℕ) : Type 0 where
+  path : Path request m entries top
   at-level : path .level ≡ k
   framed : frame ≡ frameOf path
 
@@ -97,16 +96,10 @@ module _ {A : Type 0} (registers : Registers) (faulted : (reason : ℕ) (fpd : B
       at-root missing = refl
       at-root (found e) = passed (rootCheck (registers .haw) e)
 
-module _ (registers : Registers) (request : MemoryRequest) (image : List ℕ) where
-  abbrev m : Memory
-  m = ofImage image
-
-  -- a fetched entry is a word of the image
-  word-at : (place e : ℕ) → entry 1 m place ≡ found e → (place + 8 ≤ length image) × (e ≡ wordAt image place)
-  word-at place e h =
-      let inside : place + 8 ≤ length image = omega (arith, whole-entry image 0 place h) in
-      let there = word-inside image place inside in
-      (inside, cc)
+module _ (registers : Registers) (request : MemoryRequest) (m : Memory) where
+  -- an entry that was fetched is the word at its place
+  word-at : (place e : ℕ) → entry 1 m place ≡ found e → m place ≡ found e
+  word-at place e h = sym (one-word m place) ∙ h
 
   -- an entry that lets the request pass, in front of the path below it
   module _ (fpd : Bool) where
@@ -129,7 +122,7 @@ module _ (registers : Registers) (request : MemoryRequest) (image : List ℕ) wh
             (λ is. let z : _≡_ {A = ℕ} 0 1 = cc in omega arith, λ frame k is. let z : _≡_ {A = ℕ} 0 1 = cc in absurd (omega arith))
 
     single : (n place e frame : ℕ) → entry 1 m place ≡ found e → pageCheck registers (request .write) (suc n) e ≡ go frame → leafAt (suc n) e ≡ true
-        → Leads request image (place ∷ []) (suc n) frame (suc n)
+        → Leads request m (place ∷ []) (suc n) frame (suc n)
     single n place e frame told check page =
         let w = word-at place e told in
         let ok = passed-right registers (request .write) (suc n) e frame check in
@@ -139,19 +132,20 @@ module _ (registers : Registers) (request : MemoryRequest) (image : List ℕ) wh
                 above = [];
                 leaf = place;
                 to-leaf = refl;
+                word = e;
+                there = w;
                 level = suc n;
                 levels = omega arith;
                 page-size = (omega arith, leaf-low registers (request .write) (suc n) e frame check page);
-                is-leaf = rw (← w .1) page;
-                whole = λ at is. ⊎-elim (λ same. rw same (w .0)) (λ r. absurd (List·Memᴰ·not-nil r)) (List·Memᴰ·cases-cons is);
-                right = λ at is. ⊎-elim (λ same. rw same (rw (← w .1) ok)) (λ r. absurd (List·Memᴰ·not-nil r)) (List·Memᴰ·cases-cons is);
+                is-leaf = page;
+                right = λ at is. ⊎-elim (λ same. rw same (rw w ok)) (λ r. absurd (List·Memᴰ·not-nil r)) (List·Memᴰ·cases-cons is);
               };
           at-level = refl;
-          framed = page-frame registers (request .write) (suc n) e frame check ∙ ap (λ (x : ℕ). inPlace x 51 12) (w .1);
+          framed = page-frame registers (request .write) (suc n) e frame check;
         }
 
     longer : {entries : List ℕ} {frame k : ℕ} (n place e next : ℕ) → entry 1 m place ≡ found e → pageCheck registers (request .write) (suc n) e ≡ go next
-        → Leads request image entries n frame k → Leads request image (place ∷ entries) (suc n) frame k
+        → Leads request m entries n frame k → Leads request m (place ∷ entries) (suc n) frame k
     longer n place e next told check below =
         let w = word-at place e told in
         let ok = passed-right registers (request .write) (suc n) e next check in
@@ -162,19 +156,20 @@ module _ (registers : Registers) (request : MemoryRequest) (image : List ℕ) wh
                 above = place ∷ p .above;
                 leaf = p .leaf;
                 to-leaf = ap (λ (l : List ℕ). place ∷ l) (p .to-leaf);
+                word = p .word;
+                there = p .there;
                 level = p .level;
                 levels = omega (arith, p .levels);
                 page-size = p .page-size;
                 is-leaf = p .is-leaf;
-                whole = λ at is. ⊎-elim (λ same. rw same (w .0)) (p .whole at) (List·Memᴰ·cases-cons is);
-                right = λ at is. ⊎-elim (λ same. rw same (rw (← w .1) ok)) (p .right at) (List·Memᴰ·cases-cons is);
+                right = λ at is. ⊎-elim (λ same. rw same (rw w ok)) (p .right at) (List·Memᴰ·cases-cons is);
               };
           at-level = below .at-level;
           framed = below .framed;
         }
 
     reached-walk : (n table frame k : ℕ) → run (pageRules registers (request .address) (request .write) fpd n table) m ≡ leaf frame k
-        → Leads request image (entriesOf isPage (pageRules registers (request .address) (request .write) fpd n table) m) n frame k
+        → Leads request m (entriesOf isPage (pageRules registers (request .address) (request .write) fpd n table) m) n frame k
     unfolding run walkRules entriesOf
     reached-walk zero table frame k was = let z : _≡_ {A = ℕ} 0 1 = cc in absurd (omega arith)
     reached-walk (suc n) table frame k was = fetched (entry 1 m place) refl was (λ next. reached-walk n next frame k)
@@ -187,8 +182,8 @@ module _ (registers : Registers) (request : MemoryRequest) (image : List ℕ) wh
 
         on : (e : ℕ) → entry 1 m place ≡ found e → (x : Step (Unit {0}) Translation) → x ≡ step (suc n) place tt e → run (rest x) m ≡ leaf frame k
             → ((next : ℕ) → run (pageRules registers (request .address) (request .write) fpd n next) m ≡ leaf frame k
-            → Leads request image (entriesOf isPage (pageRules registers (request .address) (request .write) fpd n next) m) n frame k)
-            → Leads request image (place ∷ entriesOf isPage (rest x) m) (suc n) frame k
+            → Leads request m (entriesOf isPage (pageRules registers (request .address) (request .write) fpd n next) m) n frame k)
+            → Leads request m (place ∷ entriesOf isPage (rest x) m) (suc n) frame k
         on e told (done t) stepped was ih =
             let h = ends (suc n) place e t stepped .1 frame k was in
             rw (h .0) (single n place e frame told (h .1) (h .2))
@@ -197,8 +192,8 @@ module _ (registers : Registers) (request : MemoryRequest) (image : List ℕ) wh
 
         fetched : (f : Fetched) → entry 1 m place ≡ f → onFetch f (fault 0x07 fpd) (λ e. run (rest (step (suc n) place tt e)) m) ≡ leaf frame k
             → ((next : ℕ) → run (pageRules registers (request .address) (request .write) fpd n next) m ≡ leaf frame k
-            → Leads request image (entriesOf isPage (pageRules registers (request .address) (request .write) fpd n next) m) n frame k)
-            → Leads request image (onFetch f [] (λ e. place ∷ entriesOf isPage (rest (step (suc n) place tt e)) m)) (suc n) frame k
+            → Leads request m (entriesOf isPage (pageRules registers (request .address) (request .write) fpd n next) m) n frame k)
+            → Leads request m (onFetch f [] (λ e. place ∷ entriesOf isPage (rest (step (suc n) place tt e)) m)) (suc n) frame k
         fetched missing told was ih = let z : _≡_ {A = ℕ} 0 1 = cc in absurd (omega arith)
         fetched (found e) told was ih = on e told (step (suc n) place tt e) refl was ih
 
@@ -233,7 +228,7 @@ module _ (registers : Registers) (request : MemoryRequest) (image : List ℕ) wh
           was)
 
   width-leaf : (c : Context) (frame k : ℕ) → run (widthRules registers (request .address) (request .write) c) m ≡ leaf frame k
-      → Leads request image (entriesOf isPage (widthRules registers (request .address) (request .write) c) m) (c .levels) frame k
+      → Leads request m (entriesOf isPage (widthRules registers (request .address) (request .write) c) m) (c .levels) frame k
   unfolding widthRules run entriesOf
   width-leaf c frame k = by (leb (2 ^ min (registers .mgaw) (12 + 9 * c .levels)) (request .address)) (eqb (c .«translation_type») 2)
     where
@@ -241,17 +236,17 @@ module _ (registers : Registers) (request : MemoryRequest) (image : List ℕ) wh
       walk = pageRules registers (request .address) (request .write) (c .fpd) (c .levels) (c .top)
 
       by : (wide passes : Bool) → run (if wide then answer (fault 0x04 (c .fpd)) else if passes then answer through else walk) m ≡ leaf frame k
-          → Leads request image (entriesOf isPage (if wide then answer (fault 0x04 (c .fpd)) else if passes then answer through else walk) m) (c .levels) frame k
+          → Leads request m (entriesOf isPage (if wide then answer (fault 0x04 (c .fpd)) else if passes then answer through else walk) m) (c .levels) frame k
       by true passes was = let z : _≡_ {A = ℕ} 0 1 = cc in absurd (omega arith)
       by false true was = let z : _≡_ {A = ℕ} 0 1 = cc in absurd (omega arith)
       by false false was = reached-walk (c .fpd) (c .levels) (c .top) frame k was
 
   -- a host address in the page of its leaf
   reached : (c : Context) {entries : List ℕ} (frame k : ℕ) → run (lookupRules registers (request .source .id)) m ≡ context c
-      → walkedOver registers request image ≡ entries
-      → Leads request image entries (c .levels) frame k → Reached registers request image (hostAddress k frame (request .address))
-  reached c frame k own walked way =
-      let here : Leads request image (walkedOver registers request image) (c .levels) frame k = rw walked way in
+      → walked registers request m ≡ entries
+      → Leads request m entries (c .levels) frame k → Reached registers request m (hostAddress k frame (request .address))
+  reached c frame k own pages way =
+      let here : Leads request m (walked registers request m) (c .levels) frame k = rw pages way in
       let p = here .path in
       let is : hostAddress k frame (request .address) ≡ hostAddress (p .level) (frameOf p) (request .address) =
       rw (here .at-level, ← here .framed) in
@@ -264,36 +259,36 @@ module _ (registers : Registers) (request : MemoryRequest) (image : List ℕ) wh
       }
 
   abbrev Granted : ℕ → Type 0
-  Granted host = Unchanged registers request image host ⊎ Reached registers request image host
+  Granted host = Unchanged registers request m host ⊎ Reached registers request m host
 
   after-lookup : (host : ℕ) (l : Lookup) → run (lookupRules registers (request .source .id)) m ≡ l
-      → walkedOver registers request image ≡ onLookup l (λ reason fpd. []) (λ c. entriesOf isPage (widthRules registers (request .address) (request .write) c) m)
+      → walked registers request m ≡ onLookup l (λ reason fpd. []) (λ c. entriesOf isPage (widthRules registers (request .address) (request .write) c) m)
       → (t : Translation) → onLookup l fault (λ c. run (widthRules registers (request .address) (request .write) c) m) ≡ t
       → memoryOutcome request t ≡ granted host → Granted host
-  after-lookup host l own walked (fault reason fpd) is was = let z : _≡_ {A = ℕ} 0 1 = cc in absurd (omega arith)
-  after-lookup host (noContext reason fpd) own walked through is was = let z : _≡_ {A = ℕ} 0 1 = cc in absurd (omega arith)
-  after-lookup host (noContext reason fpd) own walked (leaf frame k) is was = let z : _≡_ {A = ℕ} 0 1 = cc in absurd (omega arith)
-  after-lookup host (context c) own walked through is was =
+  after-lookup host l own pages (fault reason fpd) is was = let z : _≡_ {A = ℕ} 0 1 = cc in absurd (omega arith)
+  after-lookup host (noContext reason fpd) own pages through is was = let z : _≡_ {A = ℕ} 0 1 = cc in absurd (omega arith)
+  after-lookup host (noContext reason fpd) own pages (leaf frame k) is was = let z : _≡_ {A = ℕ} 0 1 = cc in absurd (omega arith)
+  after-lookup host (context c) own pages through is was =
       let passes = width-through c is in
       inl
       (record {
-        no-walk = walked ∙ passes .0;
+        no-walk = pages ∙ passes .0;
         address = cc;
         reason = inr (record { own = c; own-context = own; type = passes .1 });
       })
-  after-lookup host (context c) own walked (leaf frame k) is was =
-      inr (rw (leaf-granted request frame k was .1) (reached c frame k own walked (width-leaf c frame k is)))
+  after-lookup host (context c) own pages (leaf frame k) is was =
+      inr (rw (leaf-granted request frame k was .1) (reached c frame k own pages (width-leaf c frame k is)))
 
   abbrev rules : Rules Translation
   rules = translationRules registers (request .address) (request .write) (request .source .id)
 
   walked-pages : take ≡ admission registers (inInterruptRange (request .address)) (registers .te)
-      → walkedOver registers request image ≡ entriesOf isPage rules m
+      → walked registers request m ≡ entriesOf isPage rules m
   unfolding memoryRules
   walked-pages taken = rw (← taken) (entries-map (memoryOutcome request) isPage rules m)
 
   -- with TE off no entry is walked
-  no-pages : pass ≡ admission registers (inInterruptRange (request .address)) (registers .te) → walkedOver registers request image ≡ []
+  no-pages : pass ≡ admission registers (inInterruptRange (request .address)) (registers .te) → walked registers request m ≡ []
   unfolding memoryRules entriesOf
   no-pages off = rw (← off)
 
@@ -308,7 +303,7 @@ module _ (registers : Registers) (request : MemoryRequest) (image : List ℕ) wh
       by false false false h = refl
 
   admitted : (host : ℕ) (k : Admitted) → k ≡ admission registers (inInterruptRange (request .address)) (registers .te)
-      → answerOver registers request image ≡ granted host → Granted host
+      → answerOver registers request m ≡ granted host → Granted host
   admitted host (refusal n) h was =
       let no : refused n ≡ granted host = refuses registers request m refl h ∙ was in
       let z : _≡_ {A = ℕ} 0 1 = cc in
@@ -323,5 +318,5 @@ module _ (registers : Registers) (request : MemoryRequest) (image : List ℕ) wh
       (run rules m) (sym (looked-up registers fault width m (request .source .id))) (takes registers request m refl h ∙ was)
 
 pub granted-by-own-walk : GrantedByOwnWalk
-granted-by-own-walk registers request image host =
-    admitted registers request image host (admission registers (inInterruptRange (request .address)) (registers .te)) refl
+granted-by-own-walk registers request m host =
+    admitted registers request m host (admission registers (inInterruptRange (request .address)) (registers .te)) refl

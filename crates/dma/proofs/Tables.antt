@@ -71,7 +71,7 @@ module _ (registers : Registers) (request : MemoryRequest) (m m′ : Memory) (sa
       at-root (found e) root = passed e root (rootCheck (registers .haw) e) refl
 
 module _ (registers : Registers) (request : MemoryRequest) (haw : 2 ≤ registers .haw) (m m′ : Memory)
-    (raised : (a : ℕ) → a % 8 ≡ 0 → RaisedFetch (entry 1 m a) (entry 1 m′ a)) (t : Translation) (good : Reaches t) where
+    (raised : (a : ℕ) → a % 8 ≡ 0 → RaisedFetch (m a) (m′ a)) (t : Translation) (good : Reaches t) where
   abbrev Kept : Rules Translation → Type 0
   Kept q = run q m ≡ t → run q m′ ≡ t
 

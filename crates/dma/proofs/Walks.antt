@@ -8,14 +8,9 @@ use Rattle.image.specs.Memory.{Memory, Fetched, missing, found, entry, onFetch}
 use Rattle.image.specs.Place.{Place, entryAt, lastTried}
 use Rattle.image.specs.Rules.{Rules, answer, fetch, run}
 use Rattle.image.proofs.Forks.{Every, every-answer, every-fetch}
+use Rattle.image.proofs.Same.{one-word}
+use Rattle.dma.specs.Isolation.{BothFetched}
 use Rattle.dma.specs.Walk.{Step, done, down, onStep, placeIn, walkRules, stepOver}
-
--- two fetches find nothing, or two entries so related
-abbrev pub BothFetched : (ℕ → ℕ → Type 0) → Fetched → Fetched → Type 0
-BothFetched R missing missing = Unit {0}
-BothFetched R missing (found e′) = ⊥
-BothFetched R (found e) missing = ⊥
-BothFetched R (found e) (found e′) = R e e′
 
 -- what a step makes of an entry, it makes of another too: always where it leads on, and where it ends with a good answer
 abbrev pub KeptStep : {S A : Type 0} → (A → Type 0) → Step S A → Step S A → Type 0
@@ -100,14 +95,16 @@ module _ {S A : Type 0} (address : ℕ) (none : S → A) (step : (level place : 
     -- over two memories whose words are so related that a step keeps what it made of them, a good answer is kept
     module _ (Good : A → Type 0) (R : ℕ → ℕ → Type 0)
         (kept : (level place : ℕ) (s : S) (e e′ : ℕ) → R e e′ → KeptStep Good (step level place s e) (step level place s e′))
-        (m m′ : Memory) (related : (a : ℕ) → a % 8 ≡ 0 → BothFetched R (entry 1 m a) (entry 1 m′ a)) where
+        (m m′ : Memory) (related : (a : ℕ) → a % 8 ≡ 0 → BothFetched R (m a) (m′ a)) where
       pub kept-walk : (level table : ℕ) (s : S) (a : A) → Good a → table % 8 ≡ 0
           → run (walkRules address none step level table s) m ≡ a → run (walkRules address none step level table s) m′ ≡ a
       unfolding run walkRules
       kept-walk zero table s a good h was = was
       kept-walk (suc n) table s a good h was =
-          go (entry 1 m (placeIn address table n)) (entry 1 m′ (placeIn address table n)) (related (placeIn address table n) (omega arith)) was
-          (λ next t. kept-walk n next t a good)
+          rw (one-word m′ (placeIn address table n))
+          (go (m (placeIn address table n)) (m′ (placeIn address table n)) (related (placeIn address table n) (omega arith))
+          (rw (one-word m (placeIn address table n)) at was)
+          (λ next t. kept-walk n next t a good))
         where
           rest : Memory → Step S A → A
           rest m x = run (onStep x answer (walkRules address none step n)) m

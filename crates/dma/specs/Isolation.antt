@@ -1,30 +1,24 @@
 -- The customer's demand 3 for memory requests: the statements. Their proofs are in proofs/. Each speaks of a whole request,
--- from registers to answer, for any registers, any image and any request.
-use Prim.Native.Nat.{ℕ, _+_, _≤_, _<_, _/_}
+-- from registers to answer, for any registers, any memory by host address and any request.
+use Prim.Native.Nat.{ℕ, _+_, _≤_, _<_, _/_, _%_}
 use mathlib.Core.Bool.{Bool, true, false, _||_}
 use mathlib.Core.Path.{_≡_}
 use mathlib.Core.List.{List, [], _∷_, _++_, List·Memᴰ}
 use mathlib.Core.Logic.{_⊎_}
 use lib.Dec.{eqb}
-use lib.ListN.{length, getD}
-use Rattle.image.specs.Alike.{SameWords}
 use Rattle.image.specs.Bits.{bits}
-use Rattle.image.specs.Memory.{ofImage}
-use Rattle.image.specs.Place.{Place, noEntry}
-use Rattle.image.specs.Rules.{run, named}
-use Rattle.image.specs.Unfetched.{Unfetched}
+use Rattle.image.specs.Memory.{Memory, Fetched, missing, found}
+use Rattle.image.specs.Place.{noEntry}
+use Rattle.image.specs.Rules.{run, named, SameIn}
+use Rattle.image.specs.Unfetched.{EndsUnfetched}
 use Rattle.registers.specs.declared.Registers.{Registers}
 use Rattle.faults.specs.Record.{FaultAnswer}
 use Rattle.dma.specs.Requests.{MemoryOutcome, granted, blocked, refused, memoryRules, memoryPlace, walked, tableEntries}
 use Rattle.dma.specs.declared.MemoryRequest.{MemoryRequest}
 
--- the answer that document 01's rules give over an image
-abbrev pub answerOver : Registers → MemoryRequest → List ℕ → MemoryOutcome
-answerOver registers request image = run (memoryRules registers request) (ofImage image)
-
--- the entry concerned in it
-abbrev pub placeOver : Registers → MemoryRequest → List ℕ → Place
-placeOver registers request image = memoryPlace registers request (ofImage image)
+-- the answer that document 01's rules give over a memory
+abbrev pub answerOver : Registers → MemoryRequest → Memory → MemoryOutcome
+answerOver registers request = run (memoryRules registers request)
 
 -- 07h, 08h and 09h
 abbrev pub accessReason : (reason : ℕ) → Bool
@@ -35,34 +29,30 @@ accessFault (granted address) = false
 accessFault (blocked fault) = accessReason (fault .reason)
 accessFault (refused number) = false
 
--- 1. Over a second image alike in the words that a request names, the same request under the same registers gets the same
--- answer, the entry concerned among its parts, whatever else that image holds and however long it is, unless it ended in an access fault.
+-- 1. Over a second memory alike in the words that a request names, the same request under the same registers gets the same
+-- answer, the entry concerned among its parts, whatever else that memory holds, unless it ended in an access fault.
 abbrev pub Locality : Type 0
 Locality =
-    (registers : Registers) (request : MemoryRequest) (image image′ : List ℕ)
-    → accessFault (answerOver registers request image) ≡ false
-    → SameWords image image′ (named (memoryRules registers request) (ofImage image))
-    → (answerOver registers request image′ ≡ answerOver registers request image)
-    × (placeOver registers request image′ ≡ placeOver registers request image)
+    (registers : Registers) (request : MemoryRequest) (m m′ : Memory)
+    → accessFault (answerOver registers request m) ≡ false
+    → SameIn (named (memoryRules registers request) m) m m′
+    → (answerOver registers request m′ ≡ answerOver registers request m)
+    × (memoryPlace registers request m′ ≡ memoryPlace registers request m)
 
 -- A blocked memory request always has an entry concerned: its root entry was tried, if no other.
 abbrev pub AlwaysAnEntry : Type 0
 AlwaysAnEntry =
-    (registers : Registers) (request : MemoryRequest) (image : List ℕ) (f : FaultAnswer)
-    → answerOver registers request image ≡ blocked f
-    → placeOver registers request image ≡ noEntry → ⊥
+    (registers : Registers) (request : MemoryRequest) (m : Memory) (f : FaultAnswer)
+    → answerOver registers request m ≡ blocked f
+    → memoryPlace registers request m ≡ noEntry → ⊥
 
--- The exception is no wider than the demand's words: an access fault means an entry that couldn't be fetched, of which a byte lies
--- outside the image.
+-- The exception is no wider than the demand's words: an access fault means an entry that couldn't be fetched, which isn't whole in
+-- the memory.
 abbrev pub AccessMeansUnfetched : Type 0
 AccessMeansUnfetched =
-    (registers : Registers) (request : MemoryRequest) (image : List ℕ)
-    → accessFault (answerOver registers request image) ≡ true
-    → Unfetched (memoryRules registers request) image
-
--- The page entries that a request walked, one that faults included.
-abbrev pub walkedOver : Registers → MemoryRequest → List ℕ → List ℕ
-walkedOver registers request image = walked registers request (ofImage image)
+    (registers : Registers) (request : MemoryRequest) (m : Memory)
+    → accessFault (answerOver registers request m) ≡ true
+    → EndsUnfetched (memoryRules registers request) m
 
 -- An entry of 8 bytes shares no byte with one of 16.
 abbrev pub Disjoint : (page table : ℕ) → Type 0
@@ -75,33 +65,43 @@ Unshared =
     → ((n : ℕ) → page ≤ n → n < page + 8 → table ≤ n → n < table + 16 → ⊥)
     → Disjoint page table
 
--- The page entries that any number of requests, the walkers, walked, taken together: one walker is a list of one.
-unfoldable pub walkedByAny : Registers → (walkers : List MemoryRequest) → List ℕ → List ℕ
-walkedByAny registers [] image = []
-walkedByAny registers (walker ∷ walkers) image = walkedOver registers walker image ++ walkedByAny registers walkers image
+-- The page entries that any number of requests, the walkers, walked, taken together: one walker is a list of one. One that faults is
+-- included.
+unfoldable pub walkedByAny : Registers → (walkers : List MemoryRequest) → Memory → List ℕ
+walkedByAny registers [] m = []
+walkedByAny registers (walker ∷ walkers) m = walked registers walker m ++ walkedByAny registers walkers m
 
 -- No entry that a walker walked shares a byte with the request's root or context entry.
-abbrev pub Apart : Registers → (walkers : List MemoryRequest) (request : MemoryRequest) → List ℕ → Type 0
-Apart registers walkers request image =
+abbrev pub Apart : Registers → (walkers : List MemoryRequest) (request : MemoryRequest) → Memory → Type 0
+Apart registers walkers request m =
     (page table : ℕ)
-    → List·Memᴰ page (walkedByAny registers walkers image)
-    → List·Memᴰ table (tableEntries registers request (ofImage image))
+    → List·Memᴰ page (walkedByAny registers walkers m)
+    → List·Memᴰ table (tableEntries registers request m)
     → Disjoint page table
 
--- image′ is image with some of these entries switched, in any of their bits 0 (read) and 1 (write), and nothing else changed. An entry's
--- bits 7:0 are the byte at its address; turned a b says how one of the two bits may go from a to b.
-pub record Switched (turned : ℕ → ℕ → Type 0) (entries image image′ : List ℕ) : Type 0 where
-  pub same-length : length image′ ≡ length image
-  pub elsewhere : (n : ℕ) → (List·Memᴰ n entries → ⊥) → getD image′ n 0 ≡ getD image n 0
-  pub other-bits : (n : ℕ) → getD image′ n 0 / 4 ≡ getD image n 0 / 4
-  pub read : (n : ℕ) → turned (bits (getD image n 0) 0 0) (bits (getD image′ n 0) 0 0)
-  pub write : (n : ℕ) → turned (bits (getD image n 0) 1 1) (bits (getD image′ n 0) 1 1)
+-- A page entry switched in any of its bits 0 (read) and 1 (write); turned a b says how one of the two may go from a to b.
+pub record SwitchedEntry (turned : ℕ → ℕ → Type 0) (e e′ : ℕ) : Type 0 where
+  pub other-bits : e′ / 4 ≡ e / 4
+  pub read : turned (bits e 0 0) (bits e′ 0 0)
+  pub write : turned (bits e 1 1) (bits e′ 1 1)
+
+-- two fetches find nothing, or two entries so related
+abbrev pub BothFetched : (ℕ → ℕ → Type 0) → Fetched → Fetched → Type 0
+BothFetched R missing missing = Unit {0}
+BothFetched R missing (found e′) = ⊥
+BothFetched R (found e) missing = ⊥
+BothFetched R (found e) (found e′) = R e e′
+
+-- m′ is m with some of these entries switched, and no other word changed. All words that requests read are at multiples of 8.
+pub record Switched (turned : ℕ → ℕ → Type 0) (entries : List ℕ) (m m′ : Memory) : Type 0 where
+  pub elsewhere : (n : ℕ) → n % 8 ≡ 0 → (List·Memᴰ n entries → ⊥) → m′ n ≡ m n
+  pub switched : (n : ℕ) → List·Memᴰ n entries → BothFetched (SwitchedEntry turned) (m n) (m′ n)
 
 -- switched only on, or only off
-abbrev pub SwitchedOn : (entries image image′ : List ℕ) → Type 0
+abbrev pub SwitchedOn : (entries : List ℕ) (m m′ : Memory) → Type 0
 SwitchedOn = Switched (λ before after. before ≤ after)
 
-abbrev pub SwitchedOff : (entries image image′ : List ℕ) → Type 0
+abbrev pub SwitchedOff : (entries : List ℕ) (m m′ : Memory) → Type 0
 SwitchedOff = Switched (λ before after. after ≤ before)
 
 -- 2. Whichever of the entries that any memory requests, the walkers, walked have read, write or both switched on, a granted request
@@ -109,18 +109,18 @@ SwitchedOff = Switched (λ before after. after ≤ before)
 -- access fault too, or refused.
 abbrev pub RightsOn : Type 0
 RightsOn =
-    (registers : Registers) (walkers : List MemoryRequest) (request : MemoryRequest) (image image′ : List ℕ)
-    → Apart registers walkers request image
-    → SwitchedOn (walkedByAny registers walkers image) image image′
-    → (address : ℕ) → answerOver registers request image ≡ granted address
-    → answerOver registers request image′ ≡ granted address
+    (registers : Registers) (walkers : List MemoryRequest) (request : MemoryRequest) (m m′ : Memory)
+    → Apart registers walkers request m
+    → SwitchedOn (walkedByAny registers walkers m) m m′
+    → (address : ℕ) → answerOver registers request m ≡ granted address
+    → answerOver registers request m′ ≡ granted address
 
 -- 3. Whichever of them have either or both switched off, a request that was blocked or refused isn't granted.
 abbrev pub RightsOff : Type 0
 RightsOff =
-    (registers : Registers) (walkers : List MemoryRequest) (request : MemoryRequest) (image image′ : List ℕ)
-    → Apart registers walkers request image
-    → SwitchedOff (walkedByAny registers walkers image) image image′
-    → ((address : ℕ) → answerOver registers request image ≡ granted address → ⊥)
-    → (address : ℕ) → answerOver registers request image′ ≡ granted address
+    (registers : Registers) (walkers : List MemoryRequest) (request : MemoryRequest) (m m′ : Memory)
+    → Apart registers walkers request m
+    → SwitchedOff (walkedByAny registers walkers m) m m′
+    → ((address : ℕ) → answerOver registers request m ≡ granted address → ⊥)
+    → (address : ℕ) → answerOver registers request m′ ≡ granted address
     → ⊥

@@ -1,8 +1,8 @@
 -- A device's memory request never raises an interrupt. Proved in proofs/NoInterrupt.antt.
 use Prim.Native.Nat.{ℕ, _+_, _≤_, _<_}
 use mathlib.Core.Bool.{false}
-use mathlib.Core.List.{List}
 use mathlib.Core.Path.{_≡_}
+use Rattle.image.specs.Memory.{Memory}
 use Rattle.registers.specs.Admission.{inInterruptRange}
 use Rattle.registers.specs.declared.Registers.{Registers}
 use Rattle.dma.specs.InterruptRange.{meetsInterruptRange}
@@ -13,8 +13,8 @@ use Rattle.dma.specs.declared.MemoryRequest.{MemoryRequest}
 -- no granted host address lies in the interrupt range: by a walk, by pass-through or with TE off
 abbrev pub NoInterruptGranted : Type 0
 NoInterruptGranted =
-    (registers : Registers) (request : MemoryRequest) (image : List ℕ) (host : ℕ)
-    → answerOver registers request image ≡ granted host
+    (registers : Registers) (request : MemoryRequest) (m : Memory) (host : ℕ)
+    → answerOver registers request m ≡ granted host
     → inInterruptRange host ≡ false
 
 -- every byte of a page lies outside the range

@@ -1,15 +1,44 @@
--- More memory: an image with any bytes behind it is alike in every word that a request names over the image itself.
-use Prim.Native.Nat.{ℕ, zero, suc, _+_, _*_, _≤_}
+-- More memory: what a request names over a memory is the same in one that has all its words and more.
+use Prim.Native.Nat.{ℕ, zero, suc, _+_, _-_, _*_, _%_, _≤_}
 use mathlib.Core.Path.{_≡_, refl, sym, _∙_, ap}
 use mathlib.Core.List.{List, [], _∷_, _++_}
 use native.Mathlib.Omega.{arith}
 use lib.ListN.{length, take, drop, length-append, length-drop}
 use lib.Seq.{take-append-le, drop-append-le}
-use Rattle.image.specs.Alike.{SameWord, SameWords}
+use Rattle.image.specs.Alike.{SameWord, SameWords, Extends}
 use Rattle.image.specs.EntryKind.{EntryKind, wordsOf}
-use Rattle.image.specs.Memory.{Fetched, missing, found, onFetch, ofImage, entry}
-use Rattle.image.specs.Rules.{Rules, answer, fetch, wordsFrom, named}
+use Rattle.image.specs.Memory.{Memory, Fetched, missing, found, join, onFetch, ofImage, entry}
+use Rattle.image.specs.Rules.{Rules, answer, fetch, wordsFrom, named, SameIn}
+use Rattle.image.proofs.Forks.{Every}
 use Rattle.image.proofs.Words.{whole-entry}
+
+module _ (m m′ : Memory) (extends : Extends m m′) where
+  -- the words of a fetched entry
+  entry-kept : (n at : ℕ) (rest : List ℕ) {e : ℕ} → at % 8 ≡ 0 → entry n m at ≡ found e → SameIn rest m m′ → SameIn (wordsFrom n at ++ rest) m m′
+  unfolding SameIn wordsFrom entry
+  entry-kept zero at rest aligned there same = same
+  entry-kept (suc n) at rest {e} aligned there same =
+      by (m at) (entry n m (at + 8)) refl refl there (λ x others. entry-kept n (at + 8) rest {e = x} (omega arith) others same)
+    where
+      by : (f g : Fetched) → m at ≡ f → entry n m (at + 8) ≡ g → join f g ≡ found e
+          → ((x : ℕ) → entry n m (at + 8) ≡ found x → SameIn (wordsFrom n (at + 8) ++ rest) m m′)
+          → SameIn (at ∷ wordsFrom n (at + 8) ++ rest) m m′
+      by missing g first others there ih = let z : _≡_ {A = ℕ} 0 1 = cc in absurd (omega arith)
+      by (found w) missing first others there ih = let z : _≡_ {A = ℕ} 0 1 = cc in absurd (omega arith)
+      by (found w) (found x) first others there ih = (first ∙ sym (extends at w aligned first), ih x others)
+
+  -- of rules that read at multiples of 8
+  pub extended : {A : Type 0} (Fork : EntryKind → ℕ → A → Type 0) (Ends : A → Type 0) → ((kind : EntryKind) (at : ℕ) (a : A) → Fork kind at a → at % 8 ≡ 0)
+      → (most : ℕ) (q : Rules A) → Every Fork Ends most q → SameIn (named q m) m m′
+  unfolding Every SameIn named
+  extended Fork Ends aligned most (answer a) is = tt
+  extended Fork Ends aligned most (fetch kind at outside next) is =
+      by (entry (wordsOf kind) m at) refl (λ e. extended Fork Ends aligned (most - wordsOf kind) (next e) (is .2 e))
+    where
+      by : (f : Fetched) → entry (wordsOf kind) m at ≡ f → ((e : ℕ) → SameIn (named (next e) m) m m′)
+          → SameIn (onFetch f [] (λ e. wordsFrom (wordsOf kind) at ++ named (next e) m)) m m′
+      by missing told ih = tt
+      by (found e) told ih = entry-kept (wordsOf kind) at (named (next e) m) (aligned kind at outside (is .1)) told (ih e)
 
 module _ (image more : List ℕ) where
   word-kept : (at : ℕ) → at + 8 ≤ length image → SameWord image (image ++ more) at

@@ -1,14 +1,24 @@
--- Two images of one length: an entry whose bytes are the same in both is the same.
+-- Entries that are the same: one of one word, and one whose bytes are the same in two images of one length.
 use Prim.Native.Nat.{ℕ, zero, suc, _+_, _*_, _≤_, _<_}
 use mathlib.Core.Path.{_≡_, refl, ap, sym, _∙_}
 use mathlib.Core.List.{List, [], _∷_}
+use native.Mathlib.Nat.{mul-zero, add-zero}
 use native.Mathlib.Omega.{arith}
 use native.Mathlib.Decide.{decLe}
 use borrow.Author.Tests.{le-leb, lt-leb}
 use lib.ListN.{length, getD}
 use Rattle.image.specs.Bytes.{littleEndian}
-use Rattle.image.specs.Memory.{missing, found, wordAt, ofImage, entry}
+use Rattle.image.specs.Memory.{Memory, Fetched, missing, found, join, wordAt, ofImage, entry}
 use Rattle.image.proofs.Words.{bytesFrom, part, outside}
+
+-- an entry of one word is that word
+pub one-word : (m : Memory) (at : ℕ) → entry 1 m at ≡ m at
+unfolding entry
+one-word m at = by (m at)
+  where
+    by : (f : Fetched) → join f (found 0) ≡ f
+    by missing = refl
+    by (found w) = simp (mul-zero, add-zero)
 
 module _ (image image′ : List ℕ) (same-length : length image′ ≡ length image) where
   pub same-bytes : (n at : ℕ) → ((k : ℕ) → at ≤ k → k < at + n → getD image′ k 0 ≡ getD image k 0)

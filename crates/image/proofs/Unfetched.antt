@@ -6,9 +6,9 @@ use native.Mathlib.Decide.{decLe}
 use native.Mathlib.Omega.{arith}
 use lib.ListN.{length}
 use Rattle.image.specs.EntryKind.{EntryKind, wordsOf}
-use Rattle.image.specs.Memory.{Fetched, missing, found, onFetch, ofImage, entry}
+use Rattle.image.specs.Memory.{Memory, Fetched, missing, found, onFetch, ofImage, entry}
 use Rattle.image.specs.Rules.{Rules, answer, fetch, run, mapRules}
-use Rattle.image.specs.Unfetched.{Unfetched, unfetched}
+use Rattle.image.specs.Unfetched.{Unfetched, EndsUnfetched, unfetched}
 use Rattle.image.proofs.Forks.{Every}
 use Rattle.image.proofs.Words.{inside}
 
@@ -39,18 +39,21 @@ past-end image words at h = go (decLe (at + 8 * words) (length image))
         absurd (omega arith)
     go (no out) = omega arith
 
-pub ended-outside : {A : Type 0} (Kind : A → Type 0) (image : List ℕ) (q : Rules A)
-    → Inside Kind q → Kind (run q (ofImage image)) → Unfetched q image
+pub ends-unfetched : {A : Type 0} (Kind : A → Type 0) (m : Memory) (q : Rules A) → Inside Kind q → Kind (run q m) → EndsUnfetched q m
 unfolding Inside run unfetched
-ended-outside Kind image (answer a) h is = absurd (h is)
-ended-outside {A} Kind image (fetch kind at outside next) h is =
-    go (entry (wordsOf kind) (ofImage image) at) refl is (λ e. ended-outside Kind image (next e) (h e))
+ends-unfetched Kind m (answer a) h is = absurd (h is)
+ends-unfetched {A} Kind m (fetch kind at outside next) h is =
+    go (entry (wordsOf kind) m at) refl is (λ e. ends-unfetched Kind m (next e) (h e))
   where
-    go : (f : Fetched) → entry (wordsOf kind) (ofImage image) at ≡ f → Kind (onFetch f outside (λ e. run (next e) (ofImage image)))
-        → ((e : ℕ) → Kind (run (next e) (ofImage image)) → Unfetched (next e) image)
-        → Unfetched (fetch kind at outside next) image
-    go missing told is ih =
-        record { words = wordsOf kind; at = at; read = rw told; outside = past-end image (wordsOf kind) at told }
+    go : (f : Fetched) → entry (wordsOf kind) m at ≡ f → Kind (onFetch f outside (λ e. run (next e) m))
+        → ((e : ℕ) → Kind (run (next e) m) → EndsUnfetched (next e) m) → EndsUnfetched (fetch kind at outside next) m
+    go missing told is ih = record { words = wordsOf kind; at = at; read = rw told; absent = told }
     go (found e) told is ih =
         let u = ih e is in
-        record { words = u .words; at = u .at; read = rw told (u .read); outside = u .outside }
+        record { words = u .words; at = u .at; read = rw told (u .read); absent = u .absent }
+
+pub ended-outside : {A : Type 0} (Kind : A → Type 0) (image : List ℕ) (q : Rules A)
+    → Inside Kind q → Kind (run q (ofImage image)) → Unfetched q image
+ended-outside Kind image q h is =
+    let u = ends-unfetched Kind (ofImage image) q h is in
+    record { words = u .words; at = u .at; read = u .read; outside = past-end image (u .words) (u .at) (u .absent) }

@@ -4,7 +4,7 @@ use mathlib.Core.Path.{_≡_}
 use mathlib.Core.List.{List, [], _∷_}
 use lib.ListN.{length}
 use Rattle.image.specs.EntryKind.{wordsOf}
-use Rattle.image.specs.Memory.{Memory, ofImage, entry, onFetch}
+use Rattle.image.specs.Memory.{Memory, missing, ofImage, entry, onFetch}
 use Rattle.image.specs.Rules.{Rules, answer, fetch}
 
 -- the entries, each by its number of words and its address, that the rules read over a memory and couldn't fetch: none, or the one
@@ -14,7 +14,14 @@ unfetched (answer a) m = []
 unfetched (fetch kind at outside next) m =
     onFetch (entry (wordsOf kind) m at) ((wordsOf kind, at) ∷ []) (λ e. unfetched (next e) m)
 
--- the rules ended with an entry of which a byte lies outside the image
+-- the rules ended with an entry that isn't whole in the memory
+pub record EndsUnfetched {A : Type 0} (q : Rules A) (m : Memory) : Type 0 where
+  pub words : ℕ
+  pub at : ℕ
+  pub read : unfetched q m ≡ (words, at) ∷ []
+  pub absent : entry words m at ≡ missing
+
+-- the same of an image: a byte of the entry lies outside
 pub record Unfetched {A : Type 0} (q : Rules A) (image : List ℕ) : Type 0 where
   pub words : ℕ
   pub at : ℕ

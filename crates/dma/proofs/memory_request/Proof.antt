@@ -33,7 +33,9 @@ translate-requires c κs =
 answer-requires : tie.Need-answer-requires
 answer-requires c κs =
     let a = c .before .before .before .before .before .before .args in
-    rw (c .translate .ensures .0) (reachable (a .registers) (a .request) (ofImage (a .image .now)))
+    let k = c .before .before .before in
+    let taken = sym (ap admittedOf (c .before .enum-told2 .given .1)) ∙ k .admit .ensures in
+    rw (c .translate .ensures .0) (reachable (a .registers) (a .request) (ofImage (a .image .now)) (taken-root (a .registers) _ _ taken))
 
 returns : tie.Need-returns
 returns c =
