@@ -6,7 +6,7 @@ use mathlib.Core.Path.{_≡_}
 use lib.ListN.{take, set}
 use Rattle.image.specs.Alike.{SameWords}
 use Rattle.image.specs.Memory.{ofImage}
-use Rattle.image.specs.Rules.{named}
+use Rattle.image.specs.Rules.{named, SameIn}
 use Rattle.dma.specs.Isolation.{answerOver, accessFault, walkedByAny, Apart, SwitchedOn, SwitchedOff}
 use Rattle.dma.specs.Requests.{granted, memoryRules}
 use Rattle.dma.specs.declared.MemoryRequest.{MemoryRequest}
@@ -40,19 +40,19 @@ posts = interruptRequest 0x0310 0xFEE00090 0
 
 pub record PremisesMet : Type 0 where
   -- 1, memory requests: an image that ends behind the last word that the read names
-  pub memory-answered : accessFault (answerOver benchRegisters reads bench) ≡ false
-  pub memory-alike : SameWords bench (take 0x5010 bench) (named (memoryRules benchRegisters reads) (ofImage bench))
+  pub memory-answered : accessFault (answerOver benchRegisters reads (ofImage bench)) ≡ false
+  pub memory-alike : SameIn (named (memoryRules benchRegisters reads) (ofImage bench)) (ofImage bench) (ofImage (take 0x5010 bench))
   -- 1, interrupts: one that ends behind the entry; and, with a notice among the answer's parts, one that goes on behind the descriptor
   pub interrupt-answered : AccessFault (outcome benchRegisters remaps (ofImage bench)) → ⊥
   pub interrupt-alike : SameWords bench (take 0x6030 bench) (namedWords benchRegisters remaps (ofImage bench))
   pub post-answered : outcome benchRegisters posts (ofImage (take 0x6440 bench)) ≡ posted 0x6400 0x31 (notice 0xF2 7)
   pub post-alike : SameWords (take 0x6440 bench) bench (namedWords benchRegisters posts (ofImage (take 0x6440 bench)))
   -- 2: write switched on in the read's leaf and in an entry of the walker that ended in an access fault
-  pub walker-faulted : accessFault (answerOver benchRegisters beyond readable) ≡ true
-  pub on-apart : Apart benchRegisters (reads ∷ beyond ∷ []) reads readable
-  pub on-switched : SwitchedOn (walkedByAny benchRegisters (reads ∷ beyond ∷ []) readable) readable (set (set readable 0x5008 3) 0x4018 3)
-  pub on-granted : answerOver benchRegisters reads readable ≡ granted 0x12345ABC
+  pub walker-faulted : accessFault (answerOver benchRegisters beyond (ofImage readable)) ≡ true
+  pub on-apart : Apart benchRegisters (reads ∷ beyond ∷ []) reads (ofImage readable)
+  pub on-switched : SwitchedOn (walkedByAny benchRegisters (reads ∷ beyond ∷ []) (ofImage readable)) (ofImage readable) (ofImage (set (set readable 0x5008 3) 0x4018 3))
+  pub on-granted : answerOver benchRegisters reads (ofImage readable) ≡ granted 0x12345ABC
   -- 3: the rights of these two switched off; the write was blocked
-  pub off-apart : Apart benchRegisters (writes ∷ beyond ∷ []) writes bench
-  pub off-switched : SwitchedOff (walkedByAny benchRegisters (writes ∷ beyond ∷ []) bench) bench (set (set bench 0x5008 0) 0x4018 0)
-  pub off-blocked : (host : ℕ) → answerOver benchRegisters writes bench ≡ granted host → ⊥
+  pub off-apart : Apart benchRegisters (writes ∷ beyond ∷ []) writes (ofImage bench)
+  pub off-switched : SwitchedOff (walkedByAny benchRegisters (writes ∷ beyond ∷ []) (ofImage bench)) (ofImage bench) (ofImage (set (set bench 0x5008 0) 0x4018 0))
+  pub off-blocked : (host : ℕ) → answerOver benchRegisters writes (ofImage bench) ≡ granted host → ⊥
