@@ -218,3 +218,68 @@ module _ (numbers run : List ℕ) (fine : badWindows numbers (length run) ≡ fa
       page-words run (windowsOf numbers) n table offset (good numbers (length run) fine) aligned page
       ∙ by-words (suc n) (table + offset)
       ∙ sym (single n (table + offset) (omega arith))
+
+-- the part of the run from a byte to its window's end, as the code holds it
+module _ (numbers : List ℕ) (len : ℕ) (fine : badWindows numbers len ≡ false) (at : ℕ) {place size : ℕ}
+    (starts : place ≡ onSpot (spotIn (windowsOf numbers) 1 at) 0 (λ place left. place))
+    (has : size ≡ onSpot (spotIn (windowsOf numbers) 1 at) 0 (λ place left. left)) where
+  by-first : (n : ℕ) → 0 < n
+      → spotIn (windowsOf numbers) n at
+      ≡ onSpot (spotIn (windowsOf numbers) 1 at) nowhere (λ place left. if lib.Dec.leb n left then here place left else nowhere)
+  by-first n some = wider len (windowsOf numbers) n at (good numbers len fine) some
+
+  pub part-in-run : place + size ≤ len
+  part-in-run = go (spotIn (windowsOf numbers) 1 at) refl starts has
+    where
+      go : (spot : Spot) → spotIn (windowsOf numbers) 1 at ≡ spot → place ≡ onSpot spot 0 (λ place left. place)
+          → size ≡ onSpot spot 0 (λ place left. left) → place + size ≤ len
+      go nowhere h p q = omega arith
+      go (here k l) h p q =
+          let lies = spot-in len (windowsOf numbers) 1 at (good numbers len fine) h in
+          omega (arith, lies .0)
+
+  pub part-spot : (n : ℕ) → 0 < n → n ≤ size → spotIn (windowsOf numbers) n at ≡ here place size
+  part-spot n some fits = by-first n some ∙ go (spotIn (windowsOf numbers) 1 at) starts has
+    where
+      go : (spot : Spot) → place ≡ onSpot spot 0 (λ place left. place) → size ≡ onSpot spot 0 (λ place left. left)
+          → onSpot spot nowhere (λ place left. if lib.Dec.leb n left then here place left else nowhere) ≡ here place size
+      go nowhere p q = absurd (omega arith)
+      go (here k l) p q = rw (← p, ← q, borrow.Author.Tests.le-leb n size fits)
+
+  pub part-nowhere : (n : ℕ) → 0 < n → size < n → spotIn (windowsOf numbers) n at ≡ nowhere
+  part-nowhere n some short = by-first n some ∙ go (spotIn (windowsOf numbers) 1 at) starts has
+    where
+      go : (spot : Spot) → place ≡ onSpot spot 0 (λ place left. place) → size ≡ onSpot spot 0 (λ place left. left)
+          → onSpot spot nowhere (λ place left. if lib.Dec.leb n left then here place left else nowhere) ≡ nowhere
+      go nowhere p q = refl
+      go (here k l) p q = rw (← q, borrow.Author.Tests.lt-leb n size short)
+
+  pub part-place : (n : ℕ) → 0 < n → n ≤ size → place ≡ onSpot (spotIn (windowsOf numbers) n at) 0 (λ place left. place)
+  part-place n some fits = rw (part-spot n some fits)
+
+  pub part-no-place : (n : ℕ) → 0 < n → size < n → 0 ≡ onSpot (spotIn (windowsOf numbers) n at) 0 (λ place left. place)
+  part-no-place n some short = rw (part-nowhere n some short)
+
+-- a page and an entry as such a part
+module _ (numbers run : List ℕ) (fine : badWindows numbers (length run) ≡ false) (at : ℕ) {place size : ℕ}
+    (starts : place ≡ onSpot (spotIn (windowsOf numbers) 1 at) 0 (λ place left. place))
+    (has : size ≡ onSpot (spotIn (windowsOf numbers) 1 at) 0 (λ place left. left)) where
+  pub part-page : {held : ℕ} → held ≡ min 4096 size → take ((place + held) - place) (drop place run) ≡ pageIn numbers run at
+  unfolding pageIn
+  part-page {held} is = go (spotIn (windowsOf numbers) 1 at) starts has
+    where
+      go : (spot : Spot) → place ≡ onSpot spot 0 (λ place left. place) → size ≡ onSpot spot 0 (λ place left. left)
+          → take ((place + held) - place) (drop place run) ≡ onSpot spot [] (λ place left. take (min 4096 left) (drop place run))
+      go nowhere p q = let none : (place + held) - place ≡ 0 = omega arith in rw none
+      go (here k l) p q = let all : (place + held) - place ≡ min 4096 size = omega arith in rw (all, p, q)
+
+  module _ (n : ℕ) (page : at % 4096 + 8 * suc n ≤ 4096) where
+    pub part-entry : 8 * suc n ≤ size → found (littleEndian (take (8 * suc n) (drop place run))) ≡ entry (suc n) (ofWindows numbers run) at
+    unfolding entryIn
+    part-entry fits =
+        sym (single numbers run fine n at page ∙ rw (part-spot numbers (length run) fine at starts has (8 * suc n) (omega arith) fits))
+
+    pub part-missing : size < 8 * suc n → missing ≡ entry (suc n) (ofWindows numbers run) at
+    unfolding entryIn
+    part-missing short =
+        sym (single numbers run fine n at page ∙ rw (part-nowhere numbers (length run) fine at starts has (8 * suc n) (omega arith) short))

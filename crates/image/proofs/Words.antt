@@ -79,6 +79,15 @@ spell-run image (suc n) at h =
     rw (spell-run image n (at + 8) (omega arith), ← drop-drop 8 at image, more)
     (sym (run-split 8 (8 * n) (drop at image) fits))
 
+-- what was read word by word, and an entry of the image as that number
+pub read-words : (image : List ℕ) (n at : ℕ) (ws : List ℕ) → at + 8 * n ≤ length image → ws ≡ wordsIn image n at
+    → spell ws ≡ littleEndian (take (8 * n) (drop at image))
+read-words image n at ws h e = ap spell e ∙ spell-run image n at h
+
+pub whole-image : (image : List ℕ) (n at : ℕ) → at + 8 * n ≤ length image
+    → found (littleEndian (take (8 * n) (drop at image))) ≡ entry n (ofImage image) at
+whole-image image n at h = ap found (sym (spell-run image n at h)) ∙ sym (inside image n at h)
+
 pub spell-one : (w : ℕ) → spell (w ∷ []) ≡ w
 unfolding spell
 spell-one w = simp (mul-zero, add-zero)

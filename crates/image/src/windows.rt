@@ -1,13 +1,11 @@
 // Guest memory with holes (document 02, ask 9): none to four windows on the one lent run. Three numbers a window: the host address of
 // its first byte, the place of that byte in the run, and its length.
-ghost use mathlib.Core.Bool.{true, false};
 ghost use mathlib.Core.Path.{_≡_};
-ghost use Prim.Native.Nat.{_+_, _-_, _%_, _^_, _≤_, _<_};
+ghost use Prim.Native.Nat.{_+_, _%_, _≤_};
 ghost use lib.ListN.{length};
-ghost use Rattle.image.specs.Windows.{windowsOf, windowAt, endOf, holdsAll, onSpot, spotIn, badWindow, badWindows};
+ghost use Rattle.image.specs.Windows.{windowsOf, windowAt, badWindow, badWindows};
 ghost use Rattle.image.specs.WindowRow.{badPart, badNext, badRow, share, sharing, rises, rising};
 use std::num::wrapping_add_u64;
-use std::num::wrapping_sub_u64;
 
 // A window alone, but for its end in host addresses. An end in the run that isn't above the place is one of an empty part, or of one past 2^64.
 fn bad_part(windows: &[u64], i: usize, run: usize) -> bool
@@ -199,66 +197,4 @@ pub fn bad_windows(windows: &[u64], run: usize) -> bool
         return false;
     }
     any_share(windows)
-}
-
-// The part of the run from a host address's byte to the end of its window; empty where no window holds that byte.
-struct Part {
-    place: usize,
-    size: usize,
-}
-
-// One test: the difference wraps past every window's size where the window begins behind the address.
-fn holds(windows: &[u64], i: usize, at: u64) -> bool
-    requires { ⌜ (i + 3 ≤ length (now windows)) × (endOf (windowAt (now windows) i) ≤ 2 ^ 64) ⌝ }
-    ensures { λ r. ⌜ r ≡ holdsAll (windowAt (now (windows .entry)) i) 1 at ⌝ }
-{
-    wrapping_sub_u64(at, windows[i]) < windows[i + 2]
-}
-
-// Place less start depends on the window alone, so that a single sum stands between address and load.
-fn part_in(windows: &[u64], i: usize, at: u64) -> Part
-    requires { ⌜ (i + 3 ≤ length (now windows)) × (holdsAll (windowAt (now windows) i) 1 at ≡ true)
-        × (windowAt (now windows) i .place + windowAt (now windows) i .size < 2 ^ 64) ⌝ }
-    ensures { λ r. ⌜ r .place ≡ windowAt (now (windows .entry)) i .place + (at - windowAt (now (windows .entry)) i .start) ⌝ }
-    ensures { λ r. ⌜ r .size ≡ endOf (windowAt (now (windows .entry)) i) - at ⌝ }
-{
-    let start = windows[i];
-    Part {
-        place: wrapping_add_u64(at, wrapping_sub_u64(windows[i + 1], start)) as usize,
-        size: (windows[i + 2] - (at - start)) as usize,
-    }
-}
-
-// Unrolled: a loop over the windows is slower than their tests.
-fn part_from(windows: &[u64], run: usize, at: u64) -> Part
-    requires { ⌜ badWindows (now windows) run ≡ false ⌝ }
-    ensures { λ r. ⌜ r .place ≡ onSpot (spotIn (windowsOf (now (windows .entry))) 1 at) 0 (λ place left. place) ⌝ }
-    ensures { λ r. ⌜ r .size ≡ onSpot (spotIn (windowsOf (now (windows .entry))) 1 at) 0 (λ place left. left) ⌝ }
-{
-    let count = windows.len();
-    if count < 3 {
-        return Part { place: 0, size: 0 };
-    }
-    if holds(windows, 0, at) {
-        return part_in(windows, 0, at);
-    }
-    if count < 6 {
-        return Part { place: 0, size: 0 };
-    }
-    if holds(windows, 3, at) {
-        return part_in(windows, 3, at);
-    }
-    if count < 9 {
-        return Part { place: 0, size: 0 };
-    }
-    if holds(windows, 6, at) {
-        return part_in(windows, 6, at);
-    }
-    if count < 12 {
-        return Part { place: 0, size: 0 };
-    }
-    if holds(windows, 9, at) {
-        return part_in(windows, 9, at);
-    }
-    Part { place: 0, size: 0 }
 }
