@@ -14,7 +14,7 @@ use crate::entry::Check;
 use crate::root::root_check;
 use faults::Reason;
 use image::Found16;
-use image::page_entry16;
+use image::flat_page_entry16;
 use registers::Registers;
 use registers::SourceId;
 
@@ -36,7 +36,7 @@ fn context_in(image: &[u8], registers: Registers, source: SourceId, table: u64) 
 {
     let devfn = source.devfn();
     let at = table + 16 * devfn as u64;
-    let Found16::Entry(e) = page_entry16(image, at) else {
+    let Found16::Entry(e) = flat_page_entry16(image, at) else {
         return Lookup::Fault(Reason::ContextAccess, false, at);
     };
     context_check(registers, at, e)
@@ -49,7 +49,7 @@ pub(crate) fn find_context(image: &[u8], registers: Registers, source: SourceId)
 {
     let bus = source.bus();
     let at = registers.root_table + 16 * bus as u64;
-    let Found16::Entry(e) = page_entry16(image, at) else {
+    let Found16::Entry(e) = flat_page_entry16(image, at) else {
         return Lookup::Fault(Reason::RootAccess, false, at);
     };
     let check = root_check(registers.haw, at, e);

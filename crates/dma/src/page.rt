@@ -15,7 +15,7 @@ use faults::Reason;
 use image::Found8;
 use image::field;
 use image::in_place;
-use image::page_entry8;
+use image::flat_page_entry8;
 use registers::Page1G;
 use registers::Page4K;
 use registers::Registers;
@@ -108,7 +108,7 @@ pub(crate) fn page_step(
     let address = request.address;
     let index = (address >> (Page4K::SHIFT + 9 * below)) % 512;
     let at = table + 8 * index;
-    let Found8::Entry(e) = page_entry8(image, at) else {
+    let Found8::Entry(e) = flat_page_entry8(image, at) else {
         return Step::Fault(Reason::PageEntryAccess, fpd, at);
     };
     let level = below + 1;

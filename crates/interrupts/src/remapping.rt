@@ -14,8 +14,8 @@ use faults::Reason;
 use image::EntryAddress;
 use image::Found16;
 use image::Found64;
-use image::fetch16;
-use image::fetch64;
+use image::flat_fetch16;
+use image::flat_fetch64;
 use irte::Irte;
 use irte::irte_check;
 use registers::Registers;
@@ -33,7 +33,7 @@ fn follow_descriptor(
     ensures { λ r. ⌜ deliveryOf r ≡ run (descriptorRules eime urgent fpd at vector) (ofImage (now (image .entry))) ⌝ }
     ensures { λ r. ⌜ DeliveryNames r (entryAt at) ⌝ }
 {
-    let Found64::Entry(d) = fetch64(image, at) else {
+    let Found64::Entry(d) = flat_fetch64(image, at) else {
         return Delivery::Fault(Reason::DescriptorAccess, fpd, EntryAddress::At(at));
     };
     let DescriptorCheck::Valid(notice) = descriptor_check(eime, urgent, at, d) else {
@@ -61,7 +61,7 @@ pub(crate) fn follow_index(
         return Delivery::Fault(Reason::IndexOutOfRange, false, EntryAddress::NoEntry);
     }
     let at = registers.interrupt_table + 16 * index as u64;
-    let Found16::Entry(e) = fetch16(image, at) else {
+    let Found16::Entry(e) = flat_fetch16(image, at) else {
         return Delivery::Fault(Reason::IrteAccess, false, EntryAddress::At(at));
     };
     match irte_check(registers, source, at, e) {

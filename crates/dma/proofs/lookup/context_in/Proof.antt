@@ -28,8 +28,8 @@ mul-at c = search needs
 add-at : tie.Need-add-at
 add-at c = search needs
 
-page-entry16-requires : tie.Need-page-entry16-requires
-page-entry16-requires c κs = search needs
+flat-page-entry16-requires : tie.Need-flat-page-entry16-requires
+flat-page-entry16-requires c κs = search needs
 
 enum-known-e : tie.Need-enum-known-e
 enum-known-e c = search needs
@@ -37,13 +37,13 @@ enum-known-e c = search needs
 enum-told : tie.Need-enum-told
 enum-told c = search needs
 
-place : (c : tie.After-page-entry16)
-    → fetched16 (c .page-entry16 .result)
+place : (c : tie.After-flat-page-entry16)
+    → fetched16 (c .flat-page-entry16 .result)
     ≡ entry 2 (ofImage (c .before .before .before .args .image .now)) (c .before .before .before .args .table + 16 * devfnOf (c .before .before .before .args .source .id))
 place c =
     let a = c .before .before .before .args in
     rw (← c .before .devfn .ensures)
-    (placed (a .image .now) (a .table) (c .before .devfn .result) (c .before .before .before .pre) (omega arith) (c .page-entry16 .ensures .0))
+    (placed (a .image .now) (a .table) (c .before .devfn .result) (c .before .before .before .pre) (omega arith) (c .flat-page-entry16 .ensures .0))
 
 returns : tie.Need-returns
 unfolding contextRules
@@ -73,7 +73,7 @@ context-in-spec =
     cast-at
     mul-at
     add-at
-    page-entry16-requires
+    flat-page-entry16-requires
     enum-known-e
     enum-told
     returns

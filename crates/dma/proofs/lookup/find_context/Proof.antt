@@ -32,8 +32,8 @@ mul-at c = search needs
 add-at : tie.Need-add-at
 add-at c = search needs
 
-page-entry16-requires : tie.Need-page-entry16-requires
-page-entry16-requires c κs = search needs
+flat-page-entry16-requires : tie.Need-flat-page-entry16-requires
+flat-page-entry16-requires c κs = search needs
 
 enum-known-e : tie.Need-enum-known-e
 enum-known-e c = search needs
@@ -41,16 +41,16 @@ enum-known-e c = search needs
 enum-told : tie.Need-enum-told
 enum-told c = search needs
 
-place : (c : tie.After-page-entry16)
-    → fetched16 (c .page-entry16 .result)
+place : (c : tie.After-flat-page-entry16)
+    → fetched16 (c .flat-page-entry16 .result)
     ≡ entry 2 (ofImage (c .before .before .before .before .args .image .now)) (c .before .before .before .before .args .registers .«root_table» + 16 * busOf (c .before .before .before .before .args .source .id))
 place c =
     let a = c .before .before .before .before .args in
     rw (← c .before .before .bus .ensures)
-    (placed (a .image .now) (a .registers .«root_table») (c .before .before .bus .result) (c .before .before .before .before .pre) (omega arith) (c .page-entry16 .ensures .0))
+    (placed (a .image .now) (a .registers .«root_table») (c .before .before .bus .result) (c .before .before .before .before .pre) (omega arith) (c .flat-page-entry16 .ensures .0))
 
 -- the address by the code's bus
-at-place : (c : tie.After-page-entry16)
+at-place : (c : tie.After-flat-page-entry16)
     → entryAt (c .before .before .before .before .args .registers .«root_table» + 16 * c .before .before .bus .result)
     ≡ entryAt (c .before .before .before .before .args .registers .«root_table» + 16 * busOf (c .before .before .before .before .args .source .id))
 at-place c =
@@ -133,7 +133,7 @@ find-context-spec =
     cast-at
     mul-at
     add-at
-    page-entry16-requires
+    flat-page-entry16-requires
     enum-known-e
     enum-told
     returns

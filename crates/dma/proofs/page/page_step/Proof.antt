@@ -40,8 +40,8 @@ add-at c =
     let a = c .before .args in
     omega (arith, c .before .pre .1, index-of (a .request .address) (a .below), index-lt (a .request .address) (a .below))
 
-page-entry8-requires : tie.Need-page-entry8-requires
-page-entry8-requires c κs = search needs
+flat-page-entry8-requires : tie.Need-flat-page-entry8-requires
+flat-page-entry8-requires c κs = search needs
 
 enum-known-e : tie.Need-enum-known-e
 enum-known-e c = search needs
@@ -49,19 +49,19 @@ enum-known-e c = search needs
 enum-told : tie.Need-enum-told
 enum-told c = search needs
 
-at-place : (c : tie.After-page-entry8)
+at-place : (c : tie.After-flat-page-entry8)
     → _≡_ {A = ℕ} (c .before .before .args .table + 8 * (c .before .before .args .request .address / 2 ^ (12 + 9 * c .before .before .args .below) % 512))
     (placeIn (c .before .before .args .request .address) (c .before .before .args .table) (c .before .before .args .below))
 at-place c =
     let a = c .before .before .args in
     ap (λ (i : ℕ). a .table + 8 * i) (index-of (a .request .address) (a .below))
 
-place : (c : tie.After-page-entry8)
-    → fetched8 (c .page-entry8 .result)
+place : (c : tie.After-flat-page-entry8)
+    → fetched8 (c .flat-page-entry8 .result)
     ≡ entry 1 (ofImage (c .before .before .args .image .now)) (placeIn (c .before .before .args .request .address) (c .before .before .args .table) (c .before .before .args .below))
 place c =
     let a = c .before .before .args in
-    placed (a .image .now) (a .request .address) (a .table) (a .below) (c .before .before .pre .1) (at-place c) (c .page-entry8 .ensures .0)
+    placed (a .image .now) (a .request .address) (a .table) (a .below) (c .before .before .pre .1) (at-place c) (c .flat-page-entry8 .ensures .0)
 
 returns : tie.Need-returns
 returns c =
@@ -124,7 +124,7 @@ page-step-spec =
     shr-index
     mul-at
     add-at
-    page-entry8-requires
+    flat-page-entry8-requires
     enum-known-e
     enum-told
     returns

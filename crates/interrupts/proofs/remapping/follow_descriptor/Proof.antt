@@ -8,8 +8,8 @@ use Rattle.interrupts.proofs.Stages.{no-descriptor, descriptor-checked}
 use Rattle.interrupts.proofs.remapping.follow_descriptor.Statement.{statement}
 use Rattle.interrupts.proofs.remapping.follow_descriptor.Tie as tie
 
-fetch64-requires : tie.Need-fetch64-requires
-fetch64-requires c κs = search needs
+flat-fetch64-requires : tie.Need-flat-fetch64-requires
+flat-fetch64-requires c κs = search needs
 
 enum-known-d : tie.Need-enum-known-d
 enum-known-d c = search needs
@@ -22,7 +22,7 @@ returns c =
     let f = c .before .before in
     let a = f .before .before .args in (
       no-descriptor (ofImage (a .image .now)) (a .eime) (a .urgent) (a .fpd) (a .vector) (a .at)
-          (sym (ap fetched64 (c .enum-told .given .1)) ∙ f .fetch64 .ensures .0),
+          (sym (ap fetched64 (c .enum-told .given .1)) ∙ f .flat-fetch64 .ensures .0),
       refl,
     )
 
@@ -42,7 +42,7 @@ returns-2 c =
     let f = found .before .before in
     let a = f .before .before .args in (
       descriptor-checked (ofImage (a .image .now)) (a .eime) (a .urgent) (a .fpd) (a .vector) (a .at)
-          (sym (ap fetched64 (found .d .given .1)) ∙ f .fetch64 .ensures .0)
+          (sym (ap fetched64 (found .d .given .1)) ∙ f .flat-fetch64 .ensures .0)
           (sym (ap descriptorChecked (c .enum-told2 .given .1)) ∙ k .descriptor-check .ensures .0),
       refl,
     )
@@ -54,7 +54,7 @@ returns-3 c =
     let f = found .before .before in
     let a = f .before .before .args in (
       descriptor-checked (ofImage (a .image .now)) (a .eime) (a .urgent) (a .fpd) (a .vector) (a .at)
-          (sym (ap fetched64 (found .d .given .1)) ∙ f .fetch64 .ensures .0)
+          (sym (ap fetched64 (found .d .given .1)) ∙ f .flat-fetch64 .ensures .0)
           (sym (ap descriptorChecked (c .before .notice .given .1)) ∙ k .descriptor-check .ensures .0),
       refl,
     )
@@ -63,7 +63,7 @@ pub follow-descriptor-spec : {M : Type 1} → statement M
 follow-descriptor-spec =
     tie.close
     (tie.spec
-    fetch64-requires
+    flat-fetch64-requires
     enum-known-d
     enum-told
     returns

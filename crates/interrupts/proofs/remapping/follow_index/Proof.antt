@@ -36,8 +36,8 @@ mul-at c = search needs
 add-at : tie.Need-add-at
 add-at c = search needs
 
-fetch16-requires : tie.Need-fetch16-requires
-fetch16-requires c κs = search needs
+flat-fetch16-requires : tie.Need-flat-fetch16-requires
+flat-fetch16-requires c κs = search needs
 
 enum-known-e : tie.Need-enum-known-e
 enum-known-e c = search needs
@@ -51,7 +51,7 @@ returns-2 c =
     let i = f .before .before in
     let a = i .before .before .before .before .args in
     let inside = sym (i .before .at-or-above-power .ensures) ∙ i .if1 .left in
-    let none = sym (ap fetched16 (c .enum-told .given .1)) ∙ f .fetch16 .ensures .0 in (
+    let none = sym (ap fetched16 (c .enum-told .given .1)) ∙ f .flat-fetch16 .ensures .0 in (
       no-entry (ofImage (a .image .now)) (a .registers) (a .source .id) (a .index) inside none,
       no-entry-at (ofImage (a .image .now)) (a .registers) (a .source .id) (a .index) inside none,
     )
@@ -70,7 +70,7 @@ asks c =
     let a = i .before .before .before .before .args in
     entry-checked (ofImage (a .image .now)) (a .registers) (a .source .id) (a .index)
     (sym (i .before .at-or-above-power .ensures) ∙ i .if1 .left)
-    (sym (ap fetched16 (found .e .given .1)) ∙ f .fetch16 .ensures .0) (c .irte-check .ensures .0)
+    (sym (ap fetched16 (found .e .given .1)) ∙ f .flat-fetch16 .ensures .0) (c .irte-check .ensures .0)
 
 -- and it stops where the rules stop
 stops : (c : tie.After-irte-check)
@@ -83,7 +83,7 @@ stops c =
     let a = i .before .before .before .before .args in
     entry-checked-at (ofImage (a .image .now)) (a .registers) (a .source .id) (a .index)
     (sym (i .before .at-or-above-power .ensures) ∙ i .if1 .left)
-    (sym (ap fetched16 (found .e .given .1)) ∙ f .fetch16 .ensures .0) (c .irte-check .ensures .0)
+    (sym (ap fetched16 (found .e .given .1)) ∙ f .flat-fetch16 .ensures .0) (c .irte-check .ensures .0)
 
 enum-known-remapped : tie.Need-enum-known-remapped
 enum-known-remapped c = search needs
@@ -139,7 +139,7 @@ follow-index-spec =
     returns
     mul-at
     add-at
-    fetch16-requires
+    flat-fetch16-requires
     enum-known-e
     enum-told
     returns-2
