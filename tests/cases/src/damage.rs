@@ -54,5 +54,5 @@ pub fn cut(random: &mut Random, world: &mut World) {
         9 if random.coin() => random.below(2),
         _ => whole,
     };
-    world.image.truncate(length.min(whole) as usize);
+    world.truncate(length.min(whole));
 }

@@ -93,11 +93,11 @@ fn descriptor_address(random: &mut Random, world: &World, entry: u64) -> (u64, b
     let (address, laid) = match random.below(16) {
         0 | 1 => (entry, true),
         2..=4 if !world.entries.is_empty() => (random.pick(&world.entries).address, false),
-        5 => (length.saturating_sub(64), true),
-        6 => (length, true),
+        5 => (world.host(length.saturating_sub(64)), true),
+        6 => (world.host(length), true),
         7 => (end - 64 * random.below(2), true),
         8 if random.one_in(4) => (random.word(), true),
-        _ => (random.below(length), !random.one_in(16)),
+        _ => (world.host(random.below(length)), !random.one_in(16)),
     };
     (address & !63, laid)
 }
@@ -115,10 +115,18 @@ fn lay_entry(random: &mut Random, world: &mut World, target: Target) {
     world.lay(at, &words);
 }
 
+/// Bytes from the interrupt table on to the end of its window.
+fn held(world: &World) -> u64 {
+    let table = world.registers.interrupt_table;
+    let ends = world.windows.iter().filter(|w| w.start <= table);
+    let end = ends.map(|w| w.start.saturating_add(w.length)).next_back();
+    end.unwrap_or(0).saturating_sub(table)
+}
+
 /// Lays one to three entries, and where an index is past 16 bits one at its low 16 bits too.
 pub fn lay(random: &mut Random, world: &mut World) -> Vec<Target> {
     let registers = world.registers;
-    let held = world.length().saturating_sub(registers.interrupt_table) / 16;
+    let held = held(world) / 16;
     let mut targets = Vec::new();
     for _ in 0..=random.below(3) {
         let source = random.word() as u16;

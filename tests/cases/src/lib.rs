@@ -1,4 +1,4 @@
-//! Registers, images and requests to compare implementations of document 01 with.
+//! Registers, guest memory and requests to compare implementations of documents 01 and 02 with.
 //!
 //! They are made from document 01, sentence by sentence, and not from what an implementation does:
 //! tables are laid so that a request goes deep, then a few of their bits are turned over or the
@@ -16,8 +16,9 @@ mod message;
 mod random;
 pub mod registers;
 mod suites;
+mod windows;
 mod world;
 
 pub use random::Random;
 pub use suites::{Suite, SUITES};
-pub use world::{Entry, Request, World, PAGE};
+pub use world::{place, Entry, Request, World, PAGE};

@@ -20,17 +20,19 @@ pub struct Target {
 pub struct Pages {
     free: Vec<u64>,
     all: u64,
+    host: Vec<u64>,
 }
 
 impl Pages {
-    /// The image's pages in any order.
+    /// The run's pages in any order.
     pub fn of(random: &mut Random, world: &World) -> Self {
         let all = (world.length() / PAGE).max(1);
+        let host = (0..all).map(|page| world.host(PAGE * page)).collect();
         let mut free: Vec<u64> = (0..all).collect();
         for n in (1..free.len()).rev() {
             free.swap(n, random.below(n as u64 + 1) as usize);
         }
-        Self { free, all }
+        Self { free, all, host }
     }
 
     /// The address of one.
@@ -40,7 +42,7 @@ impl Pages {
             Some(page) if !random.one_in(12) => page,
             _ => used,
         };
-        PAGE * page
+        self.host[page as usize]
     }
 }
 
@@ -137,7 +139,7 @@ fn pages(random: &mut Random, world: &mut World, pages: &mut Pages, top: u64, to
         }
         table = match random.below(40) {
             0 => frame(random, &registers, 12),
-            1 => world.length() / PAGE * PAGE,
+            1 => world.host(world.length() / PAGE * PAGE),
             _ => pages.next(random),
         };
         world.lay(at, &[table | bits]);

@@ -66,7 +66,7 @@ pub fn answer(outcome: &Outcome) -> [u8; ANSWER_SIZE] {
 }
 
 /// An answer with a post's vector and descriptor as they came: the reference doesn't name them, and the
-/// image, which is compared too, has both.
+/// run, which is compared too, has the bit that was set.
 pub fn answer_beside(outcome: &Outcome, came: &[u8]) -> [u8; ANSWER_SIZE] {
     let mut bytes = answer(outcome);
     if let (Outcome::Posted { .. }, &[5, _, _, vector, ..]) = (outcome, came) {

@@ -44,11 +44,27 @@ pub enum Flaw {
     SnCleared,
     /// A take answers at a 32-aligned descriptor.
     AlignedTo32,
+    /// An entry is fetched where its first byte is in a window.
+    AcrossTheEnd,
+    /// Every window shows the run from the first one's place on.
+    FirstsPlace,
+    /// A post or take writes at the host address, taken for a place in the run.
+    StoredByAddress,
+    /// Windows that touch are refused.
+    TouchingRefused,
+    /// A window that ends at 2^64 is refused.
+    TopRefused,
+    /// More than four windows aren't refused.
+    FiveAccepted,
+    /// Windows that aren't sorted aren't refused.
+    UnsortedAccepted,
+    /// Windows that overlap in the run aren't refused.
+    RunOverlapAccepted,
 }
 
 impl Flaw {
     /// Each of them.
-    pub const ALL: [Flaw; 21] = [
+    pub const ALL: [Flaw; 29] = [
         Flaw::Known(Slip::Index16),
         Flaw::Known(Slip::LastEntryRights),
         Flaw::Known(Slip::MaskLargeFrame),
@@ -70,6 +86,14 @@ impl Flaw {
         Flaw::OnKeptAtNone,
         Flaw::SnCleared,
         Flaw::AlignedTo32,
+        Flaw::AcrossTheEnd,
+        Flaw::FirstsPlace,
+        Flaw::StoredByAddress,
+        Flaw::TouchingRefused,
+        Flaw::TopRefused,
+        Flaw::FiveAccepted,
+        Flaw::UnsortedAccepted,
+        Flaw::RunOverlapAccepted,
     ];
 
     /// Whether it can make a difference in a part.
@@ -93,6 +117,17 @@ impl Flaw {
                 | Flaw::AlignedTo32,
                 part,
             ) => matches!(part, Part::Takes),
+            (
+                Flaw::AcrossTheEnd
+                | Flaw::FirstsPlace
+                | Flaw::StoredByAddress
+                | Flaw::TouchingRefused
+                | Flaw::TopRefused
+                | Flaw::FiveAccepted
+                | Flaw::UnsortedAccepted
+                | Flaw::RunOverlapAccepted,
+                part,
+            ) => matches!(part, Part::Worlds(suite) if suite.name == "windows"),
             (_, part) => matches!(part, Part::Recorder),
         }
     }

@@ -3,6 +3,7 @@
 //!
 //!     compare                     all of it; prints how often each outcome came
 //!     compare --slips             a part of it, with known flaws put into the reference
+//!     compare --part PART         one part by itself; prints how often each outcome came that did
 //!     compare --case PART NUMBER  one case by itself, with all that is in it
 //!
 //! Exit status 0: nothing differed and every outcome came often enough, or every flaw was noticed.
@@ -25,6 +26,7 @@ mod runs;
 mod takes;
 mod tally;
 mod wanted;
+mod windows;
 
 use std::process::ExitCode;
 
@@ -34,9 +36,10 @@ fn main() -> ExitCode {
     let good = match arguments[..] {
         [] => runs::whole(),
         ["--slips"] => runs::flaws(),
+        ["--part", part] => runs::part(part),
         ["--case", part, number] => runs::case(part, number),
         _ => {
-            eprintln!("usage: compare [--slips | --case PART NUMBER]");
+            eprintln!("usage: compare [--slips | --part PART | --case PART NUMBER]");
             return ExitCode::from(2);
         }
     };

@@ -12,12 +12,13 @@ use interface::{ANSWER_SIZE, RECORDER_SIZE, RECORDS_SIZE, REGISTERS_SIZE};
 pub const NAME: &str = "malformed";
 
 /// Calls.
-pub const CALLS: u64 = 13 * 500;
+pub const CALLS: u64 = 16 * 500;
 
 /// The arguments of any call.
 #[derive(Clone, PartialEq, Eq)]
 struct Arguments {
     registers: Vec<u8>,
+    windows: Vec<u64>,
     image: Vec<u8>,
     write: u8,
     answer: Vec<u8>,
@@ -74,6 +75,21 @@ fn spoil_place(random: &mut Random, arguments: &mut Arguments) {
     }
 }
 
+/// A count of numbers that is no multiple of three. The answer may be malformed too, and the write, which
+/// windows come before.
+fn spoil_windows(random: &mut Random, arguments: &mut Arguments) {
+    let count = 3 * random.below(7) + 1 + random.below(2);
+    arguments
+        .windows
+        .resize(count as usize, random.pick(&[0, 1, 4096, u64::MAX]));
+    if random.coin() {
+        resized(random, &mut arguments.answer);
+    }
+    if random.coin() {
+        arguments.write = 2;
+    }
+}
+
 /// What is called, and what is wrong with it.
 fn spoil(random: &mut Random, which: u64, arguments: &mut Arguments) -> (Call, u32) {
     match which {
@@ -82,6 +98,7 @@ fn spoil(random: &mut Random, which: u64, arguments: &mut Arguments) -> (Call, u
         4 => arguments.write = 2 + random.below(254) as u8,
         5 => spoil_recorded(random, &mut arguments.answer),
         6..=8 => spoil_overflow(random, &mut arguments.recorder),
+        13..=15 => spoil_windows(random, arguments),
         _ => spoil_place(random, arguments),
     }
     match which {
@@ -97,27 +114,33 @@ fn spoil(random: &mut Random, which: u64, arguments: &mut Arguments) -> (Call, u
         9 => (Call::Record, 0x03),
         10 => (Call::ClearSlot, 0x03),
         11 => (Call::ClearOverflow, 0x03),
-        _ => (Call::Take, 0x101),
+        12 => (Call::Take, 0x101),
+        13 => (Call::Memory, 0x105),
+        14 => (Call::Interrupt, 0x105),
+        _ => (Call::Take, 0x105),
     }
 }
 
 fn call(which: Call, arguments: &mut Arguments) -> u32 {
     let Arguments {
         registers,
+        windows,
         image,
         write,
         answer,
         records,
         recorder,
     } = arguments;
+    let (source, to) = (bench::SOURCE, 0xFEE0_0090);
     match which {
         Call::Memory => {
-            interface::memory_request(registers, image, bench::SOURCE, 0x4020_1ABC, *write, answer)
+            let address = 0x4020_1ABC;
+            interface::memory_request(registers, windows, image, source, address, *write, answer)
         }
         Call::Interrupt => {
-            interface::interrupt_request(registers, image, bench::SOURCE, 0xFEE0_0090, 0, answer)
+            interface::interrupt_request(registers, windows, image, source, to, 0, answer)
         }
-        Call::Take => interface::take(registers, image, 0x6400),
+        Call::Take => interface::take(registers, windows, image, 0x6400),
         Call::Record => interface::record(answer, records, recorder),
         Call::ClearSlot => interface::clear_slot(records, recorder, 0),
         Call::ClearOverflow => interface::clear_overflow(records, recorder),
@@ -131,6 +154,7 @@ pub fn run(number: u64, tally: Option<&mut Tally>) -> Result<(), String> {
     bench::image(&mut world, bench::REGISTERS);
     let mut before = Arguments {
         registers: bytes::registers(&bench::REGISTERS).to_vec(),
+        windows: interface::flat(world.image.len()).to_vec(),
         image: world.image,
         write: 0,
         answer: [3; ANSWER_SIZE].to_vec(),
@@ -138,7 +162,7 @@ pub fn run(number: u64, tally: Option<&mut Tally>) -> Result<(), String> {
         recorder: [0; RECORDER_SIZE].to_vec(),
     };
     debug_assert_eq!(before.registers.len(), REGISTERS_SIZE);
-    let (which, expected) = spoil(&mut random, number % 13, &mut before);
+    let (which, expected) = spoil(&mut random, number % 16, &mut before);
     let mut after = before.clone();
     let status = call(which, &mut after);
     if status != expected || after != before {

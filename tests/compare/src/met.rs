@@ -1,6 +1,7 @@
 //! What was met: each outcome that document 01 has, told apart further by how it came about.
 
 use crate::meters::Seen;
+use crate::windows;
 use std::fmt;
 
 /// A kind of answer, of a call, or of an entry that a request read.
@@ -78,6 +79,8 @@ pub enum Met {
     OneByteShort(Kind),
     /// A call on meters.
     Meters(Seen),
+    /// A call over windows.
+    Windows(windows::Seen),
 }
 
 /// A call of the C interface.
@@ -110,6 +113,8 @@ pub enum Kind {
     Interrupt,
     /// A posted descriptor.
     Descriptor,
+    /// A posted descriptor that is taken from.
+    Taken,
 }
 
 impl fmt::Display for Met {
@@ -198,6 +203,7 @@ impl fmt::Display for Met {
             Met::AtTheEnd(kind) => write!(f, "ends with the image: {kind}"),
             Met::OneByteShort(kind) => write!(f, "one byte short: {kind}"),
             Met::Meters(seen) => write!(f, "meters: {seen}"),
+            Met::Windows(seen) => write!(f, "windows: {seen}"),
         }
     }
 }
@@ -240,6 +246,7 @@ fn said(status: u32) -> &'static str {
         0x102 => "bad answer",
         0x103 => "bad kind",
         0x104 => "bad recorder",
+        0x105 => "bad windows",
         _ => "something else",
     }
 }
@@ -265,6 +272,7 @@ impl fmt::Display for Kind {
             Kind::Page => "page entry",
             Kind::Interrupt => "interrupt entry",
             Kind::Descriptor => "descriptor",
+            Kind::Taken => "descriptor to take from",
         })
     }
 }

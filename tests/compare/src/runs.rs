@@ -13,14 +13,13 @@ const TAKEN: usize = 16;
 /// Cases in which a flaw has to be noticed.
 const NOTICED: usize = 10;
 
-/// Everything, without a flaw.
-pub fn whole() -> bool {
+/// Goes through parts, without a flaw, and counts differences, up to too many.
+fn compared(parts: impl Iterator<Item = Part>, tally: &mut Tally) -> usize {
     let mut runner = Runner::new(Flaw::None);
-    let mut tally = Tally::default();
     let mut differences = 0;
-    for part in Part::all() {
+    for part in parts {
         for number in 0..part.cases() {
-            let Err(difference) = runner.run(part, number, Some(&mut tally)) else {
+            let Err(difference) = runner.run(part, number, Some(tally)) else {
                 continue;
             };
             let name = part.name();
@@ -29,18 +28,39 @@ pub fn whole() -> bool {
             println!("{difference}");
             differences += 1;
             if differences == TOO_MANY {
-                return false;
+                return differences;
             }
         }
     }
+    differences
+}
+
+fn print_sums(tally: &Tally, differences: usize) {
+    println!("{:>9}  calls compared", tally.cases);
+    println!("{differences:>9}  differences");
+}
+
+/// Everything: each outcome has to come often enough, too.
+pub fn whole() -> bool {
+    let mut tally = Tally::default();
+    let differences = compared(Part::all(), &mut tally);
     tally.print();
     let complaints = tally.complaints();
     for complaint in &complaints {
         println!("{complaint}");
     }
-    println!("{:>9}  calls compared", tally.cases);
-    println!("{differences:>9}  differences");
+    print_sums(&tally, differences);
     differences == 0 && complaints.is_empty()
+}
+
+/// One part by itself.
+pub fn part(name: &str) -> bool {
+    let mut tally = Tally::default();
+    let parts = Part::all().filter(|part| part.name() == name);
+    let differences = compared(parts, &mut tally);
+    tally.print_met();
+    print_sums(&tally, differences);
+    differences == 0 && tally.cases > 0
 }
 
 /// How many cases show a flaw.

@@ -7,7 +7,7 @@ use crate::lent::Lent;
 use crate::met::Met;
 use crate::tally::Tally;
 use cases::Random;
-use interface::ANSWER_SIZE;
+use interface::{flat, ANSWER_SIZE};
 use reference::{interrupt_request, take, Outcome, Registers, Take};
 use std::fmt;
 
@@ -133,6 +133,7 @@ impl Run {
                     let mut answer = [0; ANSWER_SIZE];
                     interface::interrupt_request(
                         &packed,
+                        &flat(self.image.len()),
                         ours.content_mut(),
                         0x0310,
                         address,
@@ -151,7 +152,8 @@ impl Run {
                     if let Some(tally) = tally.as_deref_mut() {
                         tally.meet(met(&before, descriptor, taken));
                     }
-                    let status = interface::take(&packed, ours.content_mut(), descriptor);
+                    let windows = flat(self.image.len());
+                    let status = interface::take(&packed, &windows, ours.content_mut(), descriptor);
                     (status_of(taken), status)
                 }
             };
@@ -178,7 +180,7 @@ impl Run {
 }
 
 /// The header's status.
-fn status_of(taken: Take) -> u32 {
+pub fn status_of(taken: Take) -> u32 {
     match taken {
         Take::Vector(vector) => 0x200 + u32::from(vector),
         Take::None => 0x40,

@@ -31,8 +31,15 @@ impl Tally {
         }
     }
 
-    /// What document 01 has and the run hadn't often enough, and what the run had though document
-    /// 01 hasn't.
+    /// The same, of outcomes that came.
+    pub fn print_met(&self) {
+        for (met, count) in &self.met {
+            println!("{count:>9}  {met}");
+        }
+    }
+
+    /// What documents 01 and 02 have and the run hadn't often enough, and what the run had though they
+    /// haven't.
     pub fn complaints(&self) -> Vec<String> {
         let rows = wanted::all();
         let few = rows.iter().filter_map(|met| {
@@ -40,7 +47,7 @@ impl Tally {
             (count < ENOUGH).then(|| format!("only {count} times: {met}"))
         });
         let odd = self.met.keys().filter(|met| !rows.contains(met));
-        few.chain(odd.map(|met| format!("not in document 01: {met}")))
+        few.chain(odd.map(|met| format!("in no document: {met}")))
             .collect()
     }
 }

@@ -1,8 +1,9 @@
-//! All that has to be met: document 01's outcomes, and its entries in each form.
+//! All that has to be met: the outcomes of documents 01 and 02, and entries in each form.
 
 use crate::met::{Call, Kind, Met};
 use crate::meters::Seen;
 use crate::recorder::SLOTS;
+use crate::windows;
 
 /// The fault reasons of memory requests that FPD silences.
 const SILENCED_MEMORY: [u8; 8] = [0x02, 0x03, 0x04, 0x05, 0x06, 0x07, 0x0B, 0x0C];
@@ -90,9 +91,9 @@ fn takes(wanted: &mut Vec<Met>) {
 
 fn malformed(wanted: &mut Vec<Met>) {
     for (call, statuses) in [
-        (Call::Memory, [0x101, 0x102, 0x103].as_slice()),
-        (Call::Interrupt, &[0x101, 0x102]),
-        (Call::Take, &[0x101]),
+        (Call::Memory, [0x101, 0x102, 0x103, 0x105].as_slice()),
+        (Call::Interrupt, &[0x101, 0x102, 0x105]),
+        (Call::Take, &[0x101, 0x105]),
         (Call::Record, &[0x03, 0x102, 0x104]),
         (Call::ClearSlot, &[0x03, 0x104]),
         (Call::ClearOverflow, &[0x03, 0x104]),
@@ -149,5 +150,6 @@ pub fn all() -> Vec<Met> {
     malformed(&mut wanted);
     entries(&mut wanted);
     wanted.extend(Seen::all().map(Met::Meters));
+    wanted.extend(windows::Seen::all().into_iter().map(Met::Windows));
     wanted
 }

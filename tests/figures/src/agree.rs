@@ -52,28 +52,45 @@ fn interrupt(answer: InterruptAnswer) -> Answer {
 
 /// Whether they do, request by request, images too.
 pub fn agree(load: &Load, prepared: &Prepared) -> bool {
-    let (mut ours, mut theirs) = (load.image.clone(), load.image.clone());
+    let (mut ours, mut theirs) = (load.run.clone(), load.run.clone());
+    let (numbers, windows) = (&prepared.numbers, &prepared.windows);
     let mut answer = [0; ANSWER_SIZE];
     match &load.requests {
         Requests::Memory(requests) => requests.iter().all(|r| {
             let (source, address) = (r.source, r.address);
             let write = u8::from(r.write);
             let registers = &prepared.bytes;
-            let status =
-                interface::memory_request(registers, &ours, source, address, write, &mut answer);
+            let status = interface::memory_request(
+                registers,
+                numbers,
+                &ours,
+                source,
+                address,
+                write,
+                &mut answer,
+            );
             let plain = &prepared.plain;
-            let expected = ordinary::memory_request(plain, &theirs, source, address, r.write);
+            let expected =
+                ordinary::memory_request(plain, windows, &theirs, source, address, r.write);
             status == 0 && answer == memory(expected)
         }),
         Requests::Interrupts { messages, .. } => messages.iter().all(|m| {
             let (source, address, data) = (m.source, m.address, m.data);
             let registers = &prepared.bytes;
             let image = &mut ours;
-            let status =
-                interface::interrupt_request(registers, image, source, address, data, &mut answer);
+            let status = interface::interrupt_request(
+                registers,
+                numbers,
+                image,
+                source,
+                address,
+                data,
+                &mut answer,
+            );
             let plain = &prepared.plain;
             let image = &mut theirs;
-            let expected = ordinary::interrupt_request(plain, image, source, address, data);
+            let expected =
+                ordinary::interrupt_request(plain, windows, image, source, address, data);
             // The ordinary translator doesn't name a post's vector and descriptor; the image has both.
             if answer[0] == 5 {
                 answer[3] = 0;

@@ -13,11 +13,11 @@ pub const ARGUMENT: &str = "--load";
 
 /// Goes through a load, some thousand requests of it: what a counted run does.
 pub fn counted(load: &Load, prepared: &Prepared, side: &str) {
-    let mut image = load.image.clone();
+    let mut memory = load.run.clone();
     let side = Side::ALL.into_iter().find(|known| known.name() == side);
     if let Some(side) = side {
         let passes = passes(load);
-        run(side, prepared, &mut image, &load.requests, passes);
+        run(side, prepared, &mut memory, &load.requests, passes);
     }
 }
 

@@ -1,6 +1,6 @@
-//! What is measured: registers, an image, and requests to be gone through again and again.
+//! What is measured: registers, guest memory, and requests to be gone through again and again.
 
-use galitzaf::Registers;
+use galitzaf::{Registers, Window};
 
 /// A read or a write.
 #[derive(Clone, Copy)]
@@ -32,7 +32,7 @@ pub enum Requests {
     Interrupts {
         /// The messages.
         messages: Vec<Interrupt>,
-        /// The byte of a descriptor that has ON.
+        /// The place in the run of a descriptor's byte that has ON.
         rearm: Option<usize>,
     },
 }
@@ -51,16 +51,53 @@ impl Requests {
 pub struct Load {
     /// The registers.
     pub registers: Registers,
-    /// The image.
-    pub image: Vec<u8>,
+    /// The windows.
+    pub windows: Vec<Window>,
+    /// The run.
+    pub run: Vec<u8>,
     /// The requests.
     pub requests: Requests,
 }
 
 impl Load {
-    /// Writes a word into the image.
+    /// Makes a plain image of so many bytes of it, all zero: one window from 0.
+    pub fn flat(&mut self, length: u64) {
+        self.windows = vec![Window {
+            start: 0,
+            offset: 0,
+            length,
+        }];
+        self.run = vec![0; length as usize];
+    }
+
+    /// Writes a word into a plain image.
     pub fn set(&mut self, address: u64, word: u64) {
         let at = address as usize;
-        self.image[at..at + 8].copy_from_slice(&word.to_le_bytes());
+        self.run[at..at + 8].copy_from_slice(&word.to_le_bytes());
+    }
+
+    /// Cuts a plain image into windows that begin at these addresses. `order` says which comes first in
+    /// the run, which next.
+    pub fn cut(mut self, starts: &[u64], order: &[usize]) -> Self {
+        let end = self.run.len() as u64;
+        let ends = starts.iter().skip(1).copied().chain([end]);
+        let mut windows: Vec<Window> = starts
+            .iter()
+            .zip(ends)
+            .map(|(&start, end)| Window {
+                start,
+                offset: 0,
+                length: end - start,
+            })
+            .collect();
+        let mut run = Vec::new();
+        for &n in order {
+            let Window { start, length, .. } = windows[n];
+            windows[n].offset = run.len() as u64;
+            run.extend_from_slice(&self.run[start as usize..(start + length) as usize]);
+        }
+        self.windows = windows;
+        self.run = run;
+        self
     }
 }

@@ -2,7 +2,9 @@
 //! images and requests, and prints a table; then rows of meters beside a plain loop.
 //!
 //!     figures                    the tables
+//!     figures --rows FROM TO     of the first table, rows from one number up to another, from 0
 //!     figures --meters           the meters' table alone
+//!     figures --counts           instructions alone, without times
 //!     figures --load ROW SIDE    one row's requests, some thousand of them, for valgrind to count
 //!     figures --meters ROW SIDE  one row's ticks, likewise
 
@@ -16,6 +18,7 @@ mod rows;
 mod sides;
 mod time;
 
+use load::Load;
 use rows::{Row, ROWS};
 use sides::{Prepared, Side};
 use std::process::ExitCode;
@@ -25,6 +28,24 @@ const HEAD: &str = "\
 | load | requests timed | proved, ns | ordinary, ns | ratio | 10% to 90% of rounds | checked once, ns | ratio | \
 instructions: proved | ordinary | checked once |
 |---|---|---|---|---|---|---|---|---|---|---|";
+
+/// The head of the table of instructions alone.
+const COUNTS: &str = "\
+| load | instructions: proved | ordinary | checked once |
+|---|---|---|---|";
+
+/// Instructions for each request of a row, or dashes where there is no valgrind.
+fn counted(number: usize, load: &Load) -> String {
+    let counts = count::instructions(number, load);
+    let counts = counts.map_or(["-".into(), "-".into(), "-".into()], |counts| {
+        counts.map(|count| format!("{count:.0}"))
+    });
+    counts.join(" | ")
+}
+
+fn counts(number: usize, row: &Row) {
+    println!("| {} | {} |", row.name, counted(number, &(row.make)()));
+}
 
 fn print(number: usize, row: &Row) -> bool {
     let load = (row.make)();
@@ -37,16 +58,12 @@ fn print(number: usize, row: &Row) -> bool {
     let (ratio, low, high) = times.ratio(Side::Ordinary);
     let (once, ..) = times.ratio(Side::CheckedOnce);
     let [proved, ordinary, checked] = Side::ALL.map(|side| times.best(side));
-    let counts = count::instructions(number, &load);
-    let counts = counts.map_or(["-".into(), "-".into(), "-".into()], |counts| {
-        counts.map(|count| format!("{count:.0}"))
-    });
     println!(
         "| {} | {} | {proved:.1} | {ordinary:.1} | {ratio:.2} | {low:.2} to {high:.2} | {checked:.1} \
          | {once:.2} | {} |",
         row.name,
         time::ROUNDS * row.passes * load.requests.len(),
-        counts.join(" | ")
+        counted(number, &load)
     );
     true
 }
@@ -68,6 +85,22 @@ fn main() -> ExitCode {
             let good = ROWS.iter().enumerate().all(|(n, row)| print(n, row));
             println!();
             status(meters::print() && good)
+        }
+        ["--rows", from, to] => {
+            let (Ok(from), Ok(to)) = (from.parse::<usize>(), to.parse::<usize>()) else {
+                return ExitCode::from(2);
+            };
+            println!("{HEAD}");
+            let rows = ROWS.iter().enumerate().skip(from);
+            status(
+                rows.take_while(|(n, _)| *n < to)
+                    .all(|(n, row)| print(n, row)),
+            )
+        }
+        ["--counts"] => {
+            println!("{COUNTS}");
+            ROWS.iter().enumerate().for_each(|(n, row)| counts(n, row));
+            ExitCode::SUCCESS
         }
         [meters::ARGUMENT] => status(meters::print()),
         [meters::ARGUMENT, row, side] => {

@@ -23,7 +23,7 @@ pub const ROWS: &[Row] = &[
     Row {
         name: "streaming, 4 KiB pages",
         passes: 1,
-        make: || streamed(pages_4k()),
+        make: || streamed(pages_4k(&IN_ORDER)),
     },
     Row {
         name: "streaming, 2 MiB pages",
@@ -33,7 +33,7 @@ pub const ROWS: &[Row] = &[
     Row {
         name: "random over 64 MiB, 4 KiB pages",
         passes: 1,
-        make: || shuffled(pages_4k()),
+        make: || shuffled(pages_4k(&IN_ORDER)),
     },
     Row {
         name: "faults 05h, 06h, 07h",
@@ -55,7 +55,44 @@ pub const ROWS: &[Row] = &[
         passes: 20,
         make: posted,
     },
+    Row {
+        name: "case 1 reads, two windows",
+        passes: 20,
+        make: || case_1().cut(&[0, 0x3000], &[0, 1]),
+    },
+    Row {
+        name: "case 1 reads, four windows",
+        passes: 20,
+        make: || case_1().cut(&FOUR, &[0, 1, 2, 3]),
+    },
+    Row {
+        name: "case 1 reads, four windows permuted",
+        passes: 20,
+        make: || case_1().cut(&FOUR, &PERMUTED),
+    },
+    Row {
+        name: "random, leaf tables over four windows",
+        passes: 1,
+        make: random_over_four,
+    },
+    Row {
+        name: "faults 05h, 06h, 07h, four windows",
+        passes: 10,
+        make: || faults().cut(&FOUR, &[0, 1, 2, 3]),
+    },
+    Row {
+        name: "posted, notice due, four windows",
+        passes: 20,
+        make: || posted_with_notice().cut(&FOUR, &[0, 1, 2, 3]),
+    },
 ];
+
+/// Starts of four windows over the bench image: the root table, the context table, the tables of levels 3
+/// and 2, and that of level 1 with the interrupt table.
+const FOUR: [u64; 4] = [0, 0x2000, 0x3000, 0x5000];
+
+/// Another order in the run.
+const PERMUTED: [usize; 4] = [2, 0, 3, 1];
 
 const SOURCE: u16 = 0x0310;
 
@@ -84,9 +121,11 @@ fn bench(requests: Requests) -> Load {
             eime: false,
             cfis: false,
         },
-        image: vec![0; 32_768],
+        windows: Vec::new(),
+        run: Vec::new(),
         requests,
     };
+    load.flat(32_768);
     for (address, word) in [
         (0x1030, 0x2001),
         (0x2100, 0x3001),
@@ -162,16 +201,48 @@ fn posted_with_notice() -> Load {
 const START: u64 = 1 << 30;
 const SPAN: u64 = 64 << 20;
 
-/// Root, context and the upper tables of a source with 4 levels; page 4 is the table of level 2.
-fn tables(pages: u64) -> Load {
+/// Where the tables of a source with 4 levels stand: the root table is at 1000h.
+struct Places {
+    context: u64,
+    /// Of level 4, 3 and 2.
+    upper: [u64; 3],
+    /// Of level 1, by number.
+    leaf: fn(u64) -> u64,
+    /// The end of all.
+    end: u64,
+}
+
+/// One after the other.
+const IN_ORDER: Places = Places {
+    context: 0x2000,
+    upper: [0x3000, 0x5000, 0x4000],
+    leaf: |table| 4096 * (6 + table),
+    end: 4096 * (6 + (SPAN >> 21)),
+};
+
+/// Pages of each of four windows, over which tables are spread.
+const QUARTER: u64 = 16;
+
+/// The root table and that of level 2 in the first window, the context table and those of levels 4 and 3
+/// in the others; tables of level 1 over all four in turn.
+const OVER_FOUR: Places = Places {
+    context: 4096 * QUARTER,
+    upper: [4096 * 2 * QUARTER, 4096 * 3 * QUARTER, 0x2000],
+    leaf: |table| 4096 * (QUARTER * (table % 4) + 4 + table / 4),
+    end: 4096 * 4 * QUARTER,
+};
+
+/// Root, context and the upper tables.
+fn tables(places: &Places) -> Load {
     let none = Requests::Memory(Vec::new());
     let mut load = bench(none);
-    load.image = vec![0; 4096 * pages as usize];
-    load.set(0x1030, 0x2001);
-    load.set(0x2100, 0x3001);
-    load.set(0x2108, 2);
-    load.set(0x3000, 0x5003);
-    load.set(0x5000 + 8 * (START >> 30), 0x4003);
+    let [top, third, second] = places.upper;
+    load.flat(places.end);
+    load.set(0x1030, places.context | 1);
+    load.set(places.context + 0x100, top | 1);
+    load.set(places.context + 0x108, 2);
+    load.set(top, third | 3);
+    load.set(third + 8 * (START >> 30), second | 3);
     load
 }
 
@@ -183,12 +254,12 @@ fn reads() -> Vec<Memory> {
 }
 
 /// The span in pages of 4 KiB, each to a frame of its own.
-fn pages_4k() -> Load {
-    let tables_1 = SPAN >> 21;
-    let mut load = tables(6 + tables_1);
-    for table in 0..tables_1 {
-        let at = 4096 * (6 + table);
-        load.set(0x4000 + 8 * table, at | 3);
+fn pages_4k(places: &Places) -> Load {
+    let mut load = tables(places);
+    let [.., second] = places.upper;
+    for table in 0..SPAN >> 21 {
+        let at = (places.leaf)(table);
+        load.set(second + 8 * table, at | 3);
         for n in 0..512 {
             let frame = 0x10_0000_0000 + (512 * table + n) * 4096;
             load.set(at + 8 * n, frame | 3);
@@ -199,9 +270,10 @@ fn pages_4k() -> Load {
 
 /// The span in pages of 2 MiB.
 fn pages_2m() -> Load {
-    let mut load = tables(6);
+    let mut load = tables(&IN_ORDER);
+    let [.., second] = IN_ORDER.upper;
     for n in 0..SPAN >> 21 {
-        load.set(0x4000 + 8 * n, (0x10_0000_0000 + (n << 21)) | 0x83);
+        load.set(second + 8 * n, (0x10_0000_0000 + (n << 21)) | 0x83);
     }
     load
 }
@@ -209,6 +281,11 @@ fn pages_2m() -> Load {
 fn streamed(mut load: Load) -> Load {
     load.requests = Requests::Memory(reads());
     load
+}
+
+fn random_over_four() -> Load {
+    let starts = [0, 1, 2, 3].map(|n| 4096 * QUARTER * n);
+    shuffled(pages_4k(&OVER_FOUR)).cut(&starts, &[0, 1, 2, 3])
 }
 
 /// The same reads in another order, the same on every run.

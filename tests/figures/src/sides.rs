@@ -3,7 +3,7 @@
 
 use crate::load::{Interrupt, Load, Memory, Requests};
 use interface::{ANSWER_SIZE, REGISTERS_SIZE};
-use ordinary::Unit;
+use ordinary::{MemoryMut, Unit};
 use std::hint::black_box;
 
 /// Who answers.
@@ -11,9 +11,9 @@ use std::hint::black_box;
 pub enum Side {
     /// The proved unit, through its C interface.
     Proved,
-    /// The ordinary translator, which checks the registers in each call too.
+    /// The ordinary translator, which checks registers and windows in each call too.
     Ordinary,
-    /// The ordinary translator with registers that were checked once.
+    /// The ordinary translator with registers and windows that were checked once.
     CheckedOnce,
 }
 
@@ -31,12 +31,16 @@ impl Side {
     }
 }
 
-/// Registers in each side's form.
+/// Registers and windows in each side's form.
 pub struct Prepared {
     /// For the C interface.
     pub bytes: [u8; REGISTERS_SIZE],
     /// For the ordinary translator.
     pub plain: ordinary::Registers,
+    /// For the C interface.
+    pub numbers: Vec<u64>,
+    /// For the ordinary translator.
+    pub windows: Vec<ordinary::Window>,
 }
 
 impl Prepared {
@@ -60,9 +64,18 @@ impl Prepared {
             eime: r.eime,
             cfis: r.cfis,
         };
+        let numbers = load.windows.iter();
+        let numbers = numbers.flat_map(|window| [window.start, window.offset, window.length]);
+        let windows = load.windows.iter().map(|window| ordinary::Window {
+            start: window.start,
+            offset: window.offset,
+            length: window.length,
+        });
         Self {
             bytes: r.to_bytes(),
             plain,
+            numbers: numbers.collect(),
+            windows: windows.collect(),
         }
     }
 }
@@ -84,12 +97,18 @@ pub fn run(side: Side, prepared: &Prepared, image: &mut [u8], requests: &Request
 }
 
 fn memory(side: Side, prepared: &Prepared, image: &[u8], requests: &[Memory]) {
+    let (plain, numbers, windows) = (
+        &prepared.plain,
+        &prepared.numbers[..],
+        &prepared.windows[..],
+    );
     match side {
         Side::Proved => {
             let mut answer = [0; ANSWER_SIZE];
             for r in requests {
                 let status = interface::memory_request(
                     &prepared.bytes,
+                    numbers,
                     image,
                     r.source,
                     r.address,
@@ -102,16 +121,17 @@ fn memory(side: Side, prepared: &Prepared, image: &[u8], requests: &[Memory]) {
         Side::Ordinary => {
             for r in requests {
                 let answer =
-                    ordinary::memory_request(&prepared.plain, image, r.source, r.address, r.write);
+                    ordinary::memory_request(plain, windows, image, r.source, r.address, r.write);
                 black_box(&answer);
             }
         }
         Side::CheckedOnce => {
-            let Some(unit) = Unit::new(&prepared.plain) else {
+            let checked = Unit::new(plain).zip(ordinary::Memory::new(windows, image));
+            let Some((unit, memory)) = checked else {
                 return;
             };
             for r in requests {
-                let answer = unit.memory_request(image, r.source, r.address, r.write);
+                let answer = unit.memory_request(memory, r.source, r.address, r.write);
                 black_box(&answer);
             }
         }
@@ -125,18 +145,19 @@ fn interrupts(
     messages: &[Interrupt],
     rearm: Option<usize>,
 ) {
-    let mut answer = [0; ANSWER_SIZE];
-    let Some(unit) = Unit::new(&prepared.plain) else {
-        return;
-    };
-    for m in messages {
-        if let Some(byte) = rearm.and_then(|at| image.get_mut(at)) {
-            *byte = 0;
-        }
-        match side {
-            Side::Proved => {
+    let (plain, numbers, windows) = (
+        &prepared.plain,
+        &prepared.numbers[..],
+        &prepared.windows[..],
+    );
+    match side {
+        Side::Proved => {
+            let mut answer = [0; ANSWER_SIZE];
+            for m in messages {
+                clear(image, rearm);
                 let status = interface::interrupt_request(
                     &prepared.bytes,
+                    numbers,
                     image,
                     m.source,
                     m.address,
@@ -145,20 +166,33 @@ fn interrupts(
                 );
                 black_box((status, &answer));
             }
-            Side::Ordinary => {
-                let answer = ordinary::interrupt_request(
-                    &prepared.plain,
-                    image,
-                    m.source,
-                    m.address,
-                    m.data,
-                );
-                black_box(&answer);
-            }
-            Side::CheckedOnce => {
-                let answer = unit.interrupt_request(image, m.source, m.address, m.data);
+        }
+        Side::Ordinary => {
+            for m in messages {
+                clear(image, rearm);
+                let answer =
+                    ordinary::interrupt_request(plain, windows, image, m.source, m.address, m.data);
                 black_box(&answer);
             }
         }
+        Side::CheckedOnce => {
+            let checked = Unit::new(plain).zip(MemoryMut::new(windows, image));
+            let Some((unit, mut memory)) = checked else {
+                return;
+            };
+            for m in messages {
+                clear(memory.run_mut(), rearm);
+                let answer = unit.interrupt_request(&mut memory, m.source, m.address, m.data);
+                black_box(&answer);
+            }
+        }
+    }
+}
+
+/// Clears ON, where that is asked for.
+#[inline(always)]
+fn clear(run: &mut [u8], at: Option<usize>) {
+    if let Some(byte) = at.and_then(|at| run.get_mut(at)) {
+        *byte = 0;
     }
 }

@@ -79,7 +79,7 @@ impl Spread {
 
 /// Measures a load.
 pub fn measure(load: &Load, prepared: &Prepared, passes: usize) -> Times {
-    let mut image = load.image.clone();
+    let mut image = load.run.clone();
     let requests = (passes * load.requests.len()) as f64;
     let mut times = Times(Default::default());
     // The first round warms up; the order turns from round to round.

@@ -3,7 +3,8 @@
 use crate::fault;
 use crate::fetch::{pair, word};
 use crate::unit::{in_interrupt_range, meets_interrupt_range};
-use crate::{Fault, Registers, Unit};
+use crate::windows::{Entries, Single};
+use crate::{Fault, Memory, Registers, Unit, Window};
 
 /// What becomes of a memory request.
 #[derive(Clone, Copy, Debug, PartialEq, Eq)]
@@ -40,11 +41,12 @@ enum Stop {
     OnInterrupts,
 }
 
-/// Answers a memory request, the registers checked first.
+/// Answers a memory request, registers and windows checked first.
 #[inline(never)]
 pub fn memory_request(
     registers: &Registers,
-    image: &[u8],
+    windows: &[Window],
+    run: &[u8],
     source: u16,
     address: u64,
     write: bool,
@@ -54,9 +56,9 @@ pub fn memory_request(
         address,
         write,
     };
-    match Unit::new(registers) {
-        Some(unit) => unit.answer(image, request),
-        None => MemoryAnswer::Refused(1),
+    match (Unit::new(registers), Memory::new(windows, run)) {
+        (Some(unit), Some(memory)) => unit.answer(memory, request),
+        _ => MemoryAnswer::Refused(1),
     }
 }
 
@@ -65,7 +67,7 @@ impl Unit<'_> {
     #[inline(never)]
     pub fn memory_request(
         &self,
-        image: &[u8],
+        memory: Memory,
         source: u16,
         address: u64,
         write: bool,
@@ -75,11 +77,19 @@ impl Unit<'_> {
             address,
             write,
         };
-        self.answer(image, request)
+        self.answer(memory, request)
     }
 
-    #[inline]
-    fn answer(&self, image: &[u8], request: Request) -> MemoryAnswer {
+    #[inline(always)]
+    fn answer(&self, memory: Memory, request: Request) -> MemoryAnswer {
+        match Single::of(memory) {
+            Some(window) => self.answer_over(window, request),
+            None => self.answer_over(memory, request),
+        }
+    }
+
+    #[inline(always)]
+    fn answer_over(&self, memory: impl Entries, request: Request) -> MemoryAnswer {
         if in_interrupt_range(request.address) {
             return MemoryAnswer::Refused(2);
         }
@@ -87,7 +97,7 @@ impl Unit<'_> {
             return MemoryAnswer::Granted(request.address);
         }
         let mut fpd = false;
-        match self.translate(image, request, &mut fpd) {
+        match self.translate(memory, request, &mut fpd) {
             Ok(host) => MemoryAnswer::Granted(host),
             Err(Stop::OnInterrupts) => MemoryAnswer::Refused(4),
             Err(Stop::Fault(reason, entry)) => {
@@ -105,12 +115,17 @@ impl Unit<'_> {
 
     /// The host address, or the reason why there is none.
     #[inline(always)]
-    fn translate(&self, image: &[u8], request: Request, fpd: &mut bool) -> Result<u64, Stop> {
+    fn translate(
+        &self,
+        memory: impl Entries,
+        request: Request,
+        fpd: &mut bool,
+    ) -> Result<u64, Stop> {
         let bus = u64::from(request.source >> 8);
         let devfn = u64::from(request.source & 0xFF);
 
         let root = self.registers.root_table + 16 * bus;
-        let (low, high) = pair(image, root).ok_or(Stop::Fault(0x08, root))?;
+        let (low, high) = pair(memory, root).ok_or(Stop::Fault(0x08, root))?;
         if low & 1 == 0 {
             return Err(Stop::Fault(0x01, root));
         }
@@ -119,7 +134,7 @@ impl Unit<'_> {
         }
 
         let context = (low & !0xFFF) + 16 * devfn;
-        let (low, high) = pair(image, context).ok_or(Stop::Fault(0x09, context))?;
+        let (low, high) = pair(memory, context).ok_or(Stop::Fault(0x09, context))?;
         *fpd = low & 2 != 0;
         if low & 1 == 0 {
             return Err(Stop::Fault(0x02, context));
@@ -140,11 +155,17 @@ impl Unit<'_> {
         if kind == 2 {
             return Ok(request.address);
         }
-        self.walk(image, request, low & !0xFFF, levels)
+        self.walk(memory, request, low & !0xFFF, levels)
     }
 
     #[inline(always)]
-    fn walk(&self, image: &[u8], request: Request, top: u64, levels: u32) -> Result<u64, Stop> {
+    fn walk(
+        &self,
+        memory: impl Entries,
+        request: Request,
+        top: u64,
+        levels: u32,
+    ) -> Result<u64, Stop> {
         let (right, denied) = if request.write {
             (WRITE, 0x05)
         } else {
@@ -156,7 +177,7 @@ impl Unit<'_> {
         loop {
             let index = request.address >> shift & 0x1FF;
             let at = table + 8 * index;
-            let entry = word(image, at).ok_or(Stop::Fault(0x07, at))?;
+            let entry = word(memory, at).ok_or(Stop::Fault(0x07, at))?;
             if entry & (READ | WRITE) == 0 {
                 return Err(Stop::Fault(denied, at));
             }

@@ -1,11 +1,16 @@
 //! The ordinary translator against the reference, over part of each suite.
 
-use cases::{Request, World, SUITES};
-use ordinary::{Fault, InterruptAnswer, MemoryAnswer, Registers, Unit};
-use reference::{Notice, Outcome};
+use cases::{Request, Suite, World, SUITES};
+use ordinary::{Fault, InterruptAnswer, Memory, MemoryAnswer, MemoryMut, Registers, Unit, Window};
+use reference::{interrupt_request_in, memory_request_in, Notice, Outcome, Slip};
 
-/// Of each suite, one world in so many.
-const PART: usize = 16;
+/// Of each suite, one world in so many; of windows, which unsafe code rests on, every second.
+fn part(suite: &Suite) -> usize {
+    match suite.name {
+        "windows" => 2,
+        _ => 16,
+    }
+}
 
 /// Cases at the least.
 const CASES: u64 = 500_000;
@@ -76,10 +81,20 @@ fn interrupt(answer: InterruptAnswer) -> Outcome {
     }
 }
 
-/// Puts one request to both, and to the unit whose registers were checked before.
+fn windows(windows: &[reference::Window]) -> Vec<Window> {
+    let ours = windows.iter().map(|window| Window {
+        start: window.start,
+        offset: window.from,
+        length: window.length,
+    });
+    ours.collect()
+}
+
+/// Puts one request to both, and to the unit whose registers and windows were checked before.
 fn compare(world: &World, request: &Request, ours: &mut Vec<u8>, theirs: &mut [u8]) {
     let (r, registers) = (&world.registers, registers(&world.registers));
-    let unit = Unit::new(&registers);
+    let (shown, windows) = (&world.windows, windows(&world.windows));
+    let (unit, none) = (Unit::new(&registers), Slip::None);
     let (answer, again, expected) = match *request {
         Request::Memory {
             source,
@@ -87,10 +102,11 @@ fn compare(world: &World, request: &Request, ours: &mut Vec<u8>, theirs: &mut [u
             write,
         } => (
             memory(ordinary::memory_request(
-                &registers, ours, source, address, write,
+                &registers, &windows, ours, source, address, write,
             )),
-            unit.map(|unit| memory(unit.memory_request(ours, source, address, write))),
-            reference::memory_request(r, theirs, source, address, write),
+            unit.zip(Memory::new(&windows, ours))
+                .map(|(unit, shown)| memory(unit.memory_request(shown, source, address, write))),
+            memory_request_in(none, r, shown, theirs, source, address, write),
         ),
         Request::Interrupt {
             source,
@@ -98,10 +114,13 @@ fn compare(world: &World, request: &Request, ours: &mut Vec<u8>, theirs: &mut [u
             data,
         } => {
             let mut copy = ours.clone();
-            let again = unit
-                .map(|unit| interrupt(unit.interrupt_request(&mut copy, source, address, data)));
-            let answer = ordinary::interrupt_request(&registers, ours, source, address, data);
-            let expected = reference::interrupt_request(r, theirs, source, address, data);
+            let checked = unit.zip(MemoryMut::new(&windows, &mut copy));
+            let again = checked.map(|(unit, mut memory)| {
+                interrupt(unit.interrupt_request(&mut memory, source, address, data))
+            });
+            let answer =
+                ordinary::interrupt_request(&registers, &windows, ours, source, address, data);
+            let expected = interrupt_request_in(none, r, shown, theirs, source, address, data);
             if again.is_some() {
                 assert!(copy == *ours, "{r:X?} {request:X?}");
             }
@@ -122,7 +141,7 @@ fn the_same_answers() {
     let mut world = World::new();
     let mut cases = 0;
     for suite in SUITES {
-        for number in (0..suite.worlds).step_by(PART) {
+        for number in (0..suite.worlds).step_by(part(suite)) {
             (suite.build)(number, &mut world);
             let mut ours = world.image.clone();
             let mut theirs = world.image.clone();

@@ -32,6 +32,6 @@ fn length(number: u64) -> u64 {
 
 fn build(number: u64, world: &mut World) {
     bench::image(world, bench::REGISTERS);
-    world.image.truncate(length(number) as usize);
+    world.truncate(length(number));
     bench::requests(world);
 }

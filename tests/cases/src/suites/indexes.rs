@@ -59,6 +59,6 @@ fn build(number: u64, world: &mut World) {
     }
     // One byte short, the last entry can't be fetched.
     if digits.flag() {
-        world.image.truncate(world.image.len() - 1);
+        world.truncate(world.length() - 1);
     }
 }

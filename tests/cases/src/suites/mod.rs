@@ -12,6 +12,7 @@ mod rights;
 mod self_referring;
 mod table_bounds;
 mod walks;
+mod windows;
 
 use crate::world::World;
 
@@ -40,6 +41,7 @@ pub const SUITES: &[Suite] = &[
     interrupts::SUITE,
     indexes::SUITE,
     both::SUITE,
+    windows::SUITE,
 ];
 
 /// Digits of a number in mixed bases, the lowest first: a number of a suite as a point of a grid.
