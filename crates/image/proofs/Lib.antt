@@ -1,6 +1,7 @@
 pub mod Bytes
 pub mod Choices
 pub mod Fields
+pub mod FlatWindow
 pub mod Forks
 pub mod Isolated
 pub mod Local
@@ -15,6 +16,7 @@ pub mod Trees
 pub mod Unfetched
 pub mod WordFields
 pub mod GoodWindows
+pub mod WindowBytes
 pub mod WindowEntries
 pub mod WindowRows
 pub mod Words

@@ -34,17 +34,17 @@ spot-in run (w ∷ ws) size at {place} {left} g h = go (holdsAll w size at) refl
     go false e h rest = rest h
 
 -- nothing is spotted before every window
-unfoldable AllFrom : ℕ → List Window → Type 0
+unfoldable pub AllFrom : ℕ → List Window → Type 0
 AllFrom from [] = Unit {0}
 AllFrom from (w ∷ ws) = (from < w .start) × AllFrom from ws
 
-spot-none : (ws : List Window) (size at : ℕ) → AllFrom at ws → spotIn ws size at ≡ nowhere
+pub spot-none : (ws : List Window) (size at : ℕ) → AllFrom at ws → spotIn ws size at ≡ nowhere
 unfolding spotIn AllFrom
 spot-none [] size at h = refl
 spot-none (w ∷ ws) size at h = rw (before-it w size at (h .0)) (spot-none ws size at (h .1))
 
 -- the windows after one that ends behind an address begin behind it too, and behind all of that address's page
-all-after : (w : Window) (ws : List Window) (at : ℕ) → GoodWithAll w ws → at < endOf w → AllFrom at ws
+pub all-after : (w : Window) (ws : List Window) (at : ℕ) → GoodWithAll w ws → at < endOf w → AllFrom at ws
 unfolding GoodWithAll AllFrom
 all-after w [] at after h = tt
 all-after w (v ∷ vs) at after h = (omega (arith, after .0 .sorted), all-after w vs at (after .1) h)

@@ -191,8 +191,8 @@ pub fn place64(windows: &[u64], run: usize, at: u64) -> usize
     ensures { λ r. ⌜ r ≡ onSpot (spotIn (windowsOf (now (windows .entry))) 64 at) 0 (λ place left. place) ⌝ }
 {
     let part = part_from(windows, run, at);
-    if part.size < 64 {
-        return 0;
+    if 64 <= part.size {
+        return part.place;
     }
-    part.place
+    0
 }
