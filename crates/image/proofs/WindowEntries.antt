@@ -283,3 +283,32 @@ module _ (numbers run : List ℕ) (fine : badWindows numbers (length run) ≡ fa
     unfolding entryIn
     part-missing short =
         sym (single numbers run fine n at page ∙ rw (part-nowhere numbers (length run) fine at starts has (8 * suc n) (omega arith) short))
+
+-- what an entry that was fetched tells of its place, and one that couldn't be
+pub record WholeAt (numbers run : List ℕ) (size at e : ℕ) : Type 0 where
+  pub place : ℕ
+  pub left : ℕ
+  pub spot : spotIn (windowsOf numbers) size at ≡ here place left
+  pub inRun : place + size ≤ length run
+  pub number : e ≡ littleEndian (take size (drop place run))
+
+module _ (numbers run : List ℕ) (fine : badWindows numbers (length run) ≡ false) (n at : ℕ) (page : at % 4096 + 8 * suc n ≤ 4096) where
+  pub whole-at : {e : ℕ} → entry (suc n) (ofWindows numbers run) at ≡ found e → WholeAt numbers run (8 * suc n) at e
+  unfolding entryIn
+  whole-at {e} h = go (spotIn (windowsOf numbers) (8 * suc n) at) refl (sym (single numbers run fine n at page) ∙ h)
+    where
+      go : (spot : Spot) → spotIn (windowsOf numbers) (8 * suc n) at ≡ spot
+          → onSpot spot missing (λ place left. found (littleEndian (take (8 * suc n) (drop place run)))) ≡ found e
+          → WholeAt numbers run (8 * suc n) at e
+      go nowhere is h = let z : _≡_ {A = ℕ} 0 1 = cc in absurd (omega arith)
+      go (here k l) is h =
+          let lies = spot-in (length run) (windowsOf numbers) (8 * suc n) at (good numbers (length run) fine) is in
+          record { place = k; left = l; spot = is; inRun = omega (arith, lies .0, lies .1); number = cc }
+
+  pub not-whole : entry (suc n) (ofWindows numbers run) at ≡ missing → spotIn (windowsOf numbers) (8 * suc n) at ≡ nowhere
+  unfolding entryIn
+  not-whole h = go (spotIn (windowsOf numbers) (8 * suc n) at) (sym (single numbers run fine n at page) ∙ h)
+    where
+      go : (spot : Spot) → onSpot spot missing (λ place left. found (littleEndian (take (8 * suc n) (drop place run)))) ≡ missing → spot ≡ nowhere
+      go nowhere h = refl
+      go (here k l) h = let z : _≡_ {A = ℕ} 0 1 = cc in absurd (omega arith)
