@@ -10,7 +10,7 @@ use lib.Dec.{leb, ltb}
 use lib.ListN.{length, take, drop}
 use Rattle.image.specs.Choice.{if_then_else_}
 use Rattle.image.specs.Memory.{missing, found, wordAt, ofImage}
-use Rattle.image.specs.Windows.{Window, windowsOf, holdsAll, spotIn, onSpot, entryIn, ofWindows, badWithAny, badList, badWindows, flat}
+use Rattle.image.specs.Windows.{Window, windowsOf, holdsAll, nowhere, here, spotIn, onSpot, entryIn, ofWindows, badWithAny, badList, badWindows, flat}
 use Rattle.image.proofs.GoodWindows.{holding, past-it, window-good}
 
 abbrev all : ℕ → Window
@@ -18,7 +18,7 @@ all n = record { start = 0; place = 0; size = n }
 
 module _ (run : List ℕ) (at : ℕ) where
   in-all : Dec (at + 8 ≤ length run)
-      → onSpot (if holdsAll (all (length run)) 8 at then Rattle.image.specs.Windows.here (0 + (at - 0)) (0 + length run - at) else Rattle.image.specs.Windows.nowhere)
+      → onSpot (if holdsAll (all (length run)) 8 at then here (0 + (at - 0)) (0 + length run - at) else nowhere)
       missing (λ place left. found (wordAt run place))
       ≡ (if leb (at + 8) (length run) then found (wordAt run at) else missing)
   in-all (yes h) =

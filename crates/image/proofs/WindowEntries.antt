@@ -6,6 +6,8 @@ use mathlib.Core.Path.{_≡_, refl, ap, sym, _∙_}
 use mathlib.Core.List.{List, [], _∷_}
 use native.Mathlib.Omega.{arith}
 use native.Mathlib.Decide.{decLe}
+use borrow.Author.Tests.{le-leb, lt-leb}
+use lib.Dec.{leb}
 use lib.ListN.{length, take, drop, length-take}
 use Rattle.image.specs.Bytes.{littleEndian}
 use Rattle.image.specs.Choice.{if_then_else_}
@@ -58,21 +60,21 @@ next-page run w (v ∷ vs) at size a g after h page in-it =
 
 -- where so many bytes stand, by where the first of them stands
 pub wider : (run : ℕ) (ws : List Window) (size at : ℕ) → Good ws run → 0 < size
-    → spotIn ws size at ≡ onSpot (spotIn ws 1 at) nowhere (λ place left. if lib.Dec.leb size left then here place left else nowhere)
+    → spotIn ws size at ≡ onSpot (spotIn ws 1 at) nowhere (λ place left. if leb size left then here place left else nowhere)
 unfolding spotIn Good
 wider run [] size at g some = refl
 wider run (w ∷ ws) size at g some = go (decLe (w .start) at) (decLe (at + 1) (endOf w)) (decLe (at + size) (endOf w)) (wider run ws size at (g .2) some)
   where
     all : List Window → Type 0
-    all l = spotIn l size at ≡ onSpot (spotIn l 1 at) nowhere (λ place left. if lib.Dec.leb size left then here place left else nowhere)
+    all l = spotIn l size at ≡ onSpot (spotIn l 1 at) nowhere (λ place left. if leb size left then here place left else nowhere)
 
     go : Dec (w .start ≤ at) → Dec (at + 1 ≤ endOf w) → Dec (at + size ≤ endOf w) → all ws → all (w ∷ ws)
     go (no from) one to rest = rw (before-it w size at (omega arith), before-it w 1 at (omega arith)) rest
     go (yes from) (no one) to rest = rw (past-it w size at (omega arith), past-it w 1 at (omega arith)) rest
     go (yes from) (yes one) (yes to) rest =
-        rw (holding w size at from to, holding w 1 at from one, borrow.Author.Tests.le-leb size (endOf w - at) (omega arith))
+        rw (holding w size at from to, holding w 1 at from one, le-leb size (endOf w - at) (omega arith))
     go (yes from) (yes one) (no to) rest =
-        rw (past-it w size at (omega arith), holding w 1 at from one, borrow.Author.Tests.lt-leb size (endOf w - at) (omega arith))
+        rw (past-it w size at (omega arith), holding w 1 at from one, lt-leb size (endOf w - at) (omega arith))
         (spot-none ws size at (all-after w ws at (g .1) (omega arith)))
 
 -- an entry whose words are the same in two memories, and one whose last word is missing
@@ -225,7 +227,7 @@ module _ (numbers : List ℕ) (len : ℕ) (fine : badWindows numbers len ≡ fal
     (has : size ≡ onSpot (spotIn (windowsOf numbers) 1 at) 0 (λ place left. left)) where
   by-first : (n : ℕ) → 0 < n
       → spotIn (windowsOf numbers) n at
-      ≡ onSpot (spotIn (windowsOf numbers) 1 at) nowhere (λ place left. if lib.Dec.leb n left then here place left else nowhere)
+      ≡ onSpot (spotIn (windowsOf numbers) 1 at) nowhere (λ place left. if leb n left then here place left else nowhere)
   by-first n some = wider len (windowsOf numbers) n at (good numbers len fine) some
 
   pub part-in-run : place + size ≤ len
@@ -242,17 +244,17 @@ module _ (numbers : List ℕ) (len : ℕ) (fine : badWindows numbers len ≡ fal
   part-spot n some fits = by-first n some ∙ go (spotIn (windowsOf numbers) 1 at) starts has
     where
       go : (spot : Spot) → place ≡ onSpot spot 0 (λ place left. place) → size ≡ onSpot spot 0 (λ place left. left)
-          → onSpot spot nowhere (λ place left. if lib.Dec.leb n left then here place left else nowhere) ≡ here place size
+          → onSpot spot nowhere (λ place left. if leb n left then here place left else nowhere) ≡ here place size
       go nowhere p q = absurd (omega arith)
-      go (here k l) p q = rw (← p, ← q, borrow.Author.Tests.le-leb n size fits)
+      go (here k l) p q = rw (← p, ← q, le-leb n size fits)
 
   pub part-nowhere : (n : ℕ) → 0 < n → size < n → spotIn (windowsOf numbers) n at ≡ nowhere
   part-nowhere n some short = by-first n some ∙ go (spotIn (windowsOf numbers) 1 at) starts has
     where
       go : (spot : Spot) → place ≡ onSpot spot 0 (λ place left. place) → size ≡ onSpot spot 0 (λ place left. left)
-          → onSpot spot nowhere (λ place left. if lib.Dec.leb n left then here place left else nowhere) ≡ nowhere
+          → onSpot spot nowhere (λ place left. if leb n left then here place left else nowhere) ≡ nowhere
       go nowhere p q = refl
-      go (here k l) p q = rw (← q, borrow.Author.Tests.lt-leb n size short)
+      go (here k l) p q = rw (← q, lt-leb n size short)
 
   pub part-place : (n : ℕ) → 0 < n → n ≤ size → place ≡ onSpot (spotIn (windowsOf numbers) n at) 0 (λ place left. place)
   part-place n some fits = rw (part-spot n some fits)

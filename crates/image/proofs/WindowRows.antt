@@ -5,7 +5,7 @@ use mathlib.Core.Path.{_≡_, refl, ap, sym, _∙_}
 use mathlib.Core.List.{List, [], _∷_}
 use native.Mathlib.Omega.{arith}
 use native.Mathlib.Decide.{decLe}
-use borrow.Author.Tests.{leb-true, le-leb, lt-leb, ltb-false, lt-ltb, le-ltb, eq-eqb, ne-eqb, eqb-true, not-false}
+use borrow.Author.Tests.{leb-true, leb-false, le-leb, lt-leb, ltb-false, lt-ltb, le-ltb, eq-eqb, ne-eqb, eqb-true, not-false}
 use lib.Dec.{leb, ltb, eqb}
 use lib.ListN.{length, drop, drop-of-length-le}
 use Rattle.image.specs.Windows.{Window, windowsOf, windowAt, endOf, badWindow, overlap, badList, badCount, badWindows}
@@ -102,7 +102,7 @@ pub share-is : (w v : Window) → rises w v ≡ false → not (rises v w) ≡ sh
 share-is w v h = go (decLe (v .place + v .size) (w .place))
   where
     before : v .place < w .place + w .size
-    before = borrow.Author.Tests.leb-false _ _ h
+    before = leb-false _ _ h
 
     go : Dec (v .place + v .size ≤ w .place) → not (rises v w) ≡ share w v
     go (yes e) = rw (le-leb (v .place + v .size) (w .place) e, le-ltb (w .place) (v .place + v .size) e)
