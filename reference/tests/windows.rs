@@ -9,7 +9,8 @@ mod common;
 use common::{bench_image, bench_with, fault, get, BENCH, SOURCE};
 use reference::{
     interrupt_request, interrupt_request_in, memory_request, memory_request_in,
-    named_words_interrupt_in, named_words_memory_in, Notice, Outcome, Registers, Slip, Window,
+    named_words_interrupt_in, named_words_memory_in, take_in, Notice, Outcome, Registers, Slip,
+    Take, Window,
 };
 
 const ADDRESS: u64 = 0x4020_1ABC;
@@ -40,12 +41,19 @@ fn switches() -> [Registers; 2] {
     [BENCH, off]
 }
 
-/// Whether windows onto a run of 8000h bytes are refusal 1, for memory requests
-/// and for interrupts, with TE and IRE on or off, before number 2.
+/// Whether windows onto a run of 8000h bytes are refusal 1, for memory requests,
+/// interrupts and takes, with TE and IRE on or off, before numbers 2 and 5.
 fn refused(windows: &[Window]) -> bool {
     let mut answers = Vec::new();
     for registers in switches() {
         let mut run = vec![0; 0x8000];
+        for descriptor in [0x1000, 0x1001] {
+            let taken = take_in(&registers, windows, &mut run, descriptor);
+            answers.push(match taken {
+                Take::Refused(number) => Outcome::Refused(number),
+                _ => Outcome::Passed,
+            });
+        }
         for address in [ADDRESS, 0xFEE0_0000] {
             answers.push(read(&registers, windows, &run, address));
             answers.push(ring(&registers, windows, &mut run, address));
@@ -416,4 +424,36 @@ fn posts_stay_in_their_window() {
     expected[0x8020] |= 1;
     assert!(run == expected);
     assert_eq!(get(&run, 0x6400), 0);
+}
+
+/// A take wants its descriptor whole in a single window, and writes there alone; it looks at no HAW, so
+/// that the last descriptor below 2^64 can be taken from.
+#[test]
+fn takes() {
+    let top = 0u64.wrapping_sub(0x1000);
+    // In the run the window at the top comes first, and its last 64 bytes are the descriptor.
+    let windows = [window(0x2000, 0x1000, 0x7F), window(top, 0, 0x1000)];
+    let mut run = vec![0xEE; 0x1100];
+    for (place, host) in [(0x0FC0, 0u64.wrapping_sub(64)), (0x1000, 0x2000)] {
+        run[place..place + 64].fill(0);
+        // Vector 31h, and ON with SN.
+        run[place + 6] = 2;
+        run[place + 32] = 3;
+        let mut expected = run.clone();
+        expected[place + 6] = 0;
+        expected[place + 32] = 2;
+        let taken = take_in(&BENCH, &windows, &mut run, host);
+        assert_eq!(taken, Take::Vector(0x31));
+        assert!(run == expected);
+        let taken = take_in(&BENCH, &windows, &mut run, host);
+        assert_eq!(taken, Take::None);
+        assert!(run == expected);
+    }
+    // One byte short, in a hole, and not aligned.
+    let before = run.clone();
+    for descriptor in [0x2040, 0x2080, 0, 0x3000, 0x2001, u64::MAX] {
+        let taken = take_in(&BENCH, &windows, &mut run, descriptor);
+        assert_eq!(taken, Take::Refused(5), "{descriptor:X}");
+    }
+    assert!(run == before);
 }

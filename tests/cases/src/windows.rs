@@ -188,41 +188,24 @@ pub fn scatter(random: &mut Random, world: &mut World) {
 pub fn spoil(random: &mut Random, world: &mut World) {
     let run = world.length();
     let windows = &mut world.windows;
-    let last = windows.len();
-    let one = random.below(last.max(1) as u64) as usize;
-    let other = random.below(last.max(1) as u64) as usize;
-    match (random.below(12), last) {
-        // One too many, by parts of a window cut into pages, or an empty one or any.
+    let count = windows.len();
+    let one = random.below(count.max(1) as u64) as usize;
+    let other = random.below(count.max(1) as u64) as usize;
+    match (random.below(12), count) {
         (0, _) => five(random, windows),
         (_, 0) => windows.push(odd(random, run)),
         (1, _) => windows[one].start += random.pick(&[1, 8, 64, 2048, 4095]),
         (2, _) => windows[one].length = 0,
-        // Past the run, by one, by much, and so much that a sum wraps.
-        (3, _) => {
-            let past = random.pick(&[1, 8, 4096, 1 << 40, u64::MAX - run]);
-            windows[one].length = (run - windows[one].from).saturating_add(past);
-        }
-        (4, _) => {
-            windows[one].from =
-                random.pick(&[run, run - windows[one].length + 1, u64::MAX, 1 << 63])
-        }
-        (5, _) => {
-            windows[one].from = random.below(run).wrapping_sub(windows[one].length);
-        }
-        // Past 2^64.
-        (6, _) => {
-            let pages = windows[last - 1].length.div_ceil(PAGE);
-            let less = random.below(pages) * PAGE;
-            windows[last - 1].start = 0u64.wrapping_sub(PAGE).saturating_sub(less);
-        }
+        (which @ 3..=5, _) => past_run(random, &mut windows[one], run, which),
+        (6, _) => past_all(random, &mut windows[count - 1]),
         (7, _) => windows.swap(one, other),
-        // Over another in host addresses: with the same start, by whole pages, by some bytes.
+        // Over another in host addresses: with the same start, or reaching into the next.
         (8, _) => windows[one].start = windows[other].start,
         (9, 2..) => {
-            let n = random.below(last as u64 - 1) as usize;
-            let (start, next) = (windows[n].start, windows[n + 1].start);
+            let n = random.below(count as u64 - 1) as usize;
+            let apart = windows[n + 1].start - windows[n].start;
             let more = random.pick(&[0, 1, 2, 8, 4096]);
-            windows[n].length = (next - start).saturating_add(more).min(run);
+            windows[n].length = apart.saturating_add(more).min(run);
         }
         // Over another in the run: wholly, by some bytes, by one.
         (10, _) => windows[one].from = windows[other].from,
@@ -231,6 +214,25 @@ pub fn spoil(random: &mut Random, world: &mut World) {
             windows[one].from = end.saturating_sub(random.pick(&[0, 1, 1, 2, 8]));
         }
     }
+}
+
+/// Moves a window's end past the run: by one, by much, and so far that a sum wraps.
+fn past_run(random: &mut Random, window: &mut Window, run: u64, which: u64) {
+    match which {
+        3 => {
+            let past = random.pick(&[1, 8, 4096, 1 << 40, u64::MAX - run]);
+            window.length = (run - window.from).saturating_add(past);
+        }
+        4 => window.from = random.pick(&[run, run - window.length + 1, u64::MAX, 1 << 63]),
+        _ => window.from = random.below(run).wrapping_sub(window.length),
+    }
+}
+
+/// Moves a window to the last addresses, so that it may end past 2^64.
+fn past_all(random: &mut Random, window: &mut Window) {
+    let pages = window.length.div_ceil(PAGE);
+    let less = random.below(pages) * PAGE;
+    window.start = 0u64.wrapping_sub(PAGE).saturating_sub(less);
 }
 
 /// Any window.
