@@ -1,28 +1,18 @@
--- The stages before the page walk: where their entries are, and what a context entry's check ensures.
+-- The stages before the page walk: where a root entry leads, and what a context entry's check ensures.
 use Prim.Native.Nat.{ℕ, _+_, _-_, _*_, _%_, _≤_, _<_}
 use mathlib.Core.Bool.{Bool, true, false, not, _||_}
 use mathlib.Core.Path.{_≡_, refl, ap, sym, _∙_}
-use mathlib.Core.List.{List}
 use native.Mathlib.Omega.{arith}
 use borrow.Author.Tests.{eqb-true}
 use lib.Dec.{eqb}
-use lib.ListN.{take, drop}
 use Rattle.image.specs.Bits.{bits, bit, inPlace}
 use Rattle.image.specs.Check.{Check, stop, go, onCheck}
 use Rattle.image.specs.Choice.{if_then_else_}
-use Rattle.image.specs.Memory.{Fetched, ofImage, entry}
-use Rattle.image.proofs.Pages.{of-page}
 use Rattle.registers.specs.declared.Registers.{Registers}
 use Rattle.dma.specs.Context.{addressWidth, levelsOf, translationType, widthSupported, contextReserved, contextInvalid, contextOf, contextCheck, Usable}
 use Rattle.dma.specs.Root.{rootReserved, rootCheck}
 use Rattle.dma.specs.declared.context.Context.{Context}
 use Rattle.dma.proofs.Steps.{past}
-
--- an entry taken from its table's page is the one that the rules name
-pub placed : (image : List ℕ) (table k : ℕ) {f : Fetched} → table % 4096 ≡ 0 → k < 256
-    → f ≡ entry 2 (ofImage (take 4096 (drop (table + 16 * k - (table + 16 * k) % 4096) image))) ((table + 16 * k) % 4096)
-    → f ≡ entry 2 (ofImage image) (table + 16 * k)
-placed image table k aligned h fetched = fetched ∙ of-page image 2 (table + 16 * k) (omega arith)
 
 -- the table that a root entry leads to begins a page
 pub root-aligned : (haw e : ℕ) {a : ℕ} → rootCheck haw e ≡ go a → a % 4096 ≡ 0

@@ -2,17 +2,14 @@
 use Prim.Native.Nat.{ℕ, zero, suc, _+_, _-_, _*_, _%_, _<_, _≤_}
 use mathlib.Core.Bool.{Bool, true, false}
 use mathlib.Core.Path.{_≡_, refl, ap, sym, _∙_, subst}
-use mathlib.Core.List.{List}
 use native.Mathlib.Omega.{arith}
 use mathlib.Core.Logic.{_⊎_, ⊎-elim}
-use lib.ListN.{take, drop}
 use Rattle.image.specs.Bits.{bits}
 use Rattle.image.specs.Check.{Check, stop, go, onCheck}
 use Rattle.image.specs.Choice.{if_then_else_}
-use Rattle.image.specs.Memory.{Memory, Fetched, missing, found, ofImage, entry, onFetch}
+use Rattle.image.specs.Memory.{Memory, Fetched, missing, found, entry, onFetch}
 use Rattle.image.specs.Place.{Place, entryAt, lastTried}
 use Rattle.image.specs.Rules.{run}
-use Rattle.image.proofs.Pages.{of-page}
 use Rattle.registers.specs.declared.Registers.{Registers}
 use Rattle.dma.specs.Page.{pageCheck, leafAt}
 use Rattle.dma.specs.Translation.{Translation, leaf, fault, checked, pageStep, pageOver, pageRules}
@@ -23,15 +20,8 @@ use denote.Enum.Declared.{tagOf}
 use Rattle.dma.proofs.page.Step.{the-type}
 use Rattle.dma.specs.declared.page.Step.{Step as StepCode}
 use Rattle.dma.specs.declared.page.Step.the-variants as step
-use Rattle.dma.proofs.Steps.{index-lt, page-frame}
+use Rattle.dma.proofs.Steps.{page-frame}
 use Rattle.dma.proofs.Walks.{walk-step, walk-tried, walk-anew}
-
--- an entry taken from its table's page is the one that the rules name
-pub placed : (image : List ℕ) (address table n : ℕ) {at : ℕ} {f : Fetched} → table % 4096 ≡ 0 → at ≡ placeIn address table n
-    → f ≡ entry 1 (ofImage (take 4096 (drop (at - at % 4096) image))) (at % 4096)
-    → f ≡ entry 1 (ofImage image) (placeIn address table n)
-placed image address table n {at} {f} aligned is fetched =
-    fetched ∙ of-page image 1 at (omega (arith, index-lt address n)) ∙ ap (entry 1 (ofImage image)) is
 
 -- a fault's entry by another name
 pub renamed : (t : TranslationCode) {place place′ : Place} → place ≡ place′ → Names t place → Names t place′
@@ -42,16 +32,16 @@ pub gone : (fpd : Bool) (k : Check ℕ) {frame : ℕ} → down frame tt ≡ chec
 gone fpd (stop reason) h = let z : _≡_ {A = ℕ} 0 1 = cc in absurd (omega arith)
 gone fpd (go a) h = cc
 
-module _ (registers : Registers) (address : ℕ) (write fpd : Bool) (image : List ℕ) (n table : ℕ) where
-  pub unfetched : missing ≡ entry 1 (ofImage image) (placeIn address table n)
-      → done (fault 0x07 fpd) ≡ pageOver registers address write fpd (ofImage image) n table
+module _ (registers : Registers) (address : ℕ) (write fpd : Bool) (m : Memory) (n table : ℕ) where
+  pub unfetched : missing ≡ entry 1 m (placeIn address table n)
+      → done (fault 0x07 fpd) ≡ pageOver registers address write fpd m n table
   unfolding stepOver
   unfetched h = rw (← h)
 
-  module _ {e : ℕ} (h : found e ≡ entry 1 (ofImage image) (placeIn address table n)) where
+  module _ {e : ℕ} (h : found e ≡ entry 1 m (placeIn address table n)) where
     -- a check that is no go-ahead: Down is variant 0
     pub stopped : (r : StepCode) → (tagOf the-type r ≡ 1) ⊎ (tagOf the-type r ≡ 2) → stepOf r ≡ checked fpd (pageCheck registers write (suc n) e)
-        → stepOf r ≡ pageOver registers address write fpd (ofImage image) n table
+        → stepOf r ≡ pageOver registers address write fpd m n table
     unfolding stepOver
     stopped r other told = rw (← h) (on r (pageCheck registers write (suc n) e) other told)
       where
@@ -65,11 +55,11 @@ module _ (registers : Registers) (address : ℕ) (write fpd : Bool) (image : Lis
 
     module _ {frame : ℕ} (told : go frame ≡ pageCheck registers write (suc n) e) where
       pub at-leaf : leafAt (suc n) e ≡ true
-          → done (leaf frame (suc n)) ≡ pageOver registers address write fpd (ofImage image) n table
+          → done (leaf frame (suc n)) ≡ pageOver registers address write fpd m n table
       unfolding stepOver
       at-leaf page = rw (← h, ← told, page)
 
-      pub at-table : leafAt (suc n) e ≡ false → down frame tt ≡ pageOver registers address write fpd (ofImage image) n table
+      pub at-table : leafAt (suc n) e ≡ false → down frame tt ≡ pageOver registers address write fpd m n table
       unfolding stepOver
       at-table more = rw (← h, ← told, more)
 

@@ -1,11 +1,9 @@
 // Memory requests: untranslated reads and writes, from the root entry to a host address or a fault.
 ghost use mathlib.Core.Path.{_≡_};
-ghost use Rattle.image.specs.Memory.{ofImage};
 ghost use Rattle.image.specs.Place.{Place};
-ghost use Rattle.image.specs.Rules.{run};
 ghost use Rattle.dma.specs.Answers.{outcomeOf, entryOf, translationOf, Names};
 ghost use Rattle.dma.specs.Translation.{leaf, Reachable};
-ghost use Rattle.dma.specs.Requests.{memoryOutcome, memoryRules, concerned, memoryPlace};
+ghost use Rattle.dma.specs.Requests.{memoryOutcome, concerned, memoryAnswer, memoryAnswerPlace};
 
 mod context;
 mod entry;
@@ -18,6 +16,7 @@ mod walk;
 use faults::Fault;
 use faults::memory_fault;
 pub use image::EntryAddress;
+use image::bad_windows;
 use page::host_address;
 use page::meets_interrupt_range;
 use registers::Admission;
@@ -39,7 +38,7 @@ pub enum MemoryAnswer {
     Granted(u64),
     // With the entry concerned.
     Blocked(Fault, EntryAddress),
-    // By number: 1 bad registers, 2 an address in the interrupt range, 4 a page with a byte in it.
+    // By number: 1 bad registers or windows, 2 an address in the interrupt range, 4 a page with a byte in it.
     Refused(u8),
 }
 
@@ -71,13 +70,21 @@ fn answer(request: MemoryRequest, translated: Translation) -> MemoryAnswer
 }
 
 // Where a read or a write of a device may go.
-pub fn memory_request(registers: Registers, image: &[u8], request: MemoryRequest) -> MemoryAnswer
-    ensures { λ r. ⌜ outcomeOf r ≡ run (memoryRules registers request) (ofImage (now (image .entry))) ⌝ }
-    ensures { λ r. ⌜ entryOf r ≡ memoryPlace registers request (ofImage (now (image .entry))) ⌝ }
+pub fn memory_request(
+    registers: Registers,
+    windows: &[u64],
+    image: &[u8],
+    request: MemoryRequest,
+) -> MemoryAnswer
+    ensures { λ r. ⌜ outcomeOf r ≡ memoryAnswer registers request (now (windows .entry)) (now (image .entry)) ⌝ }
+    ensures { λ r. ⌜ entryOf r ≡ memoryAnswerPlace registers request (now (windows .entry)) (now (image .entry)) ⌝ }
 {
+    if bad_windows(windows, image.len()) {
+        return MemoryAnswer::Refused(1);
+    }
     match admit(registers, in_interrupt_range(request.address), registers.te) {
         Admission::Refused(number) => MemoryAnswer::Refused(number),
         Admission::Passed => MemoryAnswer::Granted(request.address),
-        Admission::Taken => answer(request, translate(image, registers, request)),
+        Admission::Taken => answer(request, translate(windows, image, registers, request)),
     }
 }

@@ -1,10 +1,11 @@
 // From the root entry to a source's context.
 ghost use mathlib.Core.Bool.{false};
 ghost use mathlib.Core.Path.{_≡_};
+ghost use lib.ListN.{length};
 ghost use Prim.Native.Nat.{_+_, _*_, _%_};
-ghost use Rattle.image.specs.Memory.{ofImage};
 ghost use Rattle.image.specs.Place.{entryAt, stoppedAt};
 ghost use Rattle.image.specs.Rules.{run, answer};
+ghost use Rattle.image.specs.Windows.{ofWindows, badWindows};
 ghost use Rattle.registers.specs.Source.{devfnOf};
 ghost use Rattle.dma.specs.Answers.{checkOf, checkPlace, lookupOf, lookupPlace};
 ghost use Rattle.dma.specs.Lookup.{context, noContext, stoppedLookup, contextRules, lookupRules};
@@ -14,7 +15,7 @@ use crate::entry::Check;
 use crate::root::root_check;
 use faults::Reason;
 use image::Found16;
-use image::flat_page_entry16;
+use image::page_entry16;
 use registers::Registers;
 use registers::SourceId;
 
@@ -29,32 +30,45 @@ fn stopped(check: Check) -> Lookup
     }
 }
 
-fn context_in(image: &[u8], registers: Registers, source: SourceId, table: u64) -> Lookup
-    requires { ⌜ table % 4096 ≡ 0 ⌝ }
-    ensures { λ r. ⌜ lookupOf r ≡ run (contextRules registers noContext (λ c. answer (context c)) (source .id) table) (ofImage (now (image .entry))) ⌝ }
+fn context_in(
+    windows: &[u64],
+    image: &[u8],
+    registers: Registers,
+    source: SourceId,
+    table: u64,
+) -> Lookup
+    requires { ⌜ (badWindows (now windows) (length (now image)) ≡ false) × (table % 4096 ≡ 0) ⌝ }
+    ensures { λ r. ⌜ lookupOf r ≡ run (contextRules registers noContext (λ c. answer (context c)) (source .id) table) (ofWindows (now (windows .entry)) (now (image .entry))) ⌝ }
     ensures { λ r. ⌜ lookupPlace r ≡ entryAt (table + 16 * devfnOf (source .id)) ⌝ }
 {
     let devfn = source.devfn();
-    let at = table + 16 * devfn as u64;
-    let Found16::Entry(e) = flat_page_entry16(image, at) else {
+    let offset = 16 * devfn as u64;
+    let at = table + offset;
+    let Found16::Entry(e) = page_entry16(windows, image, table, offset) else {
         return Lookup::Fault(Reason::ContextAccess, false, at);
     };
     context_check(registers, at, e)
 }
 
-pub(crate) fn find_context(image: &[u8], registers: Registers, source: SourceId) -> Lookup
-    requires { ⌜ registers .«root_table» % 4096 ≡ 0 ⌝ }
-    ensures { λ r. ⌜ lookupOf r ≡ run (lookupRules registers (source .id)) (ofImage (now (image .entry))) ⌝ }
-    ensures { λ r. ⌜ lookupPlace r ≡ stoppedAt (lookupRules registers (source .id)) (ofImage (now (image .entry))) ⌝ }
+pub(crate) fn find_context(
+    windows: &[u64],
+    image: &[u8],
+    registers: Registers,
+    source: SourceId,
+) -> Lookup
+    requires { ⌜ (badWindows (now windows) (length (now image)) ≡ false) × (registers .«root_table» % 4096 ≡ 0) ⌝ }
+    ensures { λ r. ⌜ lookupOf r ≡ run (lookupRules registers (source .id)) (ofWindows (now (windows .entry)) (now (image .entry))) ⌝ }
+    ensures { λ r. ⌜ lookupPlace r ≡ stoppedAt (lookupRules registers (source .id)) (ofWindows (now (windows .entry)) (now (image .entry))) ⌝ }
 {
     let bus = source.bus();
-    let at = registers.root_table + 16 * bus as u64;
-    let Found16::Entry(e) = flat_page_entry16(image, at) else {
+    let offset = 16 * bus as u64;
+    let at = registers.root_table + offset;
+    let Found16::Entry(e) = page_entry16(windows, image, registers.root_table, offset) else {
         return Lookup::Fault(Reason::RootAccess, false, at);
     };
     let check = root_check(registers.haw, at, e);
     let Check::Go(table) = check else {
         return stopped(check);
     };
-    context_in(image, registers, source, table)
+    context_in(windows, image, registers, source, table)
 }

@@ -1,9 +1,11 @@
 // A page entry: 8 bytes, at a level from 5 down to 1.
+ghost use mathlib.Core.Bool.{false};
 ghost use mathlib.Core.Path.{_≡_};
+ghost use lib.ListN.{length};
 ghost use Prim.Native.Nat.{_+_, _*_, _-_, _%_, _^_, _<_, _≤_};
 ghost use Rattle.image.specs.Bits.{bits};
-ghost use Rattle.image.specs.Memory.{ofImage};
 ghost use Rattle.image.specs.Place.{entryAt};
+ghost use Rattle.image.specs.Windows.{ofWindows, badWindows};
 ghost use Rattle.dma.specs.InterruptRange.{meetsInterruptRange, spanAt};
 ghost use Rattle.dma.specs.Page.{denied, ownRight, leafAt, pageReserved, pageCheck, hostAddress};
 ghost use Rattle.faults.specs.Reason.{numberOf};
@@ -14,8 +16,8 @@ use crate::MemoryRequest;
 use faults::Reason;
 use image::Found8;
 use image::field;
-use image::flat_page_entry8;
 use image::in_place;
+use image::page_entry8;
 use registers::Page1G;
 use registers::Page4K;
 use registers::Registers;
@@ -94,6 +96,7 @@ fn page_check(registers: Registers, write: bool, fpd: bool, level: u32, at: u64,
 
 // One level of the walk: below is how many levels come after it.
 pub(crate) fn page_step(
+    windows: &[u64],
     image: &[u8],
     registers: Registers,
     request: MemoryRequest,
@@ -101,14 +104,14 @@ pub(crate) fn page_step(
     below: u32,
     table: u64,
 ) -> Step
-    requires { ⌜ (below < 5) × (table % 4096 ≡ 0) ⌝ }
-    ensures { λ r. ⌜ stepOf r ≡ pageOver registers (request .address) (request .write) fpd (ofImage (now (image .entry))) below table ⌝ }
+    requires { ⌜ (badWindows (now windows) (length (now image)) ≡ false) × (below < 5) × (table % 4096 ≡ 0) ⌝ }
+    ensures { λ r. ⌜ stepOf r ≡ pageOver registers (request .address) (request .write) fpd (ofWindows (now (windows .entry)) (now (image .entry))) below table ⌝ }
     ensures { λ r. ⌜ StepNames r (entryAt (placeIn (request .address) table below)) ⌝ }
 {
     let address = request.address;
-    let index = (address >> (Page4K::SHIFT + 9 * below)) % 512;
-    let at = table + 8 * index;
-    let Found8::Entry(e) = flat_page_entry8(image, at) else {
+    let offset = 8 * ((address >> (Page4K::SHIFT + 9 * below)) % 512);
+    let at = table + offset;
+    let Found8::Entry(e) = page_entry8(windows, image, table, offset) else {
         return Step::Fault(Reason::PageEntryAccess, fpd, at);
     };
     let level = below + 1;

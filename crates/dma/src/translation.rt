@@ -1,10 +1,12 @@
 // From the root entry to a page or a fault.
+ghost use mathlib.Core.Bool.{false};
 ghost use mathlib.Core.Path.{_≡_};
+ghost use lib.ListN.{length};
 ghost use Prim.Native.Nat.{_%_, min};
 ghost use Rattle.dma.specs.Context.{Usable};
-ghost use Rattle.image.specs.Memory.{ofImage};
 ghost use Rattle.image.specs.Place.{entryAt, lastTried, stoppedAt};
 ghost use Rattle.image.specs.Rules.{run};
+ghost use Rattle.image.specs.Windows.{ofWindows, badWindows};
 ghost use Rattle.dma.specs.Answers.{lookupOf, lookupPlace, translationOf, Names};
 ghost use Rattle.dma.specs.Translation.{withoutContext, widthRules, translationRules};
 use crate::MemoryRequest;
@@ -34,15 +36,16 @@ fn smaller(a: u32, b: u32) -> u32
 
 // In a context, whose entry is at an address: the width, then pass-through or the walk.
 fn translate_in(
+    windows: &[u64],
     image: &[u8],
     registers: Registers,
     request: MemoryRequest,
     context: Context,
     at: u64,
 ) -> Translation
-    requires { ⌜ Usable context ⌝ }
-    ensures { λ r. ⌜ translationOf r ≡ run (widthRules registers (request .address) (request .write) context) (ofImage (now (image .entry))) ⌝ }
-    ensures { λ r. ⌜ Names r (lastTried (entryAt at) (widthRules registers (request .address) (request .write) context) (ofImage (now (image .entry)))) ⌝ }
+    requires { ⌜ (badWindows (now windows) (length (now image)) ≡ false) × Usable context ⌝ }
+    ensures { λ r. ⌜ translationOf r ≡ run (widthRules registers (request .address) (request .write) context) (ofWindows (now (windows .entry)) (now (image .entry))) ⌝ }
+    ensures { λ r. ⌜ Names r (lastTried (entryAt at) (widthRules registers (request .address) (request .write) context) (ofWindows (now (windows .entry)) (now (image .entry)))) ⌝ }
 {
     let levels = context.levels;
     if at_or_above_power(
@@ -54,7 +57,15 @@ fn translate_in(
     if context.translation_type == 2 {
         return Translation::Through;
     }
-    walk(image, registers, request, context.fpd, levels, context.top)
+    walk(
+        windows,
+        image,
+        registers,
+        request,
+        context.fpd,
+        levels,
+        context.top,
+    )
 }
 
 // A lookup that found no context, told as a translation. The other arm is never taken.
@@ -68,14 +79,19 @@ fn without_context(found: Lookup) -> Translation
     }
 }
 
-pub(crate) fn translate(image: &[u8], registers: Registers, request: MemoryRequest) -> Translation
-    requires { ⌜ registers .«root_table» % 4096 ≡ 0 ⌝ }
-    ensures { λ r. ⌜ translationOf r ≡ run (translationRules registers (request .address) (request .write) (request .source .id)) (ofImage (now (image .entry))) ⌝ }
-    ensures { λ r. ⌜ Names r (stoppedAt (translationRules registers (request .address) (request .write) (request .source .id)) (ofImage (now (image .entry)))) ⌝ }
+pub(crate) fn translate(
+    windows: &[u64],
+    image: &[u8],
+    registers: Registers,
+    request: MemoryRequest,
+) -> Translation
+    requires { ⌜ (badWindows (now windows) (length (now image)) ≡ false) × (registers .«root_table» % 4096 ≡ 0) ⌝ }
+    ensures { λ r. ⌜ translationOf r ≡ run (translationRules registers (request .address) (request .write) (request .source .id)) (ofWindows (now (windows .entry)) (now (image .entry))) ⌝ }
+    ensures { λ r. ⌜ Names r (stoppedAt (translationRules registers (request .address) (request .write) (request .source .id)) (ofWindows (now (windows .entry)) (now (image .entry)))) ⌝ }
 {
-    let found = find_context(image, registers, request.source);
+    let found = find_context(windows, image, registers, request.source);
     let Lookup::Found(context, at) = found else {
         return without_context(found);
     };
-    translate_in(image, registers, request, context, at)
+    translate_in(windows, image, registers, request, context, at)
 }

@@ -1,9 +1,11 @@
 // The walk through the page tables, from the top level down.
+ghost use mathlib.Core.Bool.{false};
 ghost use mathlib.Core.Path.{_≡_};
+ghost use lib.ListN.{length};
 ghost use Prim.Native.Nat.{_%_, _<_, _≤_};
-ghost use Rattle.image.specs.Memory.{ofImage};
 ghost use Rattle.image.specs.Place.{Place, lastTried};
 ghost use Rattle.image.specs.Rules.{run};
+ghost use Rattle.image.specs.Windows.{ofWindows, badWindows};
 ghost use Rattle.dma.specs.Answers.{translationOf, Names};
 ghost use Rattle.dma.specs.Translation.{pageRules};
 use crate::MemoryRequest;
@@ -14,6 +16,7 @@ use faults::Reason;
 use registers::Registers;
 
 pub(crate) fn walk(
+    windows: &[u64],
     image: &[u8],
     registers: Registers,
     request: MemoryRequest,
@@ -21,14 +24,14 @@ pub(crate) fn walk(
     levels: u32,
     table: u64,
 ) -> Translation
-    requires { ⌜ (0 < levels) × (levels ≤ 5) × (table % 4096 ≡ 0) ⌝ }
-    ensures { λ r. ⌜ translationOf r ≡ run (pageRules registers (request .address) (request .write) fpd levels table) (ofImage (now (image .entry))) ⌝ }
-    ensures { λ r. ⌜ ((before : Place) → Names r (lastTried before (pageRules registers (request .address) (request .write) fpd levels table) (ofImage (now (image .entry))))) ⌝ }
+    requires { ⌜ (badWindows (now windows) (length (now image)) ≡ false) × (0 < levels) × (levels ≤ 5) × (table % 4096 ≡ 0) ⌝ }
+    ensures { λ r. ⌜ translationOf r ≡ run (pageRules registers (request .address) (request .write) fpd levels table) (ofWindows (now (windows .entry)) (now (image .entry))) ⌝ }
+    ensures { λ r. ⌜ ((before : Place) → Names r (lastTried before (pageRules registers (request .address) (request .write) fpd levels table) (ofWindows (now (windows .entry)) (now (image .entry))))) ⌝ }
 {
     let mut level = levels;
     let mut at = table;
     while 0 < level {
-        let step = page_step(image, registers, request, fpd, level - 1, at);
+        let step = page_step(windows, image, registers, request, fpd, level - 1, at);
         match step {
             Step::Leaf(frame, of) => return Translation::Leaf(frame, of),
             Step::Fault(reason, fpd, entry) => return Translation::Fault(reason, fpd, entry),

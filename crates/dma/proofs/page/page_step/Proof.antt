@@ -6,42 +6,43 @@ use native.Mathlib.Omega.{arith}
 use native.Mathlib.Numerals.{add-one}
 use Rattle.image.specs.Entries.{fetched8}
 use Rattle.image.specs.Check.{go}
-use Rattle.image.specs.Memory.{found, ofImage, entry}
+use Rattle.image.specs.Memory.{found, entry}
 use Rattle.image.specs.Place.{Place, entryAt}
+use Rattle.image.specs.Windows.{ofWindows}
 use Rattle.dma.specs.Answers.{stepOf, StepNames}
 use Rattle.dma.specs.Page.{pageCheck}
 use Rattle.dma.specs.Translation.{checked}
 use Rattle.dma.specs.Walk.{placeIn}
 use Rattle.dma.proofs.Steps.{index-of, index-lt}
-use Rattle.dma.proofs.Stepped.{placed, gone, unfetched, stopped, at-leaf, at-table}
+use Rattle.dma.proofs.Stepped.{gone, unfetched, stopped, at-leaf, at-table}
 use borrow.Author.Needs.{needs}
 use Rattle.dma.proofs.page.page_step.Statement.{statement}
 use Rattle.dma.proofs.page.page_step.Tie as tie
 
-mul-index : tie.Need-mul-index
-mul-index c = search needs
+mul-offset : tie.Need-mul-offset
+mul-offset c = search needs
 
-add-index : tie.Need-add-index
-add-index c = search needs
+add-offset : tie.Need-add-offset
+add-offset c = search needs
 
-cast-index : tie.Need-cast-index
-cast-index c = search needs
+cast-offset : tie.Need-cast-offset
+cast-offset c = search needs
 
-shr-index : tie.Need-shr-index
-shr-index c = search needs
+shr-offset : tie.Need-shr-offset
+shr-offset c = search needs
 
-mul-at : tie.Need-mul-at
-mul-at c =
-    let a = c .before .args in
+mul-offset-2 : tie.Need-mul-offset-2
+mul-offset-2 c =
+    let a = c .before .before .args in
     omega (arith, index-of (a .request .address) (a .below), index-lt (a .request .address) (a .below))
 
 add-at : tie.Need-add-at
 add-at c =
-    let a = c .before .args in
-    omega (arith, c .before .pre .1, index-of (a .request .address) (a .below), index-lt (a .request .address) (a .below))
+    let a = c .before .before .args in
+    omega (arith, c .before .before .pre .2, index-of (a .request .address) (a .below), index-lt (a .request .address) (a .below))
 
-flat-page-entry8-requires : tie.Need-flat-page-entry8-requires
-flat-page-entry8-requires c κs = search needs
+page-entry8-requires : tie.Need-page-entry8-requires
+page-entry8-requires c κs = let p = c .before .before .pre in (p .0, p .2, omega arith, omega arith)
 
 enum-known-e : tie.Need-enum-known-e
 enum-known-e c = search needs
@@ -49,24 +50,24 @@ enum-known-e c = search needs
 enum-told : tie.Need-enum-told
 enum-told c = search needs
 
-at-place : (c : tie.After-flat-page-entry8)
-    → _≡_ {A = ℕ} (c .before .before .args .table + 8 * (c .before .before .args .request .address / 2 ^ (12 + 9 * c .before .before .args .below) % 512))
-    (placeIn (c .before .before .args .request .address) (c .before .before .args .table) (c .before .before .args .below))
+at-place : (c : tie.After-page-entry8)
+    → _≡_ {A = ℕ} (c .before .before .before .args .table + 8 * (c .before .before .before .args .request .address / 2 ^ (12 + 9 * c .before .before .before .args .below) % 512))
+    (placeIn (c .before .before .before .args .request .address) (c .before .before .before .args .table) (c .before .before .before .args .below))
 at-place c =
-    let a = c .before .before .args in
+    let a = c .before .before .before .args in
     ap (λ (i : ℕ). a .table + 8 * i) (index-of (a .request .address) (a .below))
 
-place : (c : tie.After-flat-page-entry8)
-    → fetched8 (c .flat-page-entry8 .result)
-    ≡ entry 1 (ofImage (c .before .before .args .image .now)) (placeIn (c .before .before .args .request .address) (c .before .before .args .table) (c .before .before .args .below))
+place : (c : tie.After-page-entry8)
+    → fetched8 (c .page-entry8 .result)
+    ≡ entry 1 (ofWindows (c .before .before .before .args .windows .now) (c .before .before .before .args .image .now)) (placeIn (c .before .before .before .args .request .address) (c .before .before .before .args .table) (c .before .before .before .args .below))
 place c =
-    let a = c .before .before .args in
-    placed (a .image .now) (a .request .address) (a .table) (a .below) (c .before .before .pre .1) (at-place c) (c .flat-page-entry8 .ensures .0)
+    let a = c .before .before .before .args in
+    c .page-entry8 .ensures .0 ∙ ap (entry 1 (ofWindows (a .windows .now) (a .image .now))) (at-place c)
 
 returns : tie.Need-returns
 returns c =
-    let a = c .before .before .before .before .args in
-    (unfetched (a .registers) (a .request .address) (a .request .write) (a .fpd) (a .image .now) (a .below) (a .table) (sym (ap fetched8 (c .enum-told .given .1)) ∙ place (c .before .before)), ap entryAt (at-place (c .before .before)))
+    let a = c .before .before .before .before .before .args in
+    (unfetched (a .registers) (a .request .address) (a .request .write) (a .fpd) (ofWindows (a .windows .now) (a .image .now)) (a .below) (a .table) (sym (ap fetched8 (c .enum-told .given .1)) ∙ place (c .before .before)), ap entryAt (at-place (c .before .before)))
 
 add-level : tie.Need-add-level
 add-level c = search needs
@@ -82,49 +83,49 @@ is-leaf-requires c κs = search needs
 
 found-at : (c : tie.After-known-told)
     → found (c .before .e .given .0 .0)
-    ≡ entry 1 (ofImage (c .before .before .before .before .before .args .image .now)) (placeIn (c .before .before .before .before .before .args .request .address) (c .before .before .before .before .before .args .table) (c .before .before .before .before .before .args .below))
+    ≡ entry 1 (ofWindows (c .before .before .before .before .before .before .args .windows .now) (c .before .before .before .before .before .before .args .image .now)) (placeIn (c .before .before .before .before .before .before .args .request .address) (c .before .before .before .before .before .before .args .table) (c .before .before .before .before .before .before .args .below))
 found-at c = sym (ap fetched8 (c .before .e .given .1)) ∙ place (c .before .before .before)
 
 told : (c : tie.After-page-check)
     → stepOf (c .page-check .result)
-    ≡ checked (c .before .before .before .before .before .before .args .fpd) (pageCheck (c .before .before .before .before .before .before .args .registers) (c .before .before .before .before .before .before .args .request .write) (suc (c .before .before .before .before .before .before .args .below)) (c .before .before .e .given .0 .0))
-told c = rw (← add-one (c .before .before .before .before .before .before .args .below)) (c .page-check .ensures .0)
+    ≡ checked (c .before .before .before .before .before .before .before .args .fpd) (pageCheck (c .before .before .before .before .before .before .before .args .registers) (c .before .before .before .before .before .before .before .args .request .write) (suc (c .before .before .before .before .before .before .before .args .below)) (c .before .before .e .given .0 .0))
+told c = rw (← add-one (c .before .before .before .before .before .before .before .args .below)) (c .page-check .ensures .0)
 
 went : (c : tie.After-check)
     → go (c .check .given .0 .0)
-    ≡ pageCheck (c .before .before .before .before .before .before .before .before .args .registers) (c .before .before .before .before .before .before .before .before .args .request .write) (suc (c .before .before .before .before .before .before .before .before .args .below)) (c .before .before .before .before .e .given .0 .0)
-went c = gone (c .before .before .before .before .before .before .before .before .args .fpd) _ (sym (ap stepOf (c .check .given .1)) ∙ told (c .before .before))
+    ≡ pageCheck (c .before .before .before .before .before .before .before .before .before .args .registers) (c .before .before .before .before .before .before .before .before .before .args .request .write) (suc (c .before .before .before .before .before .before .before .before .before .args .below)) (c .before .before .before .before .e .given .0 .0)
+went c = gone (c .before .before .before .before .before .before .before .before .before .args .fpd) _ (sym (ap stepOf (c .check .given .1)) ∙ told (c .before .before))
 
 returns-2 : tie.Need-returns-2
 returns-2 c =
-    let a = c .before .before .before .before .before .before .before .args in (
-      stopped (a .registers) (a .request .address) (a .request .write) (a .fpd) (a .image .now) (a .below) (a .table) (found-at (c .before .before)) (c .before .page-check .result) (c .match2 .keys2) (told (c .before)),
+    let a = c .before .before .before .before .before .before .before .before .args in (
+      stopped (a .registers) (a .request .address) (a .request .write) (a .fpd) (ofWindows (a .windows .now) (a .image .now)) (a .below) (a .table) (found-at (c .before .before)) (c .before .page-check .result) (c .match2 .keys2) (told (c .before)),
       subst (λ (p : Place). StepNames (c .before .page-check .result) p) (ap entryAt (at-place (c .before .before .before .before .before))) (c .before .page-check .ensures .1),
     )
 
 returns-3 : tie.Need-returns-3
 returns-3 c =
-    let a = c .before .before .before .before .before .before .before .before .before .before .before .args in
+    let a = c .before .before .before .before .before .before .before .before .before .before .before .before .args in
     let page = sym (c .before .is-leaf .ensures) ∙ c .if1 .taken in
-    (rw (add-one (a .below)) (at-leaf (a .registers) (a .request .address) (a .request .write) (a .fpd) (a .image .now) (a .below) (a .table) (found-at (c .before .before .before .before .before .before)) (went (c .before .before .before)) (rw (add-one (a .below)) at page)), refl)
+    (rw (add-one (a .below)) (at-leaf (a .registers) (a .request .address) (a .request .write) (a .fpd) (ofWindows (a .windows .now) (a .image .now)) (a .below) (a .table) (found-at (c .before .before .before .before .before .before)) (went (c .before .before .before)) (rw (add-one (a .below)) at page)), refl)
 
 returns-4 : tie.Need-returns-4
 returns-4 c =
-    let a = c .before .before .before .before .before .before .before .before .before .before .before .args in
+    let a = c .before .before .before .before .before .before .before .before .before .before .before .before .args in
     let more = sym (c .before .is-leaf .ensures) ∙ c .if1 .left in
-    (at-table (a .registers) (a .request .address) (a .request .write) (a .fpd) (a .image .now) (a .below) (a .table) (found-at (c .before .before .before .before .before .before)) (went (c .before .before .before)) (rw (add-one (a .below)) at more), refl)
+    (at-table (a .registers) (a .request .address) (a .request .write) (a .fpd) (ofWindows (a .windows .now) (a .image .now)) (a .below) (a .table) (found-at (c .before .before .before .before .before .before)) (went (c .before .before .before)) (rw (add-one (a .below)) at more), refl)
 
 pub page-step-spec : {M : Type 1} → statement M
 page-step-spec =
     tie.close
     (tie.spec
-    mul-index
-    add-index
-    cast-index
-    shr-index
-    mul-at
+    mul-offset
+    add-offset
+    cast-offset
+    shr-offset
+    mul-offset-2
     add-at
-    flat-page-entry8-requires
+    page-entry8-requires
     enum-known-e
     enum-told
     returns

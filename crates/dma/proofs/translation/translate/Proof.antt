@@ -1,8 +1,8 @@
 -- The lookup, then what follows a context.
 use mathlib.Core.Path.{_≡_, refl, ap, sym, _∙_, subst}
-use Rattle.image.specs.Memory.{ofImage}
 use Rattle.image.specs.Place.{noEntry, lastTried, stoppedAt}
 use Rattle.image.specs.Rules.{run}
+use Rattle.image.specs.Windows.{ofWindows}
 use Rattle.dma.specs.Answers.{lookupOf, lookupPlace}
 use Rattle.dma.specs.Lookup.{Lookup, context, noContext, onLookup, lookupRules}
 use Rattle.dma.specs.Translation.{fault, widthRules}
@@ -13,7 +13,7 @@ use Rattle.dma.proofs.translation.translate.Statement.{statement}
 use Rattle.dma.proofs.translation.translate.Tie as tie
 
 find-context-requires : tie.Need-find-context-requires
-find-context-requires c κs = c .before .pre
+find-context-requires c κs = c .before .before .pre
 
 enum-known-found : tie.Need-enum-known-found
 enum-known-found c = search needs
@@ -26,14 +26,15 @@ without-context-requires c κs = search needs
 
 translate-in-requires : tie.Need-translate-in-requires
 translate-in-requires c κs =
-    let a = c .before .before .before .before .before .args in
-    subst Finds (sym (c .before .before .before .find-context .ensures .0) ∙ ap lookupOf (c .before .found .given .1)) (finds (a .registers) (a .request .source .id) (ofImage (a .image .now)))
+    let k = c .before .before .before .before .before .before in
+    let a = k .args in
+    (k .pre .0, subst Finds (sym (c .before .before .before .find-context .ensures .0) ∙ ap lookupOf (c .before .found .given .1)) (finds (a .registers) (a .request .source .id) (ofWindows (a .windows .now) (a .image .now))))
 
 returns : tie.Need-returns
 returns c =
-    let a = c .before .before .before .before .before .args in
+    let a = c .before .before .before .before .before .before .args in
     let next = widthRules (a .registers) (a .request .address) (a .request .write) in
-    let m = ofImage (a .image .now) in
+    let m = ofWindows (a .windows .now) (a .image .now) in
     let found = sym (c .before .before .before .find-context .ensures .0) ∙ ap lookupOf (c .before .enum-told .given .1) in
     let stopped = looked-up-at (a .registers) fault next m (a .request .source .id) noEntry in (
       c .without-context .ensures .0 ∙ rw (looked-up (a .registers) fault next m (a .request .source .id), found, c .before .enum-told .given .1),
@@ -42,9 +43,9 @@ returns c =
 
 returns-2 : tie.Need-returns-2
 returns-2 c =
-    let a = c .before .before .before .before .before .before .args in
+    let a = c .before .before .before .before .before .before .before .args in
     let next = widthRules (a .registers) (a .request .address) (a .request .write) in
-    let m = ofImage (a .image .now) in
+    let m = ofWindows (a .windows .now) (a .image .now) in
     let found = sym (c .before .before .before .before .find-context .ensures .0) ∙ ap lookupOf (c .before .before .found .given .1) in
     let at = sym (ap lookupPlace (c .before .before .found .given .1)) ∙ c .before .before .before .before .find-context .ensures .1 in
     let stopped = looked-up-at (a .registers) fault next m (a .request .source .id) noEntry in (

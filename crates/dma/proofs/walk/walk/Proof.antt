@@ -1,10 +1,12 @@
 use Prim.Native.Nat.{ℕ, _-_, _%_, _<_, _≤_}
+use mathlib.Core.Bool.{false}
 use mathlib.Core.Path.{_≡_, refl, ap, sym, _∙_}
 use native.Mathlib.Omega.{arith}
+use lib.ListN.{length}
 use borrow.Author.Needs.{needs}
-use Rattle.image.specs.Memory.{ofImage}
 use Rattle.image.specs.Place.{Place, entryAt, lastTried}
 use Rattle.image.specs.Rules.{run}
+use Rattle.image.specs.Windows.{ofWindows, badWindows}
 use Rattle.dma.specs.Answers.{stepOf, stepPlace}
 use Rattle.dma.specs.Translation.{pageRules}
 use Rattle.dma.specs.Walk.{placeIn}
@@ -13,55 +15,56 @@ use Rattle.dma.proofs.walk.walk.Statement.{statement}
 use Rattle.dma.proofs.walk.walk.Tie as tie
 
 abbrev Inv-loop : tie.InvT-loop
-Inv-loop image registers request fpd levels table level₀ at₀ level at =
-    (0 < level)
+Inv-loop windows image registers request fpd levels table level₀ at₀ level at =
+    (badWindows windows (length image) ≡ false)
+    × (0 < level)
     × (level ≤ 5)
     × (at % 4096 ≡ 0)
-    × (run (pageRules registers (request .address) (request .write) fpd level at) (ofImage image)
-    ≡ run (pageRules registers (request .address) (request .write) fpd levels table) (ofImage image))
+    × (run (pageRules registers (request .address) (request .write) fpd level at) (ofWindows windows image)
+    ≡ run (pageRules registers (request .address) (request .write) fpd levels table) (ofWindows windows image))
     × ((before before′ : Place)
-    → lastTried before (pageRules registers (request .address) (request .write) fpd level at) (ofImage image)
-    ≡ lastTried before′ (pageRules registers (request .address) (request .write) fpd levels table) (ofImage image))
+    → lastTried before (pageRules registers (request .address) (request .write) fpd level at) (ofWindows windows image)
+    ≡ lastTried before′ (pageRules registers (request .address) (request .write) fpd levels table) (ofWindows windows image))
 
 abbrev μ-loop : tie.MeasureT-loop
-μ-loop image registers request fpd levels table level₀ at₀ level at = level
+μ-loop windows image registers request fpd levels table level₀ at₀ level at = level
 
 loop-holds : tie.Need-loop-holds Inv-loop μ-loop
 loop-holds c =
-    let a = c .before .args in
-    let pre = c .before .pre in
-    (pre .0, pre .1, pre .2, refl, anew (a .registers) (a .request .address) (a .request .write) (a .fpd) (ofImage (a .image .now)) (a .levels) (a .table) (pre .0))
+    let a = c .before .before .args in
+    let pre = c .before .before .pre in
+    (pre .0, pre .1, pre .2, pre .3, refl, anew (a .registers) (a .request .address) (a .request .write) (a .fpd) (ofWindows (a .windows .now) (a .image .now)) (a .levels) (a .table) (pre .1))
 
 sub-page-step : tie.Need-sub-page-step Inv-loop μ-loop
 sub-page-step c = search needs
 
 page-step-requires : tie.Need-page-step-requires Inv-loop μ-loop
-page-step-requires c κs = let l = c .before .loop in (omega (arith, l .inv .1), l .inv .2)
+page-step-requires c κs = let l = c .before .loop in (l .inv .0, omega (arith, l .inv .2), l .inv .3)
 
 enum-known-step : tie.Need-enum-known-step Inv-loop μ-loop
 enum-known-step c = search needs
 
 returns : tie.Need-returns Inv-loop μ-loop
 returns c =
-    let a = c .before .before .before .before .before .before .before .args in
+    let a = c .before .before .before .before .before .before .before .before .args in
     let l = c .before .before .before .before .before .loop in
     let led = sym (ap stepOf (c .before .step .given .1)) ∙ c .before .before .before .page-step .ensures .0 in
-    (ended (a .registers) (a .request .address) (a .request .write) (a .fpd) (ofImage (a .image .now)) (l .level) (l .at) (l .inv .0) led ∙ l .inv .3, λ before. refl)
+    (ended (a .registers) (a .request .address) (a .request .write) (a .fpd) (ofWindows (a .windows .now) (a .image .now)) (l .level) (l .at) (l .inv .1) led ∙ l .inv .4, λ before. refl)
 
 enum-known-step-2 : tie.Need-enum-known-step-2 Inv-loop μ-loop
 enum-known-step-2 c = search needs
 
 returns-2 : tie.Need-returns-2 Inv-loop μ-loop
 returns-2 c =
-    let a = c .before .before .before .before .before .before .before .args in
+    let a = c .before .before .before .before .before .before .before .before .args in
     let l = c .before .before .before .before .before .loop in
     let led = sym (ap stepOf (c .before .step2 .given .1)) ∙ c .before .before .before .page-step .ensures .0 in
     let there = sym (ap (λ s. stepPlace s (entryAt (placeIn (a .request .address) (l .at) (l .level - 1)))) (c .before .step2 .given .1)) ∙ c .before .before .before .page-step .ensures .1 in (
-      ended (a .registers) (a .request .address) (a .request .write) (a .fpd) (ofImage (a .image .now)) (l .level) (l .at) (l .inv .0) led ∙ l .inv .3,
+      ended (a .registers) (a .request .address) (a .request .write) (a .fpd) (ofWindows (a .windows .now) (a .image .now)) (l .level) (l .at) (l .inv .1) led ∙ l .inv .4,
       λ before.
           there
-          ∙ sym (ended-at (a .registers) (a .request .address) (a .request .write) (a .fpd) (ofImage (a .image .now)) (l .level) (l .at) (l .inv .0) before led)
-          ∙ l .inv .4 before before,
+          ∙ sym (ended-at (a .registers) (a .request .address) (a .request .write) (a .fpd) (ofWindows (a .windows .now) (a .image .now)) (l .level) (l .at) (l .inv .1) before led)
+          ∙ l .inv .5 before before,
     )
 
 enum-known-step-3 : tie.Need-enum-known-step-3 Inv-loop μ-loop
@@ -75,23 +78,24 @@ loop-less c = search needs
 
 loop-again : tie.Need-loop-again Inv-loop μ-loop
 loop-again c =
-    let a = c .before .before .before .before .before .before .before .args in
+    let a = c .before .before .before .before .before .before .before .before .args in
     let l = c .before .before .before .before .before .loop in
     let led = sym (ap stepOf (c .before .step3 .given .1)) ∙ c .before .before .before .page-step .ensures .0 in
-    let next = down-to (a .registers) (a .request .address) (a .request .write) (a .fpd) (ofImage (a .image .now)) (l .level - 1) (l .at) led in (
+    let next = down-to (a .registers) (a .request .address) (a .request .write) (a .fpd) (ofWindows (a .windows .now) (a .image .now)) (l .level - 1) (l .at) led in (
+      l .inv .0,
       next .1,
-      omega (arith, l .inv .1),
+      omega (arith, l .inv .2),
       next .0,
-      onward (a .registers) (a .request .address) (a .request .write) (a .fpd) (ofImage (a .image .now)) (l .level) (l .at) (l .inv .0) led ∙ l .inv .3,
+      onward (a .registers) (a .request .address) (a .request .write) (a .fpd) (ofWindows (a .windows .now) (a .image .now)) (l .level) (l .at) (l .inv .1) led ∙ l .inv .4,
       λ before before′.
-          anew (a .registers) (a .request .address) (a .request .write) (a .fpd) (ofImage (a .image .now)) (l .level - 1) _ (next .1) before _
-          ∙ sym (onward-at (a .registers) (a .request .address) (a .request .write) (a .fpd) (ofImage (a .image .now)) (l .level) (l .at) (l .inv .0) before led)
-          ∙ l .inv .4 before before′,
+          anew (a .registers) (a .request .address) (a .request .write) (a .fpd) (ofWindows (a .windows .now) (a .image .now)) (l .level - 1) _ (next .1) before _
+          ∙ sym (onward-at (a .registers) (a .request .address) (a .request .write) (a .fpd) (ofWindows (a .windows .now) (a .image .now)) (l .level) (l .at) (l .inv .1) before led)
+          ∙ l .inv .5 before before′,
     )
 
 -- no step leads below level 1
 returns-3 : tie.Need-returns-3 Inv-loop μ-loop
-returns-3 c = absurd (omega (arith, c .before .loop .inv .0, c .loop-test .left))
+returns-3 c = absurd (omega (arith, c .before .loop .inv .1, c .loop-test .left))
 
 pub walk-spec : {M : Type 1} → statement M
 walk-spec =
