@@ -33,7 +33,7 @@ unfolding widthRules run lastTried
 returns-2 c = (rw (← c .before .before .before .before .smaller .ensures, ← c .before .before .before .at-or-above-power .ensures, c .before .before .if1 .left, eq-eqb _ _ (c .if2 .taken)), refl)
 
 walk-requires : tie.Need-walk-requires
-walk-requires c κs = c .before .before .before .before .before .before .before .before .pre
+walk-requires c κs = let p = c .before .before .before .before .before .before .before .before .pre in (p .0, p .1 .0, p .1 .1, p .1 .2)
 
 returns-3 : tie.Need-returns-3
 unfolding widthRules run lastTried
