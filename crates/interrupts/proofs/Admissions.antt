@@ -1,10 +1,8 @@
 -- An interrupt request by what becomes of it at admission, and then by its format.
-use Prim.Native.Nat.{ℕ, _^_, _<_}
-use mathlib.Core.Bool.{Bool, true, false, not}
-use mathlib.Core.Path.{_≡_, refl, ap, sym}
-use native.Mathlib.Omega.{arith}
+use Prim.Native.Nat.{ℕ, _%_, _^_, _<_}
+use mathlib.Core.Bool.{Bool, false, not}
+use mathlib.Core.Path.{_≡_, ap, sym}
 use Rattle.image.specs.Check.{Check, stop, go}
-use Rattle.image.specs.Choice.{if_then_else_}
 use Rattle.image.specs.Memory.{Memory}
 use Rattle.image.specs.Place.{noEntry, lastTried, stoppedAt}
 use Rattle.image.specs.Rules.{run}
@@ -18,12 +16,12 @@ use Rattle.interrupts.specs.Request.{Format, compatibility, remappable, 
 use Rattle.interrupts.specs.Interrupts.{Delivery, indexRules, passed, blocked, refused, delivered, requestRules, interruptRules}
 use Rattle.interrupts.specs.declared.InterruptRequest.{InterruptRequest}
 
--- so that no address of an entry wraps
-pub table-below : (registers : Registers) (wrong on : Bool) → take ≡ admission registers wrong on
-    → registers .«interrupt_table» < 2 ^ 52
-table-below registers wrong on h =
+-- so that no entry leaves its page, and no address of an entry wraps
+pub table-placed : (registers : Registers) (wrong on : Bool) → take ≡ admission registers wrong on
+    → (registers .«interrupt_table» % 4096 ≡ 0) × (registers .«interrupt_table» < 2 ^ 52)
+table-placed registers wrong on h =
     let g = taken-good registers wrong on h in
-    below-most g (g .interrupt .below)
+    (g .interrupt .aligned, below-most g (g .interrupt .below))
 
 module _ (registers : Registers) (request : InterruptRequest) (m : Memory) where
   module _ {inside : Bool} (kind : inside ≡ inInterruptRange (request .address)) where

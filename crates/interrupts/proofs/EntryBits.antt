@@ -1,65 +1,71 @@
--- A bit of an entry is that bit of the image.
-use Prim.Native.Nat.{ℕ, zero, suc, _+_, _*_, _/_, _%_, _^_, _<_}
-use mathlib.Core.List.{List, [], _∷_}
+-- A bit of an entry is that bit of the memory, by host address.
+use Prim.Native.Nat.{ℕ, zero, suc, _+_, _-_, _*_, _/_, _%_, _^_, _≤_, _<_}
+use mathlib.Core.Bool.{false}
+use mathlib.Core.List.{List}
 use mathlib.Core.Path.{_≡_, refl, ap, sym, _∙_}
-use native.Mathlib.Nat.{add-zero}
+use native.Mathlib.Decide.{decLe}
 use native.Mathlib.Omega.{arith}
 use lib.Dec.{eqb}
-use lib.ListN.{getD, take, drop}
+use lib.ListN.{length, getD, take, drop}
 use lib.Seq.{getD-take, getD-drop}
 use Rattle.image.specs.Bits.{bits, bit}
 use Rattle.image.specs.Bytes.{littleEndian}
-use Rattle.image.specs.Entries.{spell}
-use Rattle.image.specs.Memory.{found, entry, ofImage, wordAt}
+use Rattle.image.specs.Memory.{Fetched, missing, found, join, entry}
+use Rattle.image.specs.Windows.{windowsOf, Spot, nowhere, here, onSpot, spotIn, entryIn, ofWindows, badWindows}
 use Rattle.image.proofs.Bytes.{AreBytes, bytes-below, bytes-taken, in-byte}
-use Rattle.image.proofs.Stores.{Words}
-use Rattle.image.proofs.WordFields.{of-word}
-use Rattle.image.proofs.Words.{wordsIn, inside, whole-entry}
+use Rattle.image.proofs.Fields.{in-digit, above-digit}
 use Rattle.interrupts.specs.Claims.{bitAt}
+use Rattle.interrupts.proofs.Hosts.{bitIn, bit-there}
 
-word-at : (image : List ℕ) (n at i : ℕ) → i < n → getD (wordsIn image n at) i 0 ≡ wordAt image (at + 8 * i)
-unfolding wordsIn
-word-at image zero at i h = absurd (omega arith)
-word-at image (suc n) at zero h = rw (add-zero at)
-word-at image (suc n) at (suc i) h =
-    let place : at + 8 + 8 * i ≡ at + 8 * suc i = omega arith in
-    word-at image n (at + 8) i (omega arith) ∙ ap (wordAt image) place
-
-module _ (image : List ℕ) (bytes : AreBytes image) where
-  are-words : (n at : ℕ) → Words (wordsIn image n at)
-  unfolding wordsIn Words wordAt
-  are-words zero at = tt
-  are-words (suc n) at = (bytes-below 8 (drop at image) (λ i. rw getD-drop (bytes (at + i))), are-words n (at + 8))
-
-  word-bit : (at k : ℕ) → k < 64 → bit (wordAt image at) k ≡ bitAt image (8 * at + k)
-  unfolding wordAt
-  word-bit at k h =
+module _ (windows bytes : List ℕ) (good : badWindows windows (length bytes) ≡ false) (are : AreBytes bytes) where
+  -- the word at a place of the run
+  placed : (j k : ℕ) → k < 64 → bit (littleEndian (take 8 (drop j bytes))) k ≡ bitIn bytes (8 * j + k)
+  placed j k h =
       let place : 8 * (k / 8) + k % 8 ≡ k = omega arith in
-      let byte : at + k / 8 ≡ (8 * at + k) / 8 = omega arith in
-      let within : k % 8 ≡ (8 * at + k) % 8 = omega arith in
-      let part = take 8 (drop at image) in
-      let there : bits (getD image (at + k / 8) 0) (k % 8) (k % 8) ≡ bits (getD image ((8 * at + k) / 8) 0) ((8 * at + k) % 8) ((8 * at + k) % 8) =
-      rw (byte, within) in
+      let byte : j + k / 8 ≡ (8 * j + k) / 8 = omega arith in
+      let low : k % 8 ≡ (8 * j + k) % 8 = omega arith in
+      let there : bits (getD bytes (j + k / 8) 0) (k % 8) (k % 8) ≡ bits (getD bytes ((8 * j + k) / 8) 0) ((8 * j + k) % 8) ((8 * j + k) % 8) =
+      rw (byte, low) in
+      let part = take 8 (drop j bytes) in
       ap (λ (n : ℕ). eqb n 1)
       (ap (λ (n : ℕ). bits (littleEndian part) n n) (sym place)
-      ∙ in-byte (k / 8) part (bytes-taken 8 (drop at image) (λ i. rw getD-drop (bytes (at + i)))) (k % 8) (k % 8) (omega arith)
-      ∙ ap (λ (n : ℕ). bits n (k % 8) (k % 8)) (getD-take 8 (drop at image) (k / 8) 0 (omega arith) ∙ getD-drop at image (k / 8) 0)
+      ∙ in-byte (k / 8) part (bytes-taken 8 (drop j bytes) (λ i. rw getD-drop (are (j + i)))) (k % 8) (k % 8) (omega arith)
+      ∙ ap (λ (n : ℕ). bits n (k % 8) (k % 8)) (getD-take 8 (drop j bytes) (k / 8) 0 (omega arith) ∙ getD-drop j bytes (k / 8) 0)
       ∙ there)
 
-  spelled-bit : (n at k : ℕ) → k < 64 * n → bit (spell (wordsIn image n at)) k ≡ bitAt image (8 * at + k)
-  spelled-bit n at k h =
-      let ws = wordsIn image n at in
-      let place : 64 * (k / 64) + k % 64 ≡ k = omega arith in
-      let same : 8 * (at + 8 * (k / 64)) + k % 64 ≡ 8 * at + k = omega arith in
-      ap (λ (n : ℕ). eqb n 1)
-      (ap (λ (n : ℕ). bits (spell ws) n n) (sym place)
-      ∙ of-word (k / 64) ws (are-words n at) (k % 64) (k % 64) (omega arith)
-      ∙ ap (λ (w : ℕ). bits w (k % 64) (k % 64)) (word-at image n at (k / 64) (omega arith)))
-      ∙ word-bit (at + 8 * (k / 64)) (k % 64) (omega arith)
-      ∙ ap (bitAt image) same
+  word-bits : (at : ℕ) {w : ℕ} → ofWindows windows bytes at ≡ found w
+      → (w < 2 ^ 64) × ((k : ℕ) → k < 64 → bit w k ≡ bitAt windows bytes (8 * at + k))
+  unfolding ofWindows entryIn
+  word-bits at {w} h = by (spotIn (windowsOf windows) 8 at) refl h
+    where
+      by : (s : Spot) → spotIn (windowsOf windows) 8 at ≡ s
+          → onSpot s missing (λ place left. found (littleEndian (take 8 (drop place bytes)))) ≡ found w
+          → (w < 2 ^ 64) × ((k : ℕ) → k < 64 → bit w k ≡ bitAt windows bytes (8 * at + k))
+      by nowhere e h = let z : _≡_ {A = ℕ} 0 1 = cc in absurd (omega arith)
+      by (here j left) e h =
+          let same : littleEndian (take 8 (drop j bytes)) ≡ w = cc in
+          rw (← same) (bytes-below 8 (drop j bytes) (λ i. rw getD-drop (are (j + i))), λ k small. placed j k small ∙ sym (bit-there windows bytes good 8 at e k small))
 
-  pub entry-bit : (n at k : ℕ) {e : ℕ} → entry (suc n) (ofImage image) at ≡ found e → k < 64 * suc n → bit e k ≡ bitAt image (8 * at + k)
-  entry-bit n at k {e} there h =
-      let here = inside image (suc n) at (whole-entry image n at there) in
-      let same : e ≡ spell (wordsIn image (suc n) at) = cc in
-      rw same (spelled-bit (suc n) at k h)
+  pub entry-bit : (n at k : ℕ) {e : ℕ} → entry n (ofWindows windows bytes) at ≡ found e → k < 64 * n → bit e k ≡ bitAt windows bytes (8 * at + k)
+  unfolding entry
+  entry-bit zero at k there h = absurd (omega arith)
+  entry-bit (suc n) at k {e} there h =
+      by (ofWindows windows bytes at) refl (entry n (ofWindows windows bytes) (at + 8)) refl there (λ j e′. entry-bit n (at + 8) j {e = e′}) (decLe 64 k)
+    where
+      by : (f : Fetched) → ofWindows windows bytes at ≡ f → (g : Fetched) → entry n (ofWindows windows bytes) (at + 8) ≡ g → join f g ≡ found e
+          → ((j e′ : ℕ) → entry n (ofWindows windows bytes) (at + 8) ≡ found e′ → j < 64 * n → bit e′ j ≡ bitAt windows bytes (8 * (at + 8) + j))
+          → Dec (64 ≤ k) → bit e k ≡ bitAt windows bytes (8 * at + k)
+      by missing a g b s ih d = let z : _≡_ {A = ℕ} 0 1 = cc in absurd (omega arith)
+      by (found w) a missing b s ih d = let z : _≡_ {A = ℕ} 0 1 = cc in absurd (omega arith)
+      by (found w) a (found rest) b s ih (yes high) =
+          let is : e ≡ w + 2 ^ 64 * rest = cc in
+          let low : k ≡ 64 + (k - 64) = omega arith in
+          let address : 8 * (at + 8) + (k - 64) ≡ 8 * at + k = omega arith in
+          let here : bits e k k ≡ bits rest (k - 64) (k - 64) =
+          ap (λ (n : ℕ). bits e n n) low ∙ ap (λ (n : ℕ). bits n (64 + (k - 64)) (64 + (k - 64))) is
+          ∙ above-digit 64 rest (word-bits at a .0) (k - 64) (k - 64) in
+          ap (λ (n : ℕ). eqb n 1) here ∙ ih (k - 64) rest b (omega arith) ∙ ap (bitAt windows bytes) address
+      by (found w) a (found rest) b s ih (no under) =
+          let is : e ≡ w + 2 ^ 64 * rest = cc in
+          let here : bits e k k ≡ bits w k k = ap (λ (n : ℕ). bits n k k) is ∙ in-digit 64 rest (word-bits at a .0) k k (omega arith) in
+          ap (λ (n : ℕ). eqb n 1) here ∙ word-bits at a .1 k (omega arith)

@@ -13,14 +13,16 @@ use lib.ListN.{length, getD, set, length-set}
 use lib.Pow.{pow-lt, pow-add, shl-shr}
 use lib.Seq.{getD-set-same, getD-set-other}
 use Rattle.image.specs.Bits.{bits, bit}
-use Rattle.image.specs.Memory.{ofImage}
+use Rattle.image.specs.Windows.{windowsOf, Spot, nowhere, here, onSpot, spotIn, badWindows}
 use Rattle.image.proofs.Choices.{or-false, or-assoc}
-use Rattle.interrupts.specs.Claims.{bitAt, due, sets, outcome, SetsExactly, LeavesAll, StaysInside}
+use Rattle.image.proofs.WindowBytes.{byte-spot}
+use Rattle.interrupts.specs.Claims.{bitAt, due, sets, Shows, SetsExactly, LeavesAll, StaysInside}
 use Rattle.interrupts.specs.Descriptor.{Notice, silent, notice}
-use Rattle.interrupts.specs.Interrupts.{InterruptOutcome, passed, remapped, posted, blocked, refused}
+use Rattle.interrupts.specs.Interrupts.{InterruptOutcome, passed, remapped, posted, blocked, refused, interruptAnswer}
 use Rattle.interrupts.specs.Post.{withBit, setBit, notified, written}
+use Rattle.interrupts.proofs.Hosts.{bitIn, spot-inside, carried}
 use Rattle.interrupts.proofs.Posts.{one-bit, or-power}
-use Rattle.interrupts.proofs.Raised.{Within, within}
+use Rattle.interrupts.proofs.Raised.{Stands, Within, within}
 
 -- bits of `|`, one by one
 or-bit : (a b place : ℕ) → bits (bitOr a b) place place ≡ bitOr (bits a place place) (bits b place place)
@@ -73,9 +75,9 @@ pub length-setBit : (image : List ℕ) (descriptor place : ℕ) → length (setB
 unfolding setBit
 length-setBit image descriptor place = simp length-set
 
--- the image with a bit of a descriptor set, bit by bit
+-- the run with a bit of a descriptor set, bit by bit
 set-at : (image : List ℕ) (descriptor place n : ℕ) → descriptor + place / 8 < length image
-    → bitAt (setBit descriptor place image) n ≡ (bitAt image n || eqb n (8 * descriptor + place))
+    → bitIn (setBit descriptor place image) n ≡ (bitIn image n || eqb n (8 * descriptor + place))
 unfolding setBit
 set-at image descriptor place n inside = go (eqb (n / 8) at) refl
   where
@@ -91,79 +93,155 @@ set-at image descriptor place n inside = go (eqb (n / 8) at) refl
         sym (eq-eqb n (8 * descriptor + place) (omega arith))
     place-same same false e = sym (ne-eqb n (8 * descriptor + place) (λ h. eqb-false (n % 8) (place % 8) e (omega arith)))
 
-    go : (t : Bool) → eqb (n / 8) at ≡ t → bitAt (set image at byte) n ≡ (bitAt image n || eqb n (8 * descriptor + place))
+    go : (t : Bool) → eqb (n / 8) at ≡ t → bitIn (set image at byte) n ≡ (bitIn image n || eqb n (8 * descriptor + place))
     go true e =
         let same : n / 8 ≡ at = eqb-true (n / 8) at e in
         ap (λ (k : ℕ). bit (getD (set image at byte) k 0) (n % 8)) same
         ∙ ap (λ (b : ℕ). bit b (n % 8)) (getD-set-same image at byte 0 inside)
         ∙ bit-with (getD image at 0) (place % 8) (n % 8)
         ∙ ap (λ (k : ℕ). bit (getD image k 0) (n % 8) || eqb (n % 8) (place % 8)) (sym same)
-        ∙ ap (λ (t : Bool). bitAt image n || t) (place-same same (eqb (n % 8) (place % 8)) refl)
+        ∙ ap (λ (t : Bool). bitIn image n || t) (place-same same (eqb (n % 8) (place % 8)) refl)
     go false e =
         let other = eqb-false (n / 8) at e in
         ap (λ (b : ℕ). bit b (n % 8)) (getD-set-other image at (n / 8) byte 0 other)
-        ∙ sym (or-false (bitAt image n))
-        ∙ ap (λ (t : Bool). bitAt image n || t) (sym (ne-eqb n (8 * descriptor + place) (λ h. other (omega arith))))
+        ∙ sym (or-false (bitIn image n))
+        ∙ ap (λ (t : Bool). bitIn image n || t) (sym (ne-eqb n (8 * descriptor + place) (λ h. other (omega arith))))
 
-module _ (image : List ℕ) (descriptor vector : ℕ) (inside : descriptor + 64 ≤ length image) (small : vector < 256) where
+-- and by host address
+module _ (windows bytes : List ℕ) (descriptor : ℕ) {k left : ℕ} (there : spotIn (windowsOf windows) 64 descriptor ≡ here k left)
+    (place : ℕ) (small : place < 512) where
+  host-at : badWindows windows (length bytes) ≡ false → (n : ℕ)
+      → bitAt windows (setBit k place bytes) n ≡ (bitAt windows bytes n || eqb n (8 * descriptor + place))
+  host-at good =
+      let inside = spot-inside windows bytes good 64 descriptor there in
+      carried windows bytes good 64 descriptor there (setBit k place bytes) (λ a b. a || b) refl place (omega arith)
+      (λ n. set-at bytes k place n (omega arith))
+
+module _ (windows bytes : List ℕ) (descriptor vector : ℕ) (s : Stands windows bytes descriptor vector) where
   post-at : (m : Notice) (n : ℕ)
-      → bitAt (notified descriptor m (setBit descriptor vector image)) n
-      ≡ (bitAt image n || (eqb n (8 * descriptor + vector) || due m && eqb n (8 * descriptor + 256)))
+      → bitAt windows (notified (s .place) m (setBit (s .place) vector bytes)) n
+      ≡ (bitAt windows bytes n || (eqb n (8 * descriptor + vector) || due m && eqb n (8 * descriptor + 256)))
   post-at silent n =
-      set-at image descriptor vector n (omega arith)
-      ∙ ap (λ (t : Bool). bitAt image n || t) (sym (or-false (eqb n (8 * descriptor + vector))))
+      let h = s .small in
+      host-at windows bytes descriptor (s .there) vector (omega arith) (s .good) n
+      ∙ ap (λ (t : Bool). bitAt windows bytes n || t) (sym (or-false (eqb n (8 * descriptor + vector))))
   post-at (notice v d) n =
-      let kept : descriptor + 32 < length (setBit descriptor vector image) = rw (length-setBit image descriptor vector) (omega arith) in
-      set-at (setBit descriptor vector image) descriptor 256 n kept
-      ∙ ap (λ (t : Bool). t || eqb n (8 * descriptor + 256)) (set-at image descriptor vector n (omega arith))
-      ∙ or-assoc (bitAt image n) (eqb n (8 * descriptor + vector)) (eqb n (8 * descriptor + 256))
+      let h = s .small in
+      let still : badWindows windows (length (setBit (s .place) vector bytes)) ≡ false = rw (length-setBit bytes (s .place) vector) (s .good) in
+      host-at windows (setBit (s .place) vector bytes) descriptor (s .there) 256 (omega arith) still n
+      ∙ ap (λ (t : Bool). t || eqb n (8 * descriptor + 256)) (host-at windows bytes descriptor (s .there) vector (omega arith) (s .good) n)
+      ∙ or-assoc (bitAt windows bytes n) (eqb n (8 * descriptor + vector)) (eqb n (8 * descriptor + 256))
 
-pub outcome-at : (image : List ℕ) (o : InterruptOutcome) → Within image o → (n : ℕ)
-    → bitAt (written o image) n ≡ (bitAt image n || sets o n)
-outcome-at image (posted descriptor vector m) h n = post-at image descriptor vector (h .0) (h .1) m n
-outcome-at image passed h n = sym (or-false (bitAt image n))
-outcome-at image (remapped r) h n = sym (or-false (bitAt image n))
-outcome-at image (blocked f) h n = sym (or-false (bitAt image n))
-outcome-at image (refused number) h n = sym (or-false (bitAt image n))
+-- what a post writes, at the place where its descriptor stands
+pub written-there : (windows bytes : List ℕ) (descriptor vector : ℕ) (m : Notice) {k left : ℕ}
+    → spotIn (windowsOf windows) 64 descriptor ≡ here k left
+    → written windows (posted descriptor vector m) bytes ≡ notified k m (setBit k vector bytes)
+written-there windows bytes descriptor vector m there = rw there
+
+-- as the code finds that place
+module _ (windows bytes : List ℕ) (descriptor : ℕ) {at k left : ℕ} (found-at : at ≡ onSpot (spotIn (windowsOf windows) 64 descriptor) 0 (λ place left. place))
+    (there : spotIn (windowsOf windows) 64 descriptor ≡ here k left) where
+  pub at-place : at ≡ k
+  at-place = rw there at found-at
+
+  pub at-inside : badWindows windows (length bytes) ≡ false → at + 64 ≤ length bytes
+  at-inside good = rw at-place (spot-inside windows bytes good 64 descriptor there)
+
+  pub written-at : (vector : ℕ) (m : Notice) → notified at m (setBit at vector bytes) ≡ written windows (posted descriptor vector m) bytes
+  written-at vector m = rw at-place (sym (written-there windows bytes descriptor vector m there))
+
+pub outcome-at : (windows bytes : List ℕ) (o : InterruptOutcome) → Within windows bytes o → (n : ℕ)
+    → bitAt windows (written windows o bytes) n ≡ (bitAt windows bytes n || sets o n)
+outcome-at windows bytes (posted descriptor vector m) s n =
+    rw (written-there windows bytes descriptor vector m (s .there)) (post-at windows bytes descriptor vector s m n)
+outcome-at windows bytes passed h n = sym (or-false (bitAt windows bytes n))
+outcome-at windows bytes (remapped r) h n = sym (or-false (bitAt windows bytes n))
+outcome-at windows bytes (blocked f) h n = sym (or-false (bitAt windows bytes n))
+outcome-at windows bytes (refused number) h n = sym (or-false (bitAt windows bytes n))
 
 pub sets-exactly : SetsExactly
-sets-exactly registers request image n =
-    outcome-at image (outcome registers request (ofImage image)) (within image registers request) n
+sets-exactly registers request windows bytes =
+    outcome-at windows bytes (interruptAnswer registers request windows bytes) (within registers request windows bytes)
 
-pub length-written : (image : List ℕ) (o : InterruptOutcome) → length (written o image) ≡ length image
-length-written image (posted descriptor vector silent) = length-setBit image descriptor vector
-length-written image (posted descriptor vector (notice v d)) =
-    length-setBit (setBit descriptor vector image) descriptor 256 ∙ length-setBit image descriptor vector
-length-written image passed = refl
-length-written image (remapped r) = refl
-length-written image (blocked f) = refl
-length-written image (refused number) = refl
+length-notified : (at : ℕ) (m : Notice) (bytes : List ℕ) → length (notified at m bytes) ≡ length bytes
+length-notified at silent bytes = refl
+length-notified at (notice v d) bytes = length-setBit bytes at 256
 
-set-inside : (image : List ℕ) (o : InterruptOutcome) → Within image o → (n : ℕ) → sets o n ≡ true → n < 8 * length image
-set-inside image (posted descriptor vector m) h n e =
-    either-set (eqb n (8 * descriptor + vector)) refl (due m) e
+pub length-written : (windows bytes : List ℕ) (o : InterruptOutcome) → length (written windows o bytes) ≡ length bytes
+length-written windows bytes (posted descriptor vector m) = by (spotIn (windowsOf windows) 64 descriptor)
   where
-    either-set : (s : Bool) → eqb n (8 * descriptor + vector) ≡ s → (t : Bool) → (s || t && eqb n (8 * descriptor + 256)) ≡ true
-        → n < 8 * length image
-    either-set true f t e = let here : n ≡ 8 * descriptor + vector = eqb-true n (8 * descriptor + vector) f in omega (arith, h .0, h .1)
-    either-set false f true e = let on : n ≡ 8 * descriptor + 256 = eqb-true n (8 * descriptor + 256) e in omega (arith, h .0)
-    either-set false f false e = let z : _≡_ {A = ℕ} 0 1 = cc in absurd (omega arith)
-set-inside image passed h n e = let z : _≡_ {A = ℕ} 0 1 = cc in absurd (omega arith)
-set-inside image (remapped r) h n e = let z : _≡_ {A = ℕ} 0 1 = cc in absurd (omega arith)
-set-inside image (blocked f) h n e = let z : _≡_ {A = ℕ} 0 1 = cc in absurd (omega arith)
-set-inside image (refused number) h n e = let z : _≡_ {A = ℕ} 0 1 = cc in absurd (omega arith)
+    by : (s : Spot) → length (onSpot s bytes (λ at left. notified at m (setBit at vector bytes))) ≡ length bytes
+    by nowhere = refl
+    by (here at left) = length-notified at m (setBit at vector bytes) ∙ length-setBit bytes at vector
+length-written windows bytes passed = refl
+length-written windows bytes (remapped r) = refl
+length-written windows bytes (blocked f) = refl
+length-written windows bytes (refused number) = refl
+
+-- a byte of the run in which no bit of a descriptor is set
+pub other-byte : (bytes : List ℕ) (at place k : ℕ) → (k ≡ at + place / 8 → ⊥) → getD (setBit at place bytes) k 0 ≡ getD bytes k 0
+unfolding setBit
+other-byte bytes at place k other = getD-set-other bytes (at + place / 8) k _ 0 other
+
+pub other-bytes : (bytes : List ℕ) (at vector : ℕ) (m : Notice) (k : ℕ) → vector < 256 → ((i : ℕ) → i < 64 → k ≡ at + i → ⊥)
+    → getD (notified at m (setBit at vector bytes)) k 0 ≡ getD bytes k 0
+other-bytes bytes at vector silent k small off = other-byte bytes at vector k (off (vector / 8) (omega arith))
+other-bytes bytes at vector (notice v d) k small off =
+    other-byte (setBit at vector bytes) at 256 k (off 32 (omega arith)) ∙ other-byte bytes at vector k (off (vector / 8) (omega arith))
+
+-- the bits that a post sets
+set-is : (d v : ℕ) (t : Bool) (n : ℕ) → v < 256 → (eqb n (8 * d + v) || t && eqb n (8 * d + 256)) ≡ true → (p : ℕ) × (p < 512) × (n ≡ 8 * d + p)
+set-is d v t n small h = by (eqb n (8 * d + v)) refl t (eqb n (8 * d + 256)) refl h
+  where
+    by : (a : Bool) → eqb n (8 * d + v) ≡ a → (t b : Bool) → eqb n (8 * d + 256) ≡ b → (a || t && b) ≡ true → (p : ℕ) × (p < 512) × (n ≡ 8 * d + p)
+    by true e t b f h = (v, omega arith, eqb-true n (8 * d + v) e)
+    by false e true true f h = (256, omega arith, eqb-true n (8 * d + 256) f)
+    by false e true false f h = let z : _≡_ {A = ℕ} 0 1 = cc in absurd (omega arith)
+    by false e false b f h = let z : _≡_ {A = ℕ} 0 1 = cc in absurd (omega arith)
+
+module _ (windows bytes : List ℕ) where
+  abbrev Lies : ℕ → Type 0
+  Lies n = (place : ℕ) × Shows windows (n / 8) place × (place < length bytes)
+
+  set-inside : (o : InterruptOutcome) → Within windows bytes o → (n : ℕ) → sets o n ≡ true → Lies n
+  set-inside (posted d v m) s n e =
+      let is = set-is d v (due m) n (s .small) e in
+      let p = is .0 in
+      let small = is .1 in
+      let at : n ≡ 8 * d + p = is .2 in
+      let address : d + p / 8 ≡ n / 8 = omega arith in
+      let byte = byte-spot windows (length bytes) (s .good) 64 d (p / 8) (s .there) (omega arith) in
+      let inside = spot-inside windows bytes (s .good) 64 d (s .there) in
+      (s .place + p / 8, (s .left - p / 8, ap (spotIn (windowsOf windows) 1) (sym address) ∙ byte), omega arith)
+  set-inside passed h n e = let z : _≡_ {A = ℕ} 0 1 = cc in absurd (omega arith)
+  set-inside (remapped r) h n e = let z : _≡_ {A = ℕ} 0 1 = cc in absurd (omega arith)
+  set-inside (blocked f) h n e = let z : _≡_ {A = ℕ} 0 1 = cc in absurd (omega arith)
+  set-inside (refused number) h n e = let z : _≡_ {A = ℕ} 0 1 = cc in absurd (omega arith)
+
+  unshown : (o : InterruptOutcome) → Within windows bytes o → (place : ℕ) → ((at : ℕ) → Shows windows at place → ⊥)
+      → getD (written windows o bytes) place 0 ≡ getD bytes place 0
+  unshown (posted d v m) s place never =
+      rw (written-there windows bytes d v m (s .there))
+      (other-bytes bytes (s .place) v m place (s .small)
+      (λ i h e. never (d + i) (s .left - i, rw e (byte-spot windows (length bytes) (s .good) 64 d i (s .there) h))))
+  unshown passed h place never = refl
+  unshown (remapped r) h place never = refl
+  unshown (blocked f) h place never = refl
+  unshown (refused number) h place never = refl
 
 pub stays-inside : StaysInside
-stays-inside registers request image =
-    (length-written image (outcome registers request (ofImage image)), set-inside image (outcome registers request (ofImage image)) (within image registers request))
+stays-inside registers request windows bytes =
+    let o = interruptAnswer registers request windows bytes in
+    let w = within registers request windows bytes in
+    (length-written windows bytes o, set-inside windows bytes o w, unshown windows bytes o w)
 
-unposted : (o : InterruptOutcome) (image : List ℕ) → ((descriptor vector : ℕ) (m : Notice) → o ≡ posted descriptor vector m → ⊥)
-    → written o image ≡ image
-unposted (posted descriptor vector m) image h = absurd (h descriptor vector m refl)
-unposted passed image h = refl
-unposted (remapped r) image h = refl
-unposted (blocked f) image h = refl
-unposted (refused number) image h = refl
+unposted : (windows bytes : List ℕ) (o : InterruptOutcome) → ((descriptor vector : ℕ) (m : Notice) → o ≡ posted descriptor vector m → ⊥)
+    → written windows o bytes ≡ bytes
+unposted windows bytes (posted descriptor vector m) h = absurd (h descriptor vector m refl)
+unposted windows bytes passed h = refl
+unposted windows bytes (remapped r) h = refl
+unposted windows bytes (blocked f) h = refl
+unposted windows bytes (refused number) h = refl
 
 pub leaves-all : LeavesAll
-leaves-all registers request image = unposted (outcome registers request (ofImage image)) image
+leaves-all registers request windows bytes = unposted windows bytes (interruptAnswer registers request windows bytes)

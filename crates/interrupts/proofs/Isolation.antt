@@ -1,11 +1,11 @@
 -- The customer's demand 3 for interrupts: what a request is answered, and what it writes, is settled by its named words.
 use Prim.Native.Nat.{ℕ, _+_, _^_}
 use mathlib.Core.Bool.{Bool, _||_}
-use mathlib.Core.Path.{refl, ap, ap₂, sym, _∙_}
+use mathlib.Core.Path.{_≡_, refl, ap, ap₂, sym, _∙_}
 use lib.Dec.{leb}
-use Rattle.image.specs.Memory.{ofImage}
 use Rattle.image.specs.Place.{noEntry}
 use Rattle.image.specs.Rules.{answer, Outside}
+use Rattle.image.specs.Windows.{ofWindows}
 use Rattle.image.proofs.Choices.{either}
 use Rattle.image.proofs.Local.{local}
 use Rattle.image.proofs.Places.{local-place}
@@ -16,7 +16,7 @@ use Rattle.faults.specs.Record.{interruptFault}
 use Rattle.irte.specs.Irte.{Irte, remaps, posts, irteCheck, faultProcessingDisabled}
 use Rattle.interrupts.specs.Claims.{bitAt, sets, wholeIndex, AccessFault, Isolated, SameBits}
 use Rattle.interrupts.specs.Descriptor.{descriptorCheck}
-use Rattle.interrupts.specs.Interrupts.{Delivery, fault, post, onIrte, descriptorRules, indexRules, InterruptOutcome, delivered, interruptRules, concerned}
+use Rattle.interrupts.specs.Interrupts.{Delivery, fault, post, onIrte, descriptorRules, indexRules, InterruptOutcome, delivered, interruptRules, concerned, interruptAnswer}
 use Rattle.interrupts.specs.declared.InterruptRequest.{InterruptRequest}
 use Rattle.interrupts.proofs.Exact.{sets-exactly}
 use Rattle.interrupts.proofs.Requests.{request-cases}
@@ -54,6 +54,7 @@ isolated registers request m m′ answered same =
     (alike, ap₂ concerned alike (local-place noEntry q m m′ complete same))
 
 pub same-bits : SameBits
-same-bits registers request image image′ answered same n =
-    sets-exactly registers request image′ n
-    ∙ ap (λ (o : InterruptOutcome). bitAt image′ n || sets o n) (sym (isolated registers request (ofImage image) (ofImage image′) answered same .0))
+same-bits registers request windows bytes windows′ bytes′ good good′ answered same n =
+    let alike = isolated registers request (ofWindows windows bytes) (ofWindows windows′ bytes′) answered same .0 in
+    let both : interruptAnswer registers request windows′ bytes′ ≡ interruptAnswer registers request windows bytes = rw (good, good′) (sym alike) in
+    sets-exactly registers request windows′ bytes′ n ∙ ap (λ (o : InterruptOutcome). bitAt windows′ bytes′ n || sets o n) both

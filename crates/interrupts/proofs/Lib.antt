@@ -1,6 +1,7 @@
 pub mod Admissions
 pub mod EntryBits
 pub mod Exact
+pub mod Hosts
 pub mod Injective
 pub mod Isolation
 pub mod Named
@@ -9,6 +10,5 @@ pub mod Posts
 pub mod Raised
 pub mod RaisedBy
 pub mod Requests
-pub mod Spots
 pub mod Stages
 pub mod Unfetched

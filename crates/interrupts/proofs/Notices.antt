@@ -1,17 +1,17 @@
 -- A notice is answered exactly where ON was clear and either the entry's URG was set or SN was clear.
 use Prim.Native.Nat.{ℕ, _+_, _*_}
-use mathlib.Core.Bool.{Bool, true, false, not, _&&_, _||_}
+use mathlib.Core.Bool.{Bool, true, false}
 use mathlib.Core.Path.{_≡_, refl, ap, sym, _∙_}
 use native.Mathlib.Omega.{arith}
-use Rattle.image.specs.Bits.{bits, bit}
+use Rattle.image.specs.Bits.{bits}
 use Rattle.image.specs.Check.{go}
 use Rattle.image.specs.Choice.{if_then_else_}
-use Rattle.image.specs.Memory.{ofImage}
+use Rattle.image.specs.Windows.{ofWindows}
 use Rattle.image.proofs.Choices.{past, same-go}
 use Rattle.interrupts.specs.Claims.{bitAt, due, entryAt, NoticeExactly}
 use Rattle.interrupts.specs.Descriptor.{Notice, silent, notice, reservedDescriptor, noticeDestination, noticeDue, noticeOf, descriptorCheck}
 use Rattle.interrupts.proofs.EntryBits.{entry-bit}
-use Rattle.interrupts.proofs.Raised.{Posting, raised, fields-of}
+use Rattle.interrupts.proofs.Raised.{Posting, raised, fields-of, posted-over}
 
 -- the notice that a descriptor's check gives
 noticed : (eime urgent : Bool) (d : ℕ) {n : Notice} → descriptorCheck eime urgent d ≡ go n → noticeOf eime urgent d ≡ n
@@ -26,9 +26,12 @@ due-of eime urgent d = by (noticeDue urgent d)
     by false = refl
 
 pub notice-exactly : NoticeExactly
-notice-exactly registers request image bytes at vector n e =
-    let p : Posting registers request (ofImage image) at vector n = rw e at (raised registers request (ofImage image)) in
-    let urg : p .urgent ≡ bitAt image (8 * entryAt registers request + 14) =
-    fields-of registers request (ofImage image) p .1 ∙ entry-bit image bytes 1 (entryAt registers request) 14 (p .told .fetched) (omega arith) in
+notice-exactly registers request windows bytes are at vector n e =
+    let m = ofWindows windows bytes in
+    let over = posted-over registers request windows bytes e in
+    let good = over .0 in
+    let p : Posting registers request m at vector n = rw (over .1) at (raised registers request m) in
+    let urg : p .urgent ≡ bitAt windows bytes (8 * entryAt registers request + 14) =
+    fields-of registers request m p .2 ∙ entry-bit windows bytes good are 2 (entryAt registers request) 14 (p .told .fetched) (omega arith) in
     ap due (sym (noticed (registers .eime) (p .urgent) (p .d) (p .checked))) ∙ due-of (registers .eime) (p .urgent) (p .d)
-    ∙ rw (urg, entry-bit image bytes 7 at 256 (p .fetched) (omega arith), entry-bit image bytes 7 at 257 (p .fetched) (omega arith))
+    ∙ rw (urg, entry-bit windows bytes good are 8 at 256 (p .fetched) (omega arith), entry-bit windows bytes good are 8 at 257 (p .fetched) (omega arith))

@@ -52,11 +52,11 @@ module _ (byte place : ℕ) where
   with-bit h = ap (bitOr byte) (mod-eq-of-lt (rw (one-mul (2 ^ place)) (pow-lt h)) ∙ one-mul (2 ^ place)) ∙ or-power
 
 -- an answer that isn't a post leaves the image
-pub unposted : (r : InterruptAnswer) (image : List ℕ) → OneOf (0 ∷ 1 ∷ 3 ∷ 4 ∷ []) (tagOf declared.the-type r)
-    → image ≡ written (outcomeOf r) image
-unposted Passed image h = refl
-unposted (Remapped r) image h = refl
-unposted (Posted p) image h =
+pub unposted : (r : InterruptAnswer) (windows image : List ℕ) → OneOf (0 ∷ 1 ∷ 3 ∷ 4 ∷ []) (tagOf declared.the-type r)
+    → image ≡ written windows (outcomeOf r) image
+unposted Passed windows image h = refl
+unposted (Remapped r) windows image h = refl
+unposted (Posted p) windows image h =
     absurd (⊎-elim (λ e. omega arith) (⊎-elim (λ e. omega arith) (⊎-elim (λ e. omega arith) (λ e. omega arith))) h)
-unposted (Blocked f at) image h = refl
-unposted (Refused n) image h = refl
+unposted (Blocked f at) windows image h = refl
+unposted (Refused n) windows image h = refl

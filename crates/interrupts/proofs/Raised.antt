@@ -1,29 +1,30 @@
 -- Which interrupt is raised: a remapped or posted answer comes of the entry of the whole index, and a post of its descriptor too.
-use Prim.Native.Nat.{ℕ, _+_, _*_, _^_, _≤_, _<_}
+use Prim.Native.Nat.{ℕ, _+_, _%_, _^_, _<_}
 use mathlib.Core.Bool.{Bool, true, false, not}
 use mathlib.Core.List.{List}
-use mathlib.Core.Path.{_≡_, refl}
+use mathlib.Core.Path.{_≡_, refl, sym, _∙_}
 use native.Mathlib.Omega.{arith}
 use borrow.Author.Tests.{leb-false}
 use lib.Dec.{leb}
 use lib.ListN.{length}
 use Rattle.image.specs.Bits.{bits, bit}
-use Rattle.image.specs.Check.{Check, stop, go}
+use Rattle.image.specs.Check.{Check, stop, go, onCheck}
 use Rattle.image.specs.Choice.{if_then_else_}
 use Rattle.image.specs.EntryKind.{remappingEntry, postedDescriptor}
-use Rattle.image.specs.Memory.{Memory, found, entry, ofImage}
-use Rattle.image.specs.Rules.{Rules, answer, run}
+use Rattle.image.specs.Memory.{Memory, found, entry}
+use Rattle.image.specs.Rules.{answer, run}
+use Rattle.image.specs.Windows.{windowsOf, here, spotIn, ofWindows, badWindows}
 use Rattle.image.proofs.Choices.{chosen, past, same-go}
 use Rattle.image.proofs.Fields.{fits}
 use Rattle.image.proofs.Stages.{run-cases}
 use Rattle.image.proofs.Trees.{run-map}
-use Rattle.image.proofs.Words.{whole-entry}
+use Rattle.image.proofs.WindowEntries.{whole-at}
 use Rattle.registers.specs.declared.Registers.{Registers}
-use Rattle.irte.specs.Irte.{Irte, remaps, posts, remappedBy, descriptorAddress, reservedIrte, irteOf, irteCheck, urgentOf, faultProcessingDisabled}
+use Rattle.irte.specs.Irte.{Irte, asks, stops, asked, remaps, posts, remappedBy, descriptorAddress, reservedIrte, irteOf, irteCheck, urgentOf, faultProcessingDisabled}
 use Rattle.irte.specs.Source.{sourceAllowed}
 use Rattle.interrupts.specs.Claims.{wholeIndex, entryAt, beforeTable, outcome}
 use Rattle.interrupts.specs.Descriptor.{Notice, descriptorCheck}
-use Rattle.interrupts.specs.Interrupts.{Delivery, fault, remap, post, descriptorRules, onIrte, indexRules, InterruptOutcome, passed, remapped, posted, blocked, refused, delivered, interruptRules}
+use Rattle.interrupts.specs.Interrupts.{Delivery, fault, post, descriptorRules, onIrte, indexRules, InterruptOutcome, passed, remapped, posted, blocked, refused, delivered, interruptRules, interruptAnswer}
 use Rattle.interrupts.specs.declared.InterruptRequest.{InterruptRequest}
 use Rattle.interrupts.proofs.Requests.{request-cases}
 
@@ -91,36 +92,79 @@ asked-for registers source e {i} h =
     let valid = past (reservedIrte registers e) 0x24 _ i (present .1) in
     same-go (past (not (sourceAllowed source e)) 0x26 (go (irteOf (registers .eime) e)) i (valid .1) .1)
 
--- a post's vector is one of 256, and its urgency the entry's URG
-posted-fields : (eime : Bool) (e : ℕ) {d v : ℕ} {urgent fpd : Bool} → irteOf eime e ≡ posts d v urgent fpd → (v < 256) × (urgent ≡ urgentOf e)
+-- a post's descriptor is at a multiple of 64, its vector is one of 256, and its urgency the entry's URG
+posted-fields : (eime : Bool) (e : ℕ) {d v : ℕ} {urgent fpd : Bool} → irteOf eime e ≡ posts d v urgent fpd
+    → (d % 64 ≡ 0) × (v < 256) × (urgent ≡ urgentOf e)
 posted-fields eime e {d} {v} {urgent} {fpd} asked = by (bit e 15) asked
   where
     by : (t : Bool)
         → (if t then posts (descriptorAddress e) (bits e 23 16) (urgentOf e) (faultProcessingDisabled e) else remaps (remappedBy eime e)) ≡ posts d v urgent fpd
-        → (v < 256) × (urgent ≡ urgentOf e)
-    by true h = let same : bits e 23 16 ≡ v = cc in (omega (arith, fits e 23 16), cc)
+        → (d % 64 ≡ 0) × (v < 256) × (urgent ≡ urgentOf e)
+    by true h =
+        let at : descriptorAddress e ≡ d = cc in
+        let same : bits e 23 16 ≡ v = cc in
+        (omega arith, omega (arith, fits e 23 16), cc)
     by false h = let z : _≡_ {A = ℕ} 0 1 = cc in absurd (omega arith)
 
+-- as the code's check tells it
+pub asked-aligned : (registers : Registers) (source e : ℕ) {d v : ℕ} {urgent fpd : Bool} → asks (posts d v urgent fpd) ≡ asked registers source e → d % 64 ≡ 0
+asked-aligned registers source e {d} {v} {urgent} {fpd} h = by (irteCheck registers source e) refl h
+  where
+    by : (k : Check Irte) → irteCheck registers source e ≡ k → asks (posts d v urgent fpd) ≡ onCheck k (λ reason. stops reason (faultProcessingDisabled e)) asks
+        → d % 64 ≡ 0
+    by (stop reason) told h = let z : _≡_ {A = ℕ} 0 1 = cc in absurd (omega arith)
+    by (go i) told h =
+        let same : posts d v urgent fpd ≡ i = cc in
+        posted-fields (registers .eime) e (asked-for registers source e told ∙ sym same) .0
+
 module _ (registers : Registers) (request : InterruptRequest) (m : Memory) {descriptor vector : ℕ} {n : Notice} where
-  pub fields-of : (p : Posting registers request m descriptor vector n) → (vector < 256) × (p .urgent ≡ urgentOf (p .told .e))
+  pub fields-of : (p : Posting registers request m descriptor vector n) → (descriptor % 64 ≡ 0) × (vector < 256) × (p .urgent ≡ urgentOf (p .told .e))
   fields-of p =
       posted-fields (registers .eime) (p .told .e) (asked-for registers (request .source .id) (p .told .e) (p .told .checked))
 
--- document 01's post stays in the image, 64 bytes from the descriptor's address, and its vector is one of 256
-abbrev pub Within : List ℕ → InterruptOutcome → Type 0
-Within image (posted descriptor vector n) = (descriptor + 64 ≤ length image) × (vector < 256)
-Within image passed = Unit {0}
-Within image (remapped r) = Unit {0}
-Within image (blocked f) = Unit {0}
-Within image (refused number) = Unit {0}
+-- a post's descriptor stands whole in a window of memory that isn't refused, at a multiple of 64, and its vector is one of 256
+pub record Stands (windows bytes : List ℕ) (descriptor vector : ℕ) : Type 0 where
+  pub good : badWindows windows (length bytes) ≡ false
+  pub aligned : descriptor % 64 ≡ 0
+  pub place : ℕ
+  pub left : ℕ
+  pub there : spotIn (windowsOf windows) 64 descriptor ≡ here place left
+  pub small : vector < 256
 
-pub within : (image : List ℕ) (registers : Registers) (request : InterruptRequest) → Within image (outcome registers request (ofImage image))
-within image registers request = by (outcome registers request (ofImage image)) (raised registers request (ofImage image))
+abbrev pub Within : (windows bytes : List ℕ) → InterruptOutcome → Type 0
+Within windows bytes (posted descriptor vector n) = Stands windows bytes descriptor vector
+Within windows bytes passed = Unit {0}
+Within windows bytes (remapped r) = Unit {0}
+Within windows bytes (blocked f) = Unit {0}
+Within windows bytes (refused number) = Unit {0}
+
+pub within : (registers : Registers) (request : InterruptRequest) (windows bytes : List ℕ)
+    → Within windows bytes (interruptAnswer registers request windows bytes)
+within registers request windows bytes =
+    chosen (Within windows bytes) (badWindows windows (length bytes)) (λ bad. tt)
+    (λ good. by good (outcome registers request m) (raised registers request m))
   where
-    by : (o : InterruptOutcome) → Raised registers request (ofImage image) o → Within image o
-    by (posted at vector n) p =
-        (whole-entry image 7 at (p .fetched), fields-of registers request (ofImage image) p .0)
-    by passed p = tt
-    by (remapped r) p = tt
-    by (blocked f) p = tt
-    by (refused number) p = tt
+    m : Memory
+    m = ofWindows windows bytes
+
+    by : badWindows windows (length bytes) ≡ false → (o : InterruptOutcome) → Raised registers request m o → Within windows bytes o
+    by good (posted at vector n) p =
+        let f = fields-of registers request m p in
+        let aligned = f .0 in
+        let whole = whole-at windows bytes good 7 at (omega arith) (p .fetched) in
+        record { good = good; aligned = aligned; place = whole .place; left = whole .left; there = whole .spot; small = f .1 }
+    by good passed p = tt
+    by good (remapped r) p = tt
+    by good (blocked f) p = tt
+    by good (refused number) p = tt
+
+-- a post's windows aren't refused, so that the rules gave it
+pub posted-over : (registers : Registers) (request : InterruptRequest) (windows bytes : List ℕ) {descriptor vector : ℕ} {n : Notice}
+    → interruptAnswer registers request windows bytes ≡ posted descriptor vector n
+    → (badWindows windows (length bytes) ≡ false) × (outcome registers request (ofWindows windows bytes) ≡ posted descriptor vector n)
+posted-over registers request windows bytes {descriptor} {vector} {n} e = by (badWindows windows (length bytes)) e
+  where
+    by : (t : Bool) → (if t then refused 1 else outcome registers request (ofWindows windows bytes)) ≡ posted descriptor vector n
+        → (t ≡ false) × (outcome registers request (ofWindows windows bytes) ≡ posted descriptor vector n)
+    by true h = let z : _≡_ {A = ℕ} 0 1 = cc in absurd (omega arith)
+    by false h = (refl, h)

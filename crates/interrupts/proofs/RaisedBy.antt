@@ -12,7 +12,7 @@ use Rattle.image.proofs.Choices.{past}
 use Rattle.registers.specs.declared.Registers.{Registers}
 use Rattle.irte.specs.Irte.{Remapped, Irte, remaps, posts, remappedBy, descriptorAddress, reservedIrte, irteOf, irteCheck, urgentOf, faultProcessingDisabled}
 use Rattle.irte.specs.Source.{sourceAllowed}
-use Rattle.interrupts.specs.Claims.{outcome, entryAt}
+use Rattle.interrupts.specs.Claims.{entryAt}
 use Rattle.interrupts.specs.RaisedBy.{ItsEntry, RemappedByEntry, PostedByEntry, Raises, remapping, posting, OneSource, ExactSource}
 use Rattle.interrupts.specs.declared.InterruptRequest.{InterruptRequest}
 use Rattle.interrupts.proofs.Raised.{Told, Posting, raised, asked-for}

@@ -1,7 +1,7 @@
 -- The two stages of a request, the remapping entry and the descriptor, by what the code's fetches and checks said.
 use Prim.Native.Nat.{ℕ, _+_, _*_, _^_}
 use mathlib.Core.Bool.{Bool, true, false}
-use mathlib.Core.Path.{_≡_, refl, ap, sym, _∙_}
+use mathlib.Core.Path.{_≡_, refl, ap, _∙_}
 use lib.Dec.{leb}
 use Rattle.image.specs.Check.{Check, stop, go, onCheck}
 use Rattle.image.specs.EntryKind.{remappingEntry, postedDescriptor}
@@ -9,7 +9,7 @@ use Rattle.image.specs.Memory.{Memory, Fetched, missing, found, entry, onFetch}
 use Rattle.image.specs.Place.{Place, noEntry, entryAt, lastTried, stoppedAt}
 use Rattle.image.specs.Rules.{Rules, answer, run}
 use Rattle.image.proofs.Places.{unfetched-at, checked-at, only-at}
-use Rattle.image.proofs.Stages.{after, unfetched, checked, only}
+use Rattle.image.proofs.Stages.{unfetched, checked, only}
 use Rattle.registers.specs.declared.Registers.{Registers}
 use Rattle.irte.specs.Irte.{Irte, Asked, asks, stops, asked, irteCheck, faultProcessingDisabled}
 use Rattle.interrupts.specs.Descriptor.{Notice, descriptorCheck}

@@ -11,7 +11,7 @@ use Rattle.image.specs.Choice.{if_then_else_}
 use Rattle.image.specs.Rules.{answer}
 use Rattle.image.proofs.Choices.{either}
 use Rattle.image.proofs.Stages.{check-cases}
-use Rattle.image.proofs.Unfetched.{Inside, inside-map, ended-outside}
+use Rattle.image.proofs.Unfetched.{Inside, inside-map, ends-unfetched}
 use Rattle.registers.specs.declared.Registers.{Registers}
 use Rattle.faults.specs.Record.{interruptFault}
 use Rattle.irte.specs.Irte.{Irte, remaps, posts, reservedIrte, irteCheck, faultProcessingDisabled}
@@ -96,5 +96,5 @@ inside registers request =
     (inside-map (delivered source index) AccessFault (indexRules registers source index) (index-inside source index registers))
 
 pub interrupt-access-means-unfetched : InterruptAccessMeansUnfetched
-interrupt-access-means-unfetched registers request image =
-    ended-outside AccessFault image (interruptRules registers request) (inside registers request)
+interrupt-access-means-unfetched registers request m =
+    ends-unfetched AccessFault m (interruptRules registers request) (inside registers request)

@@ -1,4 +1,5 @@
--- What holds of every interrupt request, whatever the registers, the request and the image. Each claim is proved under its name
+-- What holds of every interrupt request, whatever the registers, the request and the memory. What is answered is settled by any memory;
+-- what is written is told by host address, over windows and a run of bytes. Each claim is proved under its name
 -- in proofs/: Exact, Notices, Named, Isolation, Unfetched.
 use Prim.Native.Nat.{ℕ, _+_, _*_, _/_, _%_, _≤_, _<_}
 use mathlib.Core.Bool.{Bool, true, false, not, _&&_, _||_}
@@ -8,12 +9,13 @@ use lib.Dec.{eqb}
 use lib.ListN.{length, getD}
 use Rattle.image.specs.Bits.{bits, bit}
 use Rattle.image.specs.Choice.{if_then_else_}
-use Rattle.image.specs.Memory.{Memory, ofImage}
+use Rattle.image.specs.Memory.{Memory}
 use Rattle.image.specs.Rules.{run, named, SameIn}
-use Rattle.image.specs.Unfetched.{Unfetched}
+use Rattle.image.specs.Unfetched.{EndsUnfetched}
+use Rattle.image.specs.Windows.{windowsOf, here, spotIn, ofWindows, byteAt, badWindows}
 use Rattle.registers.specs.declared.Registers.{Registers}
 use Rattle.interrupts.specs.Descriptor.{Notice, silent, notice}
-use Rattle.interrupts.specs.Interrupts.{InterruptOutcome, passed, remapped, posted, blocked, refused, interruptRules, interruptPlace}
+use Rattle.interrupts.specs.Interrupts.{InterruptOutcome, passed, remapped, posted, blocked, refused, interruptRules, interruptPlace, interruptAnswer}
 use Rattle.interrupts.specs.Post.{written}
 use Rattle.interrupts.specs.Request.{handleOf}
 use Rattle.interrupts.specs.declared.InterruptRequest.{InterruptRequest}
@@ -24,15 +26,15 @@ outcome registers request m = run (interruptRules registers request) m
 abbrev pub namedWords : Registers → InterruptRequest → Memory → List ℕ
 namedWords registers request m = named (interruptRules registers request) m
 
--- bit n of a run of bytes: bit n % 8 of byte n / 8
-abbrev pub bitAt : List ℕ → ℕ → Bool
-bitAt image n = bit (getD image (n / 8) 0) (n % 8)
+-- a bit by its number from host address 0: bit n % 8 of the byte at host address n / 8
+abbrev pub bitAt : (windows bytes : List ℕ) → ℕ → Bool
+bitAt windows bytes n = bit (byteAt windows bytes (n / 8)) (n % 8)
 
 abbrev pub due : Notice → Bool
 due silent = false
 due (notice vector destination) = true
 
--- whether an outcome sets a bit of the image: a post sets the vector's request bit and, exactly with a notice, ON
+-- whether an outcome sets a bit: a post sets the vector's request bit and, exactly with a notice, ON
 abbrev pub sets : InterruptOutcome → (n : ℕ) → Bool
 sets (posted descriptor vector m) n = eqb n (8 * descriptor + vector) || due m && eqb n (8 * descriptor + 256)
 sets passed n = false
@@ -40,10 +42,11 @@ sets (remapped r) n = false
 sets (blocked f) n = false
 sets (refused number) n = false
 
--- every bit of the image is as it came, or set by the post, wherever the descriptor lies; so an answer that is no post leaves all
+-- every bit by host address is as it came, or set by the post, wherever the descriptor lies; so an answer that is no post leaves all
 abbrev pub SetsExactly : Type 0
-SetsExactly = (registers : Registers) (request : InterruptRequest) (image : List ℕ) (n : ℕ) →
-    bitAt (written (outcome registers request (ofImage image)) image) n ≡ (bitAt image n || sets (outcome registers request (ofImage image)) n)
+SetsExactly = (registers : Registers) (request : InterruptRequest) (windows bytes : List ℕ) (n : ℕ) →
+    let o = interruptAnswer registers request windows bytes in
+    bitAt windows (written windows o bytes) n ≡ (bitAt windows bytes n || sets o n)
 
 -- the index as the whole number that it is: with SHV the handle plus data 15:0, else the handle
 abbrev pub wholeIndex : InterruptRequest → ℕ
@@ -55,24 +58,30 @@ abbrev pub entryAt : Registers → InterruptRequest → ℕ
 entryAt registers request = registers .«interrupt_table» + 16 * wholeIndex request
 
 -- a post answers a notice exactly where ON was clear and either the entry's URG was set or SN was clear, so with SetsExactly ON goes
--- from 0 to 1 exactly with a notice; the premise says that the image is made of bytes
+-- from 0 to 1 exactly with a notice; the premise says that the run is made of bytes
 abbrev pub NoticeExactly : Type 0
-NoticeExactly = (registers : Registers) (request : InterruptRequest) (image : List ℕ) → ((n : ℕ) → getD image n 0 < 256) →
-    (descriptor vector : ℕ) (m : Notice) → outcome registers request (ofImage image) ≡ posted descriptor vector m →
-    due m ≡ (not (bitAt image (8 * descriptor + 256))
-    && (bitAt image (8 * entryAt registers request + 14) || not (bitAt image (8 * descriptor + 257))))
+NoticeExactly = (registers : Registers) (request : InterruptRequest) (windows bytes : List ℕ) → ((n : ℕ) → getD bytes n 0 < 256) →
+    (descriptor vector : ℕ) (m : Notice) → interruptAnswer registers request windows bytes ≡ posted descriptor vector m →
+    due m ≡ (not (bitAt windows bytes (8 * descriptor + 256))
+    && (bitAt windows bytes (8 * entryAt registers request + 14) || not (bitAt windows bytes (8 * descriptor + 257))))
 
 -- a refused, blocked, passed or remapped request leaves every byte
 abbrev pub LeavesAll : Type 0
-LeavesAll = (registers : Registers) (request : InterruptRequest) (image : List ℕ) →
-    ((descriptor vector : ℕ) (m : Notice) → outcome registers request (ofImage image) ≡ posted descriptor vector m → ⊥) →
-    written (outcome registers request (ofImage image)) image ≡ image
+LeavesAll = (registers : Registers) (request : InterruptRequest) (windows bytes : List ℕ) →
+    let o = interruptAnswer registers request windows bytes in
+    ((descriptor vector : ℕ) (m : Notice) → o ≡ posted descriptor vector m → ⊥) → written windows o bytes ≡ bytes
 
--- the image keeps its length, and the bits that a post sets lie in it
+-- a window shows a place of the run at a host address
+abbrev pub Shows : (windows : List ℕ) (at place : ℕ) → Type 0
+Shows windows at place = (left : ℕ) × (spotIn (windowsOf windows) 1 at ≡ here place left)
+
+-- the run keeps its length, the bits that a post sets lie in it, and a byte of it that no window shows is as it came
 abbrev pub StaysInside : Type 0
-StaysInside = (registers : Registers) (request : InterruptRequest) (image : List ℕ) →
-    (length (written (outcome registers request (ofImage image)) image) ≡ length image)
-    × ((n : ℕ) → sets (outcome registers request (ofImage image)) n ≡ true → n < 8 * length image)
+StaysInside = (registers : Registers) (request : InterruptRequest) (windows bytes : List ℕ) →
+    let o = interruptAnswer registers request windows bytes in
+    (length (written windows o bytes) ≡ length bytes)
+    × ((n : ℕ) → sets o n ≡ true → (place : ℕ) × Shows windows (n / 8) place × (place < length bytes))
+    × ((place : ℕ) → ((at : ℕ) → Shows windows at place → ⊥) → getD (written windows o bytes) place 0 ≡ getD bytes place 0)
 
 abbrev pub IndexBound : Type 0
 IndexBound = (request : InterruptRequest) → wholeIndex request ≤ 131070
@@ -117,10 +126,10 @@ AccessFault (remapped r) = ⊥
 AccessFault (posted descriptor vector n) = ⊥
 AccessFault (refused number) = ⊥
 
--- it means an entry or a descriptor that couldn't be fetched, of which a byte lies outside the image
+-- it means an entry or a descriptor that couldn't be fetched: it isn't whole in the memory
 abbrev pub InterruptAccessMeansUnfetched : Type 0
-InterruptAccessMeansUnfetched = (registers : Registers) (request : InterruptRequest) (image : List ℕ) →
-    AccessFault (outcome registers request (ofImage image)) → Unfetched (interruptRules registers request) image
+InterruptAccessMeansUnfetched = (registers : Registers) (request : InterruptRequest) (m : Memory) →
+    AccessFault (outcome registers request m) → EndsUnfetched (interruptRules registers request) m
 
 -- the customer's demand 3 for interrupts: over a memory that has the same in the named words the same answer, the entry concerned among
 -- its parts, unless it was an access fault
@@ -131,10 +140,11 @@ Isolated = (registers : Registers) (request : InterruptRequest) (m m′ : Memory
     (outcome registers request m ≡ outcome registers request m′)
     × (interruptPlace registers request m ≡ interruptPlace registers request m′)
 
--- and so the same bits are set
+-- and so the same bits are set, by host address, both with windows that aren't refused
 abbrev pub SameBits : Type 0
-SameBits = (registers : Registers) (request : InterruptRequest) (image image′ : List ℕ) →
-    (AccessFault (outcome registers request (ofImage image)) → ⊥) →
-    SameIn (namedWords registers request (ofImage image)) (ofImage image) (ofImage image′) →
-    (n : ℕ) → bitAt (written (outcome registers request (ofImage image′)) image′) n
-    ≡ (bitAt image′ n || sets (outcome registers request (ofImage image)) n)
+SameBits = (registers : Registers) (request : InterruptRequest) (windows bytes windows′ bytes′ : List ℕ) →
+    badWindows windows (length bytes) ≡ false → badWindows windows′ (length bytes′) ≡ false →
+    let m = ofWindows windows bytes in
+    (AccessFault (outcome registers request m) → ⊥) → SameIn (namedWords registers request m) m (ofWindows windows′ bytes′) →
+    (n : ℕ) → bitAt windows′ (written windows′ (interruptAnswer registers request windows′ bytes′) bytes′) n
+    ≡ (bitAt windows′ bytes′ n || sets (interruptAnswer registers request windows bytes) n)

@@ -2,7 +2,9 @@
 -- the entry, then those of the descriptor, each only where it was fetched.
 use Prim.Native.Nat.{ℕ, _+_, _*_, _^_}
 use mathlib.Core.Bool.{Bool, false, not}
+use mathlib.Core.List.{List}
 use lib.Dec.{leb}
+use lib.ListN.{length}
 use Rattle.image.specs.Check.{onCheck}
 use Rattle.image.specs.Choice.{if_then_else_}
 use Rattle.image.specs.EntryKind.{remappingEntry, postedDescriptor}
@@ -10,6 +12,7 @@ use Rattle.image.specs.Memory.{Memory}
 use Rattle.image.specs.Place.{Place, noEntry, stoppedAt}
 use Rattle.image.specs.Rules.{Rules, answer, run, mapRules}
 use Rattle.image.specs.Stage.{stage}
+use Rattle.image.specs.Windows.{badWindows, ofWindows}
 use Rattle.registers.specs.Admission.{admission, onAdmission, inInterruptRange}
 use Rattle.registers.specs.declared.Registers.{Registers}
 use Rattle.faults.specs.Record.{FaultAnswer, interruptFault}
@@ -81,3 +84,14 @@ concerned (refused number) place = noEntry
 
 abbrev pub interruptPlace : Registers → InterruptRequest → Memory → Place
 interruptPlace registers request m = concerned (run (interruptRules registers request) m) (stoppedAt (interruptRules registers request) m)
+
+-- Over lent memory (document 02, ask 9): windows that are refused are refusal 1, before all else. Else the rules decide, over the memory
+-- that the windows show of the run.
+abbrev pub interruptAnswer : Registers → InterruptRequest → (windows bytes : List ℕ) → InterruptOutcome
+interruptAnswer registers request windows bytes =
+    if badWindows windows (length bytes) then refused 1 else run (interruptRules registers request) (ofWindows windows bytes)
+
+-- the entry concerned in it
+abbrev pub interruptAnswerPlace : Registers → InterruptRequest → (windows bytes : List ℕ) → Place
+interruptAnswerPlace registers request windows bytes =
+    if badWindows windows (length bytes) then noEntry else interruptPlace registers request (ofWindows windows bytes)

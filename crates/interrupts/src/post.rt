@@ -1,31 +1,37 @@
 // What a post writes: two bytes at most.
+ghost use mathlib.Core.Bool.{false};
 ghost use mathlib.Core.Path.{_≡_};
-ghost use Prim.Native.Nat.{_+_, _/_, _<_, _≤_};
+ghost use Prim.Native.Nat.{ℕ, _+_, _/_, _<_};
 ghost use lib.ListN.{length};
+ghost use Rattle.image.specs.Windows.{windowsOf, here, spotIn, badWindows};
 ghost use Rattle.interrupts.specs.Checked.{dueOf};
-ghost use Rattle.interrupts.specs.Post.{setBit, notified};
+ghost use Rattle.interrupts.specs.Interrupts as rules;
+ghost use Rattle.interrupts.specs.Post.{setBit, written};
 use crate::answer::Posted;
 use crate::descriptor::Notice;
+use image::place64;
 
 // ON's bit number in a descriptor.
 const ON: usize = 256;
 
-fn set_bit(image: &mut [u8], descriptor: usize, place: usize)
-    requires { ⌜ descriptor + place / 8 < length (now image) ⌝ }
-    ensures { λ _. ⌜ now (image .exit) ≡ setBit descriptor place (now (image .entry)) ⌝ }
+// A bit of the descriptor that stands at a place of the run.
+fn set_bit(image: &mut [u8], at: usize, place: usize)
+    requires { ⌜ at + place / 8 < length (now image) ⌝ }
+    ensures { λ _. ⌜ now (image .exit) ≡ setBit at place (now (image .entry)) ⌝ }
 {
-    let at = descriptor + place / 8;
-    image[at] = image[at] | 1u8 << (place % 8);
+    let byte = at + place / 8;
+    image[byte] = image[byte] | 1u8 << (place % 8);
 }
 
-pub(crate) fn write_post(image: &mut [u8], posted: Posted)
-    requires { ⌜ posted .descriptor + 64 ≤ length (now image) ⌝ }
-    ensures { λ _. ⌜ now (image .exit) ≡ notified (posted .descriptor) (dueOf (posted .notice)) (setBit (posted .descriptor) (posted .vector) (now (image .entry))) ⌝ }
+pub(crate) fn write_post(windows: &[u64], image: &mut [u8], posted: Posted)
+    requires { ⌜ (badWindows (now windows) (length (now image)) ≡ false)
+        × ((place : ℕ) × (left : ℕ) × (spotIn (windowsOf (now windows)) 64 (posted .descriptor) ≡ here place left)) ⌝ }
+    ensures { λ _. ⌜ now (image .exit) ≡ written (now (windows .entry)) (rules.posted (posted .descriptor) (posted .vector) (dueOf (posted .notice))) (now (image .entry)) ⌝ }
 {
-    let descriptor = posted.descriptor as usize;
     let notice = posted.notice;
-    set_bit(image, descriptor, posted.vector as usize);
+    let at = place64(windows, image.len(), posted.descriptor);
+    set_bit(image, at, posted.vector as usize);
     if let Notice::Due { .. } = notice {
-        set_bit(image, descriptor, ON);
+        set_bit(image, at, ON);
     }
 }

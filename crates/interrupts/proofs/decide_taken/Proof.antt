@@ -1,8 +1,8 @@
 -- Each answer by what the request's check tells.
-use mathlib.Core.Path.{refl, ap, ap₂, sym, _∙_, subst}
+use mathlib.Core.Path.{refl, ap, _∙_, subst}
 use borrow.Author.Needs.{needs}
-use Rattle.image.specs.Memory.{ofImage}
 use Rattle.image.specs.Place.{Place}
+use Rattle.image.specs.Windows.{ofWindows}
 use Rattle.interrupts.specs.Answers.{DeliveryNames}
 use Rattle.interrupts.specs.Checked.{requestChecked}
 use Rattle.interrupts.specs.Interrupts.{blocked}
@@ -34,8 +34,8 @@ interrupt-fault-requires c κs = search needs
 returns : tie.Need-returns
 returns c =
     let k = c .before .before in
-    let a = k .before .before .args in (
-      compatible (a .registers) (a .request) (ofImage (a .image .now)) (k .request-check .ensures)
+    let a = k .before .before .before .args in (
+      compatible (a .registers) (a .request) (ofWindows (a .windows .now) (a .image .now)) (k .request-check .ensures)
           (ap requestChecked (c .enum-told .given .1)),
       refl,
     )
@@ -44,11 +44,11 @@ returns-2 : tie.Need-returns-2
 returns-2 c =
     let i = c .before .before .before in
     let k = i .before .before in
-    let a = k .before .before .args in
+    let a = k .before .before .before .args in
     let told = ap requestChecked (i .index .given .1) in
-    let place = indexed-at (a .registers) (a .request) (ofImage (a .image .now)) (k .request-check .ensures) told in (
+    let place = indexed-at (a .registers) (a .request) (ofWindows (a .windows .now) (a .image .now)) (k .request-check .ensures) told in (
       c .answer-of .ensures .0
-          ∙ indexed (a .registers) (a .request) (ofImage (a .image .now)) (k .request-check .ensures) told (c .before .follow-index .ensures .0),
+          ∙ indexed (a .registers) (a .request) (ofWindows (a .windows .now) (a .image .now)) (k .request-check .ensures) told (c .before .follow-index .ensures .0),
       c .answer-of .ensures .1 _ (subst (λ (p : Place). DeliveryNames (c .before .follow-index .result) p) place (c .before .follow-index .ensures .1)),
     )
 
@@ -56,11 +56,11 @@ returns-3 : tie.Need-returns-3
 returns-3 c =
     let i = c .before .before in
     let k = i .before .before in
-    let a = k .before .before .args in
+    let a = k .before .before .before .args in
     let told = ap requestChecked (i .reason .given .1) in (
       ap blocked (c .interrupt-fault .ensures)
-          ∙ stops (a .registers) (a .request) (ofImage (a .image .now)) (k .request-check .ensures) told,
-      stops-at (a .registers) (a .request) (ofImage (a .image .now)) (k .request-check .ensures) told,
+          ∙ stops (a .registers) (a .request) (ofWindows (a .windows .now) (a .image .now)) (k .request-check .ensures) told,
+      stops-at (a .registers) (a .request) (ofWindows (a .windows .now) (a .image .now)) (k .request-check .ensures) told,
     )
 
 pub decide-taken-spec : {M : Type 1} → statement M

@@ -9,8 +9,8 @@ use Rattle.interrupts.proofs.Posts.{with-bit}
 use Rattle.interrupts.proofs.post.set_bit.Statement.{statement}
 use Rattle.interrupts.proofs.post.set_bit.Tie as tie
 
-add-at : tie.Need-add-at
-add-at c = search needs
+add-byte : tie.Need-add-byte
+add-byte c = search needs
 
 slice-read-image : tie.Need-slice-read-image
 slice-read-image c = search needs
@@ -31,10 +31,10 @@ returns : tie.Need-returns
 unfolding setBit
 returns c =
     let a = c .before .args in
-    let at = a .descriptor + a .place / 8 in
+    let at = a .at + a .place / 8 in
     ap (set (a .image .now) at) (with-bit (getD (a .image .now) at 0) (a .place % 8) (omega arith))
 
 pub set-bit-spec : {M : Type 1} → statement M
 set-bit-spec =
     tie.close
-    (tie.spec add-at slice-read-image cast-image shl-image slice-write-image same-length returns)
+    (tie.spec add-byte slice-read-image cast-image shl-image slice-write-image same-length returns)

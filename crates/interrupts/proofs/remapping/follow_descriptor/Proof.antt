@@ -1,15 +1,15 @@
 -- Each answer by what the fetch and the check tell.
 use mathlib.Core.Path.{refl, ap, sym, _∙_}
 use borrow.Author.Needs.{needs}
-use Rattle.image.specs.Memory.{ofImage}
+use Rattle.image.specs.Windows.{ofWindows}
 use Rattle.image.specs.Entries.{fetched64}
 use Rattle.interrupts.specs.Checked.{descriptorChecked}
 use Rattle.interrupts.proofs.Stages.{no-descriptor, descriptor-checked}
 use Rattle.interrupts.proofs.remapping.follow_descriptor.Statement.{statement}
 use Rattle.interrupts.proofs.remapping.follow_descriptor.Tie as tie
 
-flat-fetch64-requires : tie.Need-flat-fetch64-requires
-flat-fetch64-requires c κs = search needs
+fetch64-requires : tie.Need-fetch64-requires
+fetch64-requires c κs = search needs
 
 enum-known-d : tie.Need-enum-known-d
 enum-known-d c = search needs
@@ -20,9 +20,9 @@ enum-told c = search needs
 returns : tie.Need-returns
 returns c =
     let f = c .before .before in
-    let a = f .before .before .args in (
-      no-descriptor (ofImage (a .image .now)) (a .eime) (a .urgent) (a .fpd) (a .vector) (a .at)
-          (sym (ap fetched64 (c .enum-told .given .1)) ∙ f .flat-fetch64 .ensures .0),
+    let a = f .before .before .before .args in (
+      no-descriptor (ofWindows (a .windows .now) (a .image .now)) (a .eime) (a .urgent) (a .fpd) (a .vector) (a .at)
+          (sym (ap fetched64 (c .enum-told .given .1)) ∙ f .fetch64 .ensures .0),
       refl,
     )
 
@@ -40,9 +40,9 @@ returns-2 c =
     let k = c .before .before in
     let found = k .before .before in
     let f = found .before .before in
-    let a = f .before .before .args in (
-      descriptor-checked (ofImage (a .image .now)) (a .eime) (a .urgent) (a .fpd) (a .vector) (a .at)
-          (sym (ap fetched64 (found .d .given .1)) ∙ f .flat-fetch64 .ensures .0)
+    let a = f .before .before .before .args in (
+      descriptor-checked (ofWindows (a .windows .now) (a .image .now)) (a .eime) (a .urgent) (a .fpd) (a .vector) (a .at)
+          (sym (ap fetched64 (found .d .given .1)) ∙ f .fetch64 .ensures .0)
           (sym (ap descriptorChecked (c .enum-told2 .given .1)) ∙ k .descriptor-check .ensures .0),
       refl,
     )
@@ -52,9 +52,9 @@ returns-3 c =
     let k = c .before .before .before in
     let found = k .before .before in
     let f = found .before .before in
-    let a = f .before .before .args in (
-      descriptor-checked (ofImage (a .image .now)) (a .eime) (a .urgent) (a .fpd) (a .vector) (a .at)
-          (sym (ap fetched64 (found .d .given .1)) ∙ f .flat-fetch64 .ensures .0)
+    let a = f .before .before .before .args in (
+      descriptor-checked (ofWindows (a .windows .now) (a .image .now)) (a .eime) (a .urgent) (a .fpd) (a .vector) (a .at)
+          (sym (ap fetched64 (found .d .given .1)) ∙ f .fetch64 .ensures .0)
           (sym (ap descriptorChecked (c .before .notice .given .1)) ∙ k .descriptor-check .ensures .0),
       refl,
     )
@@ -63,7 +63,7 @@ pub follow-descriptor-spec : {M : Type 1} → statement M
 follow-descriptor-spec =
     tie.close
     (tie.spec
-    flat-fetch64-requires
+    fetch64-requires
     enum-known-d
     enum-told
     returns
