@@ -6,6 +6,7 @@ pub mod Counting
 pub mod Decide
 pub mod HandedOut
 pub mod Highest
+pub mod Memories
 pub mod Orders
 pub mod Places
 pub mod Stable

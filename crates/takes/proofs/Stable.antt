@@ -1,24 +1,19 @@
--- A request over an image that a post has changed: where the post's descriptor shares no byte with the request's interrupt entry,
+-- A request over a memory that a post has changed: where the post's descriptor shares no byte with the request's interrupt entry,
 -- the answer is the same but for a post's notice.
 use Prim.Native.Nat.{ℕ, _+_, _%_, _^_, _≤_, _<_}
 use mathlib.Core.Bool.{Bool, true, false, not}
-use mathlib.Core.List.{List}
 use mathlib.Core.Path.{_≡_, ap}
-use native.Mathlib.Decide.{decLe}
 use native.Mathlib.Omega.{arith}
 use lib.Dec.{eqb, leb}
-use lib.ListN.{length}
 use Rattle.image.specs.Bits.{bit, anySet}
-use Rattle.image.specs.Check.{Check, stop, go, onCheck}
+use Rattle.image.specs.Check.{stop, go, onCheck}
 use Rattle.image.specs.Choice.{if_then_else_}
-use Rattle.image.specs.Entries.{spell}
 use Rattle.image.specs.EntryKind.{remappingEntry, postedDescriptor}
-use Rattle.image.specs.Memory.{Memory, Fetched, missing, found, onFetch, entry, ofImage}
+use Rattle.image.specs.Memory.{Memory, Fetched, missing, found, onFetch, entry}
 use Rattle.image.specs.Rules.{Rules, answer, run}
 use Rattle.image.proofs.Choices.{chosen}
 use Rattle.image.proofs.Stages.{after, check-cases}
 use Rattle.image.proofs.Trees.{run-map}
-use Rattle.image.proofs.Words.{wordsIn, inside, outside}
 use Rattle.registers.specs.declared.Registers.{Registers}
 use Rattle.irte.specs.Irte.{Irte, remaps, posts, irteCheck, descriptorAddress, faultProcessingDisabled}
 use Rattle.interrupts.specs.Claims.{outcome, wholeIndex, entryAt, beforeTable}
@@ -42,51 +37,43 @@ reserved-same eime d d′ h =
     λ high low l t. ap (λ (n : ℕ). not (eqb n 0)) (field-same d′ d low high (λ k from to. h k (omega arith) (omega arith))) in
     rw (f 271 258 (omega arith) (omega arith), f 287 280 (omega arith) (omega arith), f 511 320 (omega arith) (omega arith), f 295 288 (omega arith) (omega arith), f 319 304 (omega arith) (omega arith))
 
-module _ (registers : Registers) (request : InterruptRequest) (image image′ : List ℕ) (same-length : length image′ ≡ length image)
-    (same-irte : entry 2 (ofImage image′) (entryAt registers request) ≡ entry 2 (ofImage image) (entryAt registers request))
-    (same-reserved : (at : ℕ) → at % 64 ≡ 0 → (d d′ : ℕ) → entry 8 (ofImage image) at ≡ found d → entry 8 (ofImage image′) at ≡ found d′
-    → (k : ℕ) → 258 ≤ k → k < 512 → bit d′ k ≡ bit d k) where
+-- a descriptor in both memories, missing or there, with the same reserved bits
+pub data Descriptors : Fetched → Fetched → Type 0 where
+  none-there : Descriptors missing missing
+  reserved-there : {d d′ : ℕ} → ((k : ℕ) → 258 ≤ k → k < 512 → bit d′ k ≡ bit d k) → Descriptors (found d) (found d′)
+
+module _ (registers : Registers) (request : InterruptRequest) (m m′ : Memory)
+    (same-irte : entry 2 m′ (entryAt registers request) ≡ entry 2 m (entryAt registers request))
+    (descriptors : (at : ℕ) → at % 64 ≡ 0 → Descriptors (entry 8 m at) (entry 8 m′ at)) where
   abbrev AlikeD : Delivery → Delivery → Type 0
   AlikeD d d′ = Alike (delivered (request .source .id) (wholeIndex request) d) (delivered (request .source .id) (wholeIndex request) d′)
 
-  -- what holds of the rules over both images
+  -- what holds of the rules over both memories
   abbrev Both : Rules Delivery → Type 0
-  Both q = AlikeD (run q (ofImage image)) (run q (ofImage image′))
+  Both q = AlikeD (run q m) (run q m′)
 
   descriptor-alike : (urgent fpd : Bool) (at vector : ℕ) → at % 64 ≡ 0 → Both (descriptorRules (registers .eime) urgent fpd at vector)
   unfolding descriptorRules run descriptorCheck
-  descriptor-alike urgent fpd at vector aligned = by (decLe (at + 64) (length image))
+  descriptor-alike urgent fpd at vector aligned = by (entry 8 m at) (entry 8 m′ at) (descriptors at aligned)
     where
-      d : ℕ
-      d = spell (wordsIn image 8 at)
-
-      d′ : ℕ
-      d′ = spell (wordsIn image′ 8 at)
-
       next : ℕ → Rules Delivery
       next = after postedDescriptor at (fault 0x27 fpd) (descriptorCheck (registers .eime) urgent) (λ d reason. fault reason fpd) (λ n. answer (post at vector n))
 
       rules : Bool → Notice → Rules Delivery
       rules t n = onCheck (if t then stop 0x28 else go n) (λ reason. answer (fault reason fpd)) (λ n. answer (post at vector n))
 
-      checked : (t t′ : Bool) → t′ ≡ t → (n n′ : Notice) → AlikeD (run (rules t n) (ofImage image)) (run (rules t′ n′) (ofImage image′))
+      checked : (t t′ : Bool) → t′ ≡ t → (n n′ : Notice) → AlikeD (run (rules t n) m) (run (rules t′ n′) m′)
       checked true true h n n′ = same
       checked false false h n n′ = reposted n n′
       checked true false h n n′ = let z : _≡_ {A = ℕ} 0 1 = cc in absurd (omega arith)
       checked false true h n n′ = let z : _≡_ {A = ℕ} 0 1 = cc in absurd (omega arith)
 
-      followed : reservedDescriptor (registers .eime) d′ ≡ reservedDescriptor (registers .eime) d
-          → AlikeD (run (next d) (ofImage image)) (run (next d′) (ofImage image′))
-      followed h =
-          checked (reservedDescriptor (registers .eime) d) (reservedDescriptor (registers .eime) d′) h
+      by : (f f′ : Fetched) → Descriptors f f′
+          → AlikeD (onFetch f (fault 0x27 fpd) (λ d. run (next d) m)) (onFetch f′ (fault 0x27 fpd) (λ d. run (next d) m′))
+      by missing missing none-there = same
+      by (found d) (found d′) (reserved-there h) =
+          checked (reservedDescriptor (registers .eime) d) (reservedDescriptor (registers .eime) d′) (reserved-same (registers .eime) d d′ h)
           (noticeOf (registers .eime) urgent d) (noticeOf (registers .eime) urgent d′)
-
-      by : Dec (at + 64 ≤ length image) → Both (descriptorRules (registers .eime) urgent fpd at vector)
-      by (yes whole) =
-          let there = inside image 8 at whole in
-          let there′ = inside image′ 8 at (omega arith) in
-          rw (there, there′) (followed (reserved-same (registers .eime) d d′ (same-reserved at aligned d d′ there there′)))
-      by (no past) = rw (outside image 7 at (omega arith), outside image′ 7 at (omega arith)) same
 
   irte-alike : (e : ℕ) (i : Irte) → irteCheck registers (request .source .id) e ≡ go i → Both (onIrte (registers .eime) i)
   unfolding run
@@ -99,28 +86,28 @@ module _ (registers : Registers) (request : InterruptRequest) (image image′ : 
   unfolding indexRules run
   index-alike =
       chosen Both (leb (2 ^ (registers .s + 1)) (wholeIndex request)) (λ h. same)
-      (λ h. rw same-irte (by (entry 2 (ofImage image) (entryAt registers request))))
+      (λ h. rw same-irte (by (entry 2 m (entryAt registers request))))
     where
       next : ℕ → Rules Delivery
       next = after remappingEntry (entryAt registers request) (fault 0x23 false) (irteCheck registers (request .source .id))
           (λ e reason. fault reason (faultProcessingDisabled e)) (onIrte (registers .eime))
 
       by : (f : Fetched)
-          → AlikeD (onFetch f (fault 0x23 false) (λ e. run (next e) (ofImage image))) (onFetch f (fault 0x23 false) (λ e. run (next e) (ofImage image′)))
+          → AlikeD (onFetch f (fault 0x23 false) (λ e. run (next e) m)) (onFetch f (fault 0x23 false) (λ e. run (next e) m′))
       by missing = same
       by (found e) =
           check-cases Both (irteCheck registers (request .source .id) e) (λ reason. fault reason (faultProcessingDisabled e)) (onIrte (registers .eime))
           (λ reason h. same) (irte-alike e)
 
-  pub alike : Alike (outcome registers request image) (outcome registers request image′)
+  pub alike : Alike (outcome registers request m) (outcome registers request m′)
   unfolding run
   alike =
-      request-cases registers request (λ q. Alike (run q (ofImage image)) (run q (ofImage image′))) early-answer
-      (rw (told (ofImage image), told (ofImage image′)) index-alike)
+      request-cases registers request (λ q. Alike (run q m) (run q m′)) early-answer
+      (rw (told m, told m′) index-alike)
     where
-      told : (m : Memory) → run (atTable registers request) m
-          ≡ delivered (request .source .id) (wholeIndex request) (run (indexRules registers (request .source .id) (wholeIndex request)) m)
+      told : (memory : Memory) → run (atTable registers request) memory
+          ≡ delivered (request .source .id) (wholeIndex request) (run (indexRules registers (request .source .id) (wholeIndex request)) memory)
       told = run-map (delivered (request .source .id) (wholeIndex request)) (indexRules registers (request .source .id) (wholeIndex request))
 
-      early-answer : (o : InterruptOutcome) → beforeTable o ≡ true → Alike (run (answer o) (ofImage image)) (run (answer o) (ofImage image′))
+      early-answer : (o : InterruptOutcome) → beforeTable o ≡ true → Alike (run (answer o) m) (run (answer o) m′)
       early-answer o h = same

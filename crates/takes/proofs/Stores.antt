@@ -1,4 +1,4 @@
--- Bits that are set and cleared in the image, one by one.
+-- Bits that are set and cleared in the lent run, one by one.
 use Prim.Native.Nat.{ℕ, _+_, _-_, _*_, _/_, _%_, _^_, _≤_, _<_}
 use mathlib.Core.Bool.{Bool, true, false, not, _&&_, _||_}
 use mathlib.Core.List.{List}
@@ -17,9 +17,13 @@ use Rattle.image.specs.Bits.{bits, bit}
 use Rattle.image.specs.Choice.{if_then_else_}
 use Rattle.image.proofs.Bytes.{AreBytes}
 use Rattle.image.proofs.Choices.{or-false}
+use Rattle.image.specs.Windows.{windowsOf, Spot, nowhere, here, onSpot, spotIn, badWindows}
 use Rattle.interrupts.specs.Claims.{bitAt}
-use Rattle.interrupts.specs.Post.{withBit, setBit}
+use Rattle.interrupts.specs.Descriptor.{Notice, silent, notice}
+use Rattle.interrupts.specs.Interrupts.{InterruptOutcome, passed, remapped, posted, blocked, refused}
+use Rattle.interrupts.specs.Post.{withBit, setBit, notified, written}
 use Rattle.interrupts.proofs.Exact.{bit-with}
+use Rattle.interrupts.proofs.Hosts.{bitIn, spot-inside, carried}
 use Rattle.interrupts.proofs.Posts.{one-bit, or-power}
 use Rattle.takes.specs.Take.{withoutBit, clearBit}
 use Rattle.takes.proofs.Bools.{and-true, and-false}
@@ -94,9 +98,21 @@ module _ (image : List ℕ) (bytes : AreBytes image) (descriptor place : ℕ) wh
       let at = descriptor + place / 8 in
       bytes-set image at _ bytes (without-below (getD image at 0) (place % 8) (bytes at))
 
--- the image with a bit of a descriptor clear, bit by bit
-pub clear-at : (image : List ℕ) (descriptor place n : ℕ) → descriptor + place / 8 < length image
-    → bitAt (clearBit descriptor place image) n ≡ (bitAt image n && not (eqb n (8 * descriptor + place)))
+pub bytes-written : (windows image : List ℕ) → AreBytes image → (o : InterruptOutcome) → AreBytes (written windows o image)
+bytes-written windows image bytes (posted d u m) = by m (spotIn (windowsOf windows) 64 d)
+  where
+    by : (m : Notice) (s : Spot) → AreBytes (onSpot s image (λ at left. notified at m (setBit at u image)))
+    by m nowhere = bytes
+    by silent (here at left) = bytes-setBit image bytes at u
+    by (notice v t) (here at left) = bytes-setBit (setBit at u image) (bytes-setBit image bytes at u) at 256
+bytes-written windows image bytes passed = bytes
+bytes-written windows image bytes (remapped r) = bytes
+bytes-written windows image bytes (blocked f) = bytes
+bytes-written windows image bytes (refused number) = bytes
+
+-- the run with a bit of a descriptor clear, bit by bit
+clear-at : (image : List ℕ) (descriptor place n : ℕ) → descriptor + place / 8 < length image
+    → bitIn (clearBit descriptor place image) n ≡ (bitIn image n && not (eqb n (8 * descriptor + place)))
 unfolding clearBit
 clear-at image descriptor place n inside = go (eqb (n / 8) at) refl
   where
@@ -112,16 +128,31 @@ clear-at image descriptor place n inside = go (eqb (n / 8) at) refl
         sym (eq-eqb n (8 * descriptor + place) (omega arith))
     place-same same false e = sym (ne-eqb n (8 * descriptor + place) (λ h. eqb-false (n % 8) (place % 8) e (omega arith)))
 
-    go : (t : Bool) → eqb (n / 8) at ≡ t → bitAt (set image at byte) n ≡ (bitAt image n && not (eqb n (8 * descriptor + place)))
+    go : (t : Bool) → eqb (n / 8) at ≡ t → bitIn (set image at byte) n ≡ (bitIn image n && not (eqb n (8 * descriptor + place)))
     go true e =
         let same : n / 8 ≡ at = eqb-true (n / 8) at e in
         ap (λ (k : ℕ). bit (getD (set image at byte) k 0) (n % 8)) same
         ∙ ap (λ (b : ℕ). bit b (n % 8)) (getD-set-same image at byte 0 inside)
         ∙ bit-without (getD image at 0) (place % 8) (n % 8)
         ∙ ap (λ (k : ℕ). bit (getD image k 0) (n % 8) && not (eqb (n % 8) (place % 8))) (sym same)
-        ∙ ap (λ (t : Bool). bitAt image n && not t) (place-same same (eqb (n % 8) (place % 8)) refl)
+        ∙ ap (λ (t : Bool). bitIn image n && not t) (place-same same (eqb (n % 8) (place % 8)) refl)
     go false e =
         let other = eqb-false (n / 8) at e in
         ap (λ (b : ℕ). bit b (n % 8)) (getD-set-other image at (n / 8) byte 0 other)
-        ∙ sym (and-true (bitAt image n))
-        ∙ ap (λ (t : Bool). bitAt image n && not t) (sym (ne-eqb n (8 * descriptor + place) (λ h. other (omega arith))))
+        ∙ sym (and-true (bitIn image n))
+        ∙ ap (λ (t : Bool). bitIn image n && not t) (sym (ne-eqb n (8 * descriptor + place) (λ h. other (omega arith))))
+
+-- and by host address
+module _ (windows bytes : List ℕ) (descriptor : ℕ) {k left : ℕ} (there : spotIn (windowsOf windows) 64 descriptor ≡ here k left)
+    (place : ℕ) (small : place < 512) where
+  pub host-clear : badWindows windows (length bytes) ≡ false → (n : ℕ)
+      → bitAt windows (clearBit k place bytes) n ≡ (bitAt windows bytes n && not (eqb n (8 * descriptor + place)))
+  host-clear good =
+      let inside = spot-inside windows bytes good 64 descriptor there in
+      carried windows bytes good 64 descriptor there (clearBit k place bytes) (λ a b. a && not b) refl place (omega arith)
+      (λ n. clear-at bytes k place n (omega arith))
+
+-- a byte of the run in which no bit of a descriptor is cleared
+pub uncleared : (bytes : List ℕ) (at place k : ℕ) → (k ≡ at + place / 8 → ⊥) → getD (clearBit at place bytes) k 0 ≡ getD bytes k 0
+unfolding clearBit
+uncleared bytes at place k other = getD-set-other bytes (at + place / 8) k _ 0 other

@@ -1,16 +1,16 @@
--- Runs of interrupt requests and takes over one image, each made on what the one before it left.
+-- Runs of interrupt requests and takes over one lent run of bytes, each made on what the one before it left. The windows stay.
 use Prim.Native.Nat.{ℕ, zero, suc, _+_, _*_}
 use mathlib.Core.Bool.{Bool, true, false, not, _&&_}
 use mathlib.Core.List.{List, [], _∷_}
 use lib.Dec.{eqb, leb}
 use Rattle.image.specs.Choice.{if_then_else_}
 use Rattle.registers.specs.declared.Registers.{Registers}
-use Rattle.interrupts.specs.Claims.{outcome, bitAt, due}
-use Rattle.interrupts.specs.Interrupts.{InterruptOutcome, passed, remapped, posted, blocked, refused}
+use Rattle.interrupts.specs.Claims.{bitAt, due}
+use Rattle.interrupts.specs.Interrupts.{InterruptOutcome, passed, remapped, posted, blocked, refused, interruptAnswer}
 use Rattle.interrupts.specs.Post.{written}
 use Rattle.interrupts.specs.declared.InterruptRequest.{InterruptRequest}
 use Rattle.takes.specs.Take as rules
-use Rattle.takes.specs.Take.{TakeOutcome, taken, takeOutcome}
+use Rattle.takes.specs.Take.{TakeOutcome, taken, takeAnswer}
 
 -- an operation with its arguments, whatever they are: each brings its own registers
 pub data Operation : Type 0 where
@@ -18,35 +18,13 @@ pub data Operation : Type 0 where
   request : Registers → InterruptRequest → Operation
   take : Registers → (descriptor : ℕ) → Operation
 
-unfoldable pub after : Operation → List ℕ → List ℕ
-after (request registers r) image = written (outcome registers r image) image
-after (take registers descriptor) image = taken descriptor (takeOutcome registers descriptor image) image
-
--- what a run leaves
-unfoldable pub left : List Operation → List ℕ → List ℕ
-left [] image = image
-left (o ∷ os) image = left os (after o image)
-
 abbrev pub one-if : Bool → ℕ
 one-if test = if test then 1 else 0
-
--- how many operations of a run are of a kind, each judged on the image that it met
-unfoldable pub count : (Operation → List ℕ → Bool) → List Operation → List ℕ → ℕ
-count kind [] image = 0
-count kind (o ∷ os) image = one-if (kind o image) + count kind os (after o image)
-
--- whether a vector's request bit stands in a descriptor
-abbrev pub stands : (descriptor : ℕ) → List ℕ → (vector : ℕ) → Bool
-stands descriptor image vector = bitAt image (8 * descriptor + vector)
 
 -- how many places from low to below n a test holds of
 unfoldable pub countFrom : (low n : ℕ) → (ℕ → Bool) → ℕ
 countFrom low zero test = 0
 countFrom low (suc n) test = countFrom low n test + one-if (leb low n && test n)
-
--- how many request bits stand in a descriptor at or above a vector
-abbrev pub standingFrom : (descriptor vector : ℕ) → List ℕ → ℕ
-standingFrom descriptor vector image = countFrom vector 256 (stands descriptor image)
 
 -- by its answer, a take was not refused; it handed out this vector
 abbrev pub unrefused : TakeOutcome → Bool
@@ -82,26 +60,49 @@ noticed (remapped r) = false
 noticed (blocked f) = false
 noticed (refused number) = false
 
--- the kinds that the claims count: an unrefused take at a descriptor, one that hands out the vector, a post to the descriptor
--- at or above the vector, and a post with a notice
-abbrev pub takesAt : (descriptor : ℕ) → Operation → List ℕ → Bool
-takesAt descriptor (request registers r) image = false
-takesAt descriptor (take registers d) image = eqb d descriptor && unrefused (takeOutcome registers d image)
+module _ (windows : List ℕ) where
+  unfoldable pub after : Operation → List ℕ → List ℕ
+  after (request registers r) bytes = written windows (interruptAnswer registers r windows bytes) bytes
+  after (take registers descriptor) bytes = taken windows descriptor (takeAnswer registers descriptor windows bytes) bytes
 
-abbrev pub handsOut : (descriptor vector : ℕ) → Operation → List ℕ → Bool
-handsOut descriptor vector (request registers r) image = false
-handsOut descriptor vector (take registers d) image = eqb d descriptor && hands vector (takeOutcome registers d image)
+  -- what a run leaves
+  unfoldable pub left : List Operation → List ℕ → List ℕ
+  left [] bytes = bytes
+  left (o ∷ os) bytes = left os (after o bytes)
 
-abbrev pub postsAt : (descriptor vector : ℕ) → Operation → List ℕ → Bool
-postsAt descriptor vector (request registers r) image = postsFrom descriptor vector (outcome registers r image)
-postsAt descriptor vector (take registers d) image = false
+  -- how many operations of a run are of a kind, each judged on the bytes that it met
+  unfoldable pub count : (Operation → List ℕ → Bool) → List Operation → List ℕ → ℕ
+  count kind [] bytes = 0
+  count kind (o ∷ os) bytes = one-if (kind o bytes) + count kind os (after o bytes)
 
--- a post of the vector to the descriptor that found its request bit clear
-abbrev pub postsClear : (descriptor vector : ℕ) → Operation → List ℕ → Bool
-postsClear descriptor vector (request registers r) image =
-    postsVector descriptor vector (outcome registers r image) && not (stands descriptor image vector)
-postsClear descriptor vector (take registers d) image = false
+  -- whether a vector's request bit stands in a descriptor
+  abbrev pub stands : (descriptor : ℕ) → List ℕ → (vector : ℕ) → Bool
+  stands descriptor bytes vector = bitAt windows bytes (8 * descriptor + vector)
 
-abbrev pub notices : Operation → List ℕ → Bool
-notices (request registers r) image = noticed (outcome registers r image)
-notices (take registers d) image = false
+  -- how many request bits stand in a descriptor at or above a vector
+  abbrev pub standingFrom : (descriptor vector : ℕ) → List ℕ → ℕ
+  standingFrom descriptor vector bytes = countFrom vector 256 (stands descriptor bytes)
+
+  -- the kinds that the claims count: an unrefused take at a descriptor, one that hands out the vector, a post to the descriptor
+  -- at or above the vector, and a post with a notice
+  abbrev pub takesAt : (descriptor : ℕ) → Operation → List ℕ → Bool
+  takesAt descriptor (request registers r) bytes = false
+  takesAt descriptor (take registers d) bytes = eqb d descriptor && unrefused (takeAnswer registers d windows bytes)
+
+  abbrev pub handsOut : (descriptor vector : ℕ) → Operation → List ℕ → Bool
+  handsOut descriptor vector (request registers r) bytes = false
+  handsOut descriptor vector (take registers d) bytes = eqb d descriptor && hands vector (takeAnswer registers d windows bytes)
+
+  abbrev pub postsAt : (descriptor vector : ℕ) → Operation → List ℕ → Bool
+  postsAt descriptor vector (request registers r) bytes = postsFrom descriptor vector (interruptAnswer registers r windows bytes)
+  postsAt descriptor vector (take registers d) bytes = false
+
+  -- a post of the vector to the descriptor that found its request bit clear
+  abbrev pub postsClear : (descriptor vector : ℕ) → Operation → List ℕ → Bool
+  postsClear descriptor vector (request registers r) bytes =
+      postsVector descriptor vector (interruptAnswer registers r windows bytes) && not (stands descriptor bytes vector)
+  postsClear descriptor vector (take registers d) bytes = false
+
+  abbrev pub notices : Operation → List ℕ → Bool
+  notices (request registers r) bytes = noticed (interruptAnswer registers r windows bytes)
+  notices (take registers d) bytes = false
