@@ -103,7 +103,9 @@ fn memory(image: &[u8], source: SourceId, address: u64, write: bool) {
     text(b" from ");
     hex(source.id as u64);
     text(b": ");
-    match unit::memory_request(registers(), image, request) {
+    // One window from host address 0 shows the whole image.
+    let windows = [0u64, 0, image.len() as u64];
+    match unit::memory_request(registers(), &windows, image, request) {
         MemoryAnswer::Granted(host) => {
             text(b"host ");
             hex(host);
@@ -154,7 +156,8 @@ fn interrupt(image: &mut [u8], source: SourceId, address: u64, data: u32) {
     text(b" from ");
     hex(source.id as u64);
     text(b": ");
-    match unit::interrupt_request(registers(), image, request) {
+    let windows = [0u64, 0, image.len() as u64];
+    match unit::interrupt_request(registers(), &windows, image, request) {
         InterruptAnswer::Passed => text(b"passed\n"),
         InterruptAnswer::Remapped(remapped) => print_remapped(remapped),
         InterruptAnswer::Posted(posted) => print_posted(posted),

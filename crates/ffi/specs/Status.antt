@@ -16,6 +16,9 @@ badKind = 0x103
 abbrev pub badRecorder : ℕ
 badRecorder = 0x104
 
+abbrev pub badWindowCount : ℕ
+badWindowCount = 0x105
+
 abbrev pub noFault : ℕ
 noFault = 0x10
 

@@ -7,6 +7,7 @@ use crate::answer::store;
 use crate::status::BAD_ANSWER;
 use crate::status::BAD_KIND;
 use crate::status::BAD_REGISTERS;
+use crate::status::BAD_WINDOWS;
 use crate::status::OK;
 use crate::unpack::malformed;
 use crate::unpack::unpack;
@@ -19,16 +20,20 @@ use unit::memory_request;
 #[no_mangle]
 pub extern "C" fn galitzaf_memory_request(
     registers: &[u8],
+    windows: &[u64],
     image: &[u8],
     source: u16,
     address: u64,
     write: u8,
     answer: &mut [u8],
 ) -> u32
-    ensures { λ r. ⌜ (r, now (answer .exit)) ≡ memoryCall (now (registers .entry)) (now (image .entry)) source address write (now (answer .entry)) ⌝ }
+    ensures { λ r. ⌜ (r, now (answer .exit)) ≡ memoryCall (now (registers .entry)) (now (windows .entry)) (now (image .entry)) source address write (now (answer .entry)) ⌝ }
 {
     if malformed(registers) {
         return BAD_REGISTERS;
+    }
+    if windows.len() % 3 != 0 {
+        return BAD_WINDOWS;
     }
     if answer.len() != 32 {
         return BAD_ANSWER;
@@ -41,7 +46,7 @@ pub extern "C" fn galitzaf_memory_request(
         address,
         write: write == 1,
     };
-    let packed = pack_memory(memory_request(unpack(registers), image, request));
+    let packed = pack_memory(memory_request(unpack(registers), windows, image, request));
     store(answer, packed.head, packed.low, packed.high, packed.last);
     OK
 }
@@ -49,16 +54,20 @@ pub extern "C" fn galitzaf_memory_request(
 #[no_mangle]
 pub extern "C" fn galitzaf_interrupt_request(
     registers: &[u8],
+    windows: &[u64],
     image: &mut [u8],
     source: u16,
     address: u64,
     data: u32,
     answer: &mut [u8],
 ) -> u32
-    ensures { λ r. ⌜ (r, now (image .exit), now (answer .exit)) ≡ interruptCall (now (registers .entry)) (now (image .entry)) source address «data» (now (answer .entry)) ⌝ }
+    ensures { λ r. ⌜ (r, now (image .exit), now (answer .exit)) ≡ interruptCall (now (registers .entry)) (now (windows .entry)) (now (image .entry)) source address «data» (now (answer .entry)) ⌝ }
 {
     if malformed(registers) {
         return BAD_REGISTERS;
+    }
+    if windows.len() % 3 != 0 {
+        return BAD_WINDOWS;
     }
     if answer.len() != 32 {
         return BAD_ANSWER;
@@ -68,7 +77,7 @@ pub extern "C" fn galitzaf_interrupt_request(
         address,
         data,
     };
-    let packed = pack_interrupt(interrupt_request(unpack(registers), image, request));
+    let packed = pack_interrupt(interrupt_request(unpack(registers), windows, image, request));
     store(answer, packed.head, packed.low, packed.high, packed.last);
     OK
 }

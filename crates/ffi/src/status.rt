@@ -17,6 +17,8 @@ pub const BAD_KIND: u32 = 0x103;
 
 pub const BAD_RECORDER: u32 = 0x104;
 
+pub const BAD_WINDOWS: u32 = 0x105;
+
 pub const BAD_METERS: u32 = 0x106;
 
 // Plus the vector.

@@ -3,6 +3,7 @@ ghost use mathlib.Core.Path.{_≡_};
 ghost use Rattle.takes.specs.Answers.{takeOutcomeOf};
 ghost use Rattle.ffi.specs.Takes.{takeStatus, takeCall};
 use crate::status::BAD_REGISTERS;
+use crate::status::BAD_WINDOWS;
 use crate::status::NONE_STANDS;
 use crate::status::TAKEN;
 use crate::unpack::malformed;
@@ -21,11 +22,19 @@ fn take_status(answer: TakeAnswer) -> u32
 }
 
 #[no_mangle]
-pub extern "C" fn galitzaf_take(registers: &[u8], image: &mut [u8], descriptor: u64) -> u32
-    ensures { λ r. ⌜ (r, now (image .exit)) ≡ takeCall (now (registers .entry)) (now (image .entry)) descriptor ⌝ }
+pub extern "C" fn galitzaf_take(
+    registers: &[u8],
+    windows: &[u64],
+    image: &mut [u8],
+    descriptor: u64,
+) -> u32
+    ensures { λ r. ⌜ (r, now (image .exit)) ≡ takeCall (now (registers .entry)) (now (windows .entry)) (now (image .entry)) descriptor ⌝ }
 {
     if malformed(registers) {
         return BAD_REGISTERS;
     }
-    take_status(take(unpack(registers), image, descriptor))
+    if windows.len() % 3 != 0 {
+        return BAD_WINDOWS;
+    }
+    take_status(take(unpack(registers), windows, image, descriptor))
 }
