@@ -16,6 +16,12 @@
 extern "C" {
 #endif
 
+/* The version. Before 1.0 a minor version may change the interface. */
+#define GALITZAF_VERSION_MAJOR 0
+#define GALITZAF_VERSION_MINOR 1
+#define GALITZAF_VERSION_PATCH 0
+#define GALITZAF_VERSION "0.1.0"
+
 /* Registers: 24 bytes, numbers little-endian.
  *
  *   byte 0       HAW, host address width
