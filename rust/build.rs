@@ -101,8 +101,13 @@ fn installed(program: &str) -> bool {
     env::split_paths(&paths).any(|dir| dir.join(program).is_file())
 }
 
-/// Proves and compiles the library.
+/// Proves and compiles the library. Another kit than the pinned one is told.
 fn make(root: &Path) -> Result<(), String> {
+    if let Ok(kit) = Command::new(root.join("packaging").join("kit")).output() {
+        for line in String::from_utf8_lossy(&kit.stderr).lines() {
+            println!("cargo:warning={line}");
+        }
+    }
     let made = Command::new("rt")
         .args(["staticlib", CRATE])
         .current_dir(root)
