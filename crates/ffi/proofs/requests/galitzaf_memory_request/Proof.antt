@@ -18,7 +18,7 @@ returns-2 c = rw (← c .before .before .malformed .ensures, c .before .if1 .lef
 returns-3 : tie.Need-returns-3
 unfolding memoryCall
 returns-3 c =
-    rw (← c .before .before .before .malformed .ensures, c .before .before .if1 .left, eq-eqb _ _ (c .before .if2 .left), lt-ltb _ _ (c .if3 .taken))
+    rw (← c .before .before .before .malformed .ensures, c .before .before .if1 .left, eq-eqb _ _ (c .before .if2 .left), lt-ltb 1 _ (c .if3 .taken))
 
 unpack-requires : tie.Need-unpack-requires
 unpack-requires c κs =
