@@ -1,7 +1,7 @@
 //! Fault records in words, a line each.
 
 use crate::text::{self, quoted, Words};
-use galitzaf::{FaultRecord, Reason};
+use galitzaf::FaultRecord;
 
 const WORD: &str = "a word of a record";
 
@@ -41,60 +41,12 @@ pub fn words(words: &[&str]) -> Result<String, String> {
     Ok(lines)
 }
 
-/// A record in words, in Linux's style.
+/// A record in words, and whether somebody has cleared it.
 fn line_of(record: FaultRecord) -> String {
-    let reason = record.reason().number();
-    let (kind, place) = if reason < 0x20 {
-        let kind = if record.is_read() {
-            "DMA Read"
-        } else {
-            "DMA Write"
-        };
-        (kind, format!("addr 0x{:x}", record.page_address()))
-    } else {
-        (
-            "INTR-REMAP",
-            format!("index 0x{:x}", record.interrupt_index()),
-        )
-    };
-    let device = record.source();
     let cleared = if record.is_standing() {
         ""
     } else {
         " (cleared)"
     };
-    let text = reason_text(record.reason());
-    format!("[{kind}] Request device [{device}] fault {place} [fault reason 0x{reason:02x}] {text}{cleared}\n")
-}
-
-/// As Linux has them, where it has them.
-fn reason_text(reason: Reason) -> &'static str {
-    match reason {
-        Reason::RootNotPresent => "Present bit in root entry is clear",
-        Reason::ContextNotPresent => "Present bit in context entry is clear",
-        Reason::ContextInvalid => "Invalid context entry",
-        Reason::AddressOverflow => "Access beyond MGAW",
-        Reason::WriteDenied => "PTE Write access is not set",
-        Reason::ReadDenied => "PTE Read access is not set",
-        Reason::PageEntryAccess => "Next page table ptr is invalid",
-        Reason::RootAccess => "Root table address invalid",
-        Reason::ContextAccess => "Context table ptr is invalid",
-        Reason::RootReserved => "non-zero reserved fields in RTP",
-        Reason::ContextReserved => "non-zero reserved fields in CTP",
-        Reason::PageEntryReserved => "non-zero reserved fields in PTE",
-        Reason::RequestReserved => {
-            "Detected reserved fields in the decoded interrupt-remapped request"
-        }
-        Reason::IndexOutOfRange => "Interrupt index exceeded the interrupt-remapping table size",
-        Reason::IrteNotPresent => "Present field in the IRTE entry is clear",
-        Reason::IrteAccess => "Error accessing interrupt-remapping table pointed by IRTA_REG",
-        Reason::IrteReserved => "Detected reserved fields in the IRTE entry",
-        Reason::CompatibilityBlocked => "Blocked a compatibility format interrupt request",
-        Reason::SourceRejected => {
-            "Blocked an interrupt request due to source-id verification failure"
-        }
-        Reason::DescriptorAccess => "Error accessing the posted interrupt descriptor",
-        Reason::DescriptorReserved => "Detected reserved fields in the posted interrupt descriptor",
-        _ => "Unknown",
-    }
+    format!("{record}{cleared}\n")
 }
