@@ -125,7 +125,7 @@ impl Read {
             Outcome::Passed if registers.ire => Met::PassedOld,
             Outcome::Passed => Met::PassedOff,
             Outcome::Remapped { .. } => self.remapped(),
-            Outcome::Posted { notice } => {
+            Outcome::Posted { notice, .. } => {
                 let word = |n: usize| self.words.get(n).copied().unwrap_or(0);
                 let [on, sn] = [0, 1].map(|bit| word(6) >> bit & 1 == 1);
                 Met::Posted {

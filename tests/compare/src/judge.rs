@@ -95,7 +95,9 @@ impl Judge {
                 data,
             } => {
                 let image = &mut self.theirs;
-                let outcome = interrupt_request_with(slip, registers, image, source, address, data);
+                let mut outcome =
+                    interrupt_request_with(slip, registers, image, source, address, data);
+                self.flaw.post(&mut outcome);
                 if let (Flaw::StrayBit, Outcome::Blocked(_)) = (self.flaw, &outcome) {
                     image.last_mut().into_iter().for_each(|byte| *byte ^= 1);
                 }
@@ -106,7 +108,7 @@ impl Judge {
 
     fn compare(&self, request: usize, status: u32, outcome: &Outcome) -> Result<(), String> {
         let (ours, answer) = (self.ours.content(), self.answer.content());
-        let expected = bytes::answer_beside(outcome, answer);
+        let expected = bytes::answer(outcome);
         let kept = self.ours.kept() && self.answer.kept();
         if status == 0 && answer == expected && ours == self.theirs && kept {
             return Ok(());
