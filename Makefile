@@ -1,7 +1,10 @@
 # run: document 01's twelve cases.  test: the gate.  bench: figures against an ordinary translator.
-.PHONY: run test bench
+# install: header, libraries, pkg-config file and program, under PREFIX.
+.PHONY: run test bench install
+export PREFIX DESTDIR
 
 run:
+	@packaging/kit || true
 	rt check bench
 	target/bin/bench
 
@@ -10,3 +13,6 @@ test:
 
 bench:
 	tests/run-bench
+
+install:
+	packaging/install

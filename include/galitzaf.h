@@ -27,6 +27,12 @@
 extern "C" {
 #endif
 
+/* The version. Before 1.0 a minor version may change the interface. */
+#define GALITZAF_VERSION_MAJOR 0
+#define GALITZAF_VERSION_MINOR 1
+#define GALITZAF_VERSION_PATCH 0
+#define GALITZAF_VERSION "0.1.0"
+
 /* Registers: 24 bytes, numbers little-endian.
  *
  *   byte 0       HAW, host address width
@@ -89,7 +95,7 @@ extern "C" {
  *   GRANTED   bytes 15:8 host address                                            (memory requests)
  *   BLOCKED   byte 1 reason, byte 2 1 where the fault may be recorded, else 0;
  *             bytes 23:8 the 16 record bytes; byte 3 1 where bytes 31:24 are the host address of the
- *             entry concerned, else 0 (20h, 21h and 25h have none)
+ *             entry concerned, else 0 (20h, 21h and 25h have none); galitzaf_text.h makes a line of it
  *   REFUSED   byte 1 refusal number (1 bad registers or windows, 2 address of the wrong kind, 4 a memory
  *             request whose walk ended with a page that has a byte in FEE00000h to FEEFFFFFh)
  *   PASSED    the interrupt goes on unchanged                                    (interrupts)

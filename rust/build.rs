@@ -1,8 +1,10 @@
 //! Finds the proved static library and hands it to the linker.
 //!
-//! It is looked for in `GALITZAF_LIB_DIR`, or else in the repository's `target/staticlib`. Where it
-//! isn't there, `rt staticlib` makes it. It is made for programs of an operating system, whose
-//! interrupts leave the red zone below the stack pointer alone; other targets are refused.
+//! It is looked for in `GALITZAF_LIB_DIR`, a relative one from where the caller stands, or else in
+//! the repository's `target/staticlib`. Where it isn't there, `rt staticlib` makes it. Without `rt`
+//! the crate can still be checked and documented: only linking needs the library. It is made for
+//! programs of an operating system, whose interrupts leave the red zone below the stack pointer
+//! alone; other targets are refused.
 
 use std::env;
 use std::fs;
@@ -14,6 +16,9 @@ const CRATE: &str = "ffi";
 
 /// The archive that `rt staticlib` writes for it.
 const ARCHIVE: &str = "libffi.a";
+
+/// The archive as `make install` names it.
+const INSTALLED: &str = "libgalitzaf.a";
 
 /// The name it is linked under. Linked under its own, `-lffi` could find the system's libffi.
 const LINK_NAME: &str = "galitzaf_ffi";
@@ -40,36 +45,41 @@ fn hosted() -> Result<(), String> {
 }
 
 fn link() -> Result<(), String> {
-    let archive = find()?;
+    println!("cargo:rustc-link-lib=static={LINK_NAME}");
+    let Some(archive) = find()? else {
+        println!(
+            "cargo:warning=no target/staticlib/{ARCHIVE} and no `rt` on PATH to make it: this can be checked and \
+             documented, not linked. To link, install the Rattle kit, or set GALITZAF_LIB_DIR to a folder that has \
+             {INSTALLED}"
+        );
+        return Ok(());
+    };
     println!("cargo:rerun-if-changed={}", archive.display());
     let out = PathBuf::from(env::var_os("OUT_DIR").ok_or("OUT_DIR is not set")?);
     let copy = out.join(format!("lib{LINK_NAME}.a"));
     fs::copy(&archive, &copy).map_err(|e| format!("{}: {e}", archive.display()))?;
     println!("cargo:rustc-link-search=native={}", out.display());
-    println!("cargo:rustc-link-lib=static={LINK_NAME}");
     Ok(())
 }
 
-fn find() -> Result<PathBuf, String> {
+/// The archive, or none where there is nothing to make it with.
+fn find() -> Result<Option<PathBuf>, String> {
     if let Some(dir) = env::var_os("GALITZAF_LIB_DIR") {
-        let archive = Path::new(&dir).join(ARCHIVE);
-        return if archive.is_file() {
-            Ok(archive)
-        } else {
-            Err(format!(
-                "GALITZAF_LIB_DIR has no {ARCHIVE}: {}",
-                archive.display()
-            ))
-        };
+        return named(Path::new(&dir)).map(Some);
     }
     let crate_dir = PathBuf::from(env::var_os("CARGO_MANIFEST_DIR").ok_or("no manifest")?);
     let root = crate_dir.parent().ok_or("the crate stands at the root")?;
     let archive = root.join("target").join("staticlib").join(ARCHIVE);
     if !archive.is_file() {
+        // Not there: cargo runs this again on the next build.
+        println!("cargo:rerun-if-changed={}", archive.display());
+        if !installed("rt") {
+            return Ok(None);
+        }
         make(root)?;
     }
     if archive.is_file() {
-        Ok(archive)
+        Ok(Some(archive))
     } else {
         Err(format!(
             "`rt staticlib {CRATE}` did not write {}",
@@ -78,15 +88,39 @@ fn find() -> Result<PathBuf, String> {
     }
 }
 
-/// Proves and compiles the library, where the Rattle toolchain is installed.
-fn make(root: &Path) -> Result<(), String> {
+/// The archive in the folder that the caller named. Cargo runs this script in the crate's folder; `PWD` is where the
+/// caller's shell stands.
+fn named(dir: &Path) -> Result<PathBuf, String> {
+    let from = if dir.is_relative() {
+        println!("cargo:rerun-if-env-changed=PWD");
+        env::var_os("PWD").map(PathBuf::from).unwrap_or_default()
+    } else {
+        PathBuf::new()
+    };
+    let folder = from.join(dir);
+    [INSTALLED, ARCHIVE]
+        .map(|name| folder.join(name))
+        .into_iter()
+        .find(|archive| archive.is_file())
+        .ok_or_else(|| {
+            format!(
+                "GALITZAF_LIB_DIR has no {INSTALLED} and no {ARCHIVE}: {}",
+                folder.display()
+            )
+        })
+}
+
+fn installed(program: &str) -> bool {
     let paths = env::var_os("PATH").unwrap_or_default();
-    let installed = env::split_paths(&paths).any(|dir| dir.join("rt").is_file());
-    if !installed {
-        return Err(format!(
-            "there is no target/staticlib/{ARCHIVE} and no `rt` on PATH to make it. Install the \
-             Rattle toolchain, or set GALITZAF_LIB_DIR to a folder that has {ARCHIVE}"
-        ));
+    env::split_paths(&paths).any(|dir| dir.join(program).is_file())
+}
+
+/// Proves and compiles the library. Another kit than the pinned one is told.
+fn make(root: &Path) -> Result<(), String> {
+    if let Ok(kit) = Command::new(root.join("packaging").join("kit")).output() {
+        for line in String::from_utf8_lossy(&kit.stderr).lines() {
+            println!("cargo:warning={line}");
+        }
     }
     let made = Command::new("rt")
         .args(["staticlib", CRATE])

@@ -2,12 +2,8 @@
 #
 # Each check prints one line, 'ok NAME' or 'FAILED NAME', and the last line is 'N passed, M failed'. What a failed
 # check said goes to standard error. Everything is written under target/.
-cd "$(dirname "${BASH_SOURCE[0]}")/.." || exit 2
+. "$(dirname "${BASH_SOURCE[0]}")/../packaging/library.bash"
 
-if [ -n "${GALITZAF_LIB_DIR:-}" ]; then
-    GALITZAF_LIB_DIR=$(realpath "$GALITZAF_LIB_DIR") || exit 2
-fi
-archive=${GALITZAF_LIB_DIR:-$PWD/target/staticlib}/libffi.a
 export CARGO_TARGET_DIR=$PWD/target/cargo
 export CARGO_NET_OFFLINE=true
 out=$PWD/target/$(basename "$0")
@@ -43,7 +39,8 @@ tree_unchanged() { diff <(echo "$before") <(echo "$(tree)"); }
 static_library() {
     if [ -z "${GALITZAF_LIB_DIR:-}" ]; then
         if [ ! -f "$archive" ] || [ -n "$(find crates crates.txt -newer "$archive" -print -quit)" ]; then
-            rt staticlib ffi || return 1
+            packaging/kit
+            rt staticlib "$library" || return 1
         fi
     fi
     [ -f "$archive" ] || { echo "no $archive"; return 1; }

@@ -240,7 +240,11 @@ fn answer(
     } else {
         None
     };
-    Outcome::Posted { notice }
+    Outcome::Posted {
+        vector: vector as u8,
+        descriptor: descriptor_address as u64,
+        notice,
+    }
 }
 
 /// The descriptor address has 63:38 as its bits 31:6 and 127:96 as its bits

@@ -89,6 +89,10 @@ pub enum Outcome {
     },
     /// An interrupt is posted, with a notice where one is due.
     Posted {
+        /// The vector posted.
+        vector: u8,
+        /// Where its descriptor is.
+        descriptor: u64,
         /// The notice, if due.
         notice: Option<Notice>,
     },

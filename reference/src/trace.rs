@@ -4,8 +4,8 @@
 //! the reason. All numbers are little-endian.
 
 use crate::bits::{bit, bits, put};
-use crate::image::{place, Window};
-use crate::interrupts::{interrupt_request_in, named_words_interrupt_in};
+use crate::image::Window;
+use crate::interrupts::interrupt_request_in;
 use crate::memory::memory_request_in;
 use crate::registers::Registers;
 use crate::slips::Slip;
@@ -360,9 +360,6 @@ pub fn traced_answer(
     request: TracedRequest,
 ) -> TracedAnswer {
     let none = Slip::None;
-    // What an interrupt posts follows from its entry: vector 23:16, and where
-    // the descriptor was read.
-    let mut posted = (0, 0);
     let outcome = match request {
         TracedRequest::Memory {
             source,
@@ -373,15 +370,7 @@ pub fn traced_answer(
             source,
             address,
             data,
-        } => {
-            let words = named_words_interrupt_in(registers, windows, run, source, address, data);
-            if words.len() > 2 {
-                if let Some(at) = place(windows, u128::from(words[0]), 16) {
-                    posted = (bits(&run[at..at + 16], 23, 16) as u8, words[2]);
-                }
-            }
-            interrupt_request_in(none, registers, windows, run, source, address, data)
-        }
+        } => interrupt_request_in(none, registers, windows, run, source, address, data),
     };
     match outcome {
         Outcome::Granted(address) => TracedAnswer::Granted(address),
@@ -407,9 +396,13 @@ pub fn traced_answer(
             vector,
             destination,
         },
-        Outcome::Posted { notice } => TracedAnswer::Posted {
-            vector: posted.0,
-            descriptor: posted.1,
+        Outcome::Posted {
+            vector,
+            descriptor,
+            notice,
+        } => TracedAnswer::Posted {
+            vector,
+            descriptor,
             notice,
         },
     }

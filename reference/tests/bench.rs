@@ -2,7 +2,7 @@
 
 mod common;
 
-use common::{bench_image, fault, record_words, BENCH, SOURCE};
+use common::{bench_image, fault, posted, record_words, BENCH, SOURCE};
 use reference::{interrupt_request, memory_request, Notice, Outcome};
 
 enum Expected {
@@ -112,14 +112,14 @@ fn case_12() {
     });
     assert_eq!(
         interrupt_request(&BENCH, &mut image, SOURCE, 0xFEE00090, 0),
-        Outcome::Posted { notice }
+        posted(0x31, 0x6400, notice)
     );
     assert_eq!(image, expected);
 
     // "Again: no change, no notice."
     assert_eq!(
         interrupt_request(&BENCH, &mut image, SOURCE, 0xFEE00090, 0),
-        Outcome::Posted { notice: None }
+        posted(0x31, 0x6400, None)
     );
     assert_eq!(image, expected);
 }

@@ -2,7 +2,7 @@
 
 mod common;
 
-use common::{bench_image, bench_with, fault, reason, record_words, BENCH, SOURCE};
+use common::{bench_image, bench_with, fault, posted, reason, record_words, BENCH, SOURCE};
 use reference::{
     interrupt_request, memory_request, named_words_interrupt, named_words_memory, walked_entries,
     Notice, Outcome, Registers,
@@ -828,7 +828,7 @@ fn x2apic_destinations() {
     });
     assert_eq!(
         ring(&eime, &image, SOURCE, ENTRY_4, 0),
-        Outcome::Posted { notice }
+        posted(0x31, 0x6400, notice)
     );
     assert_eq!(reason(ring(&BENCH, &image, SOURCE, ENTRY_2, 0)), 0x24);
     assert_eq!(reason(ring(&BENCH, &image, SOURCE, ENTRY_4, 0)), 0x28);
@@ -920,7 +920,7 @@ fn descriptor_address() {
     });
     assert_eq!(
         interrupt_request(&BENCH, &mut image, SOURCE, ENTRY_4, 0),
-        Outcome::Posted { notice }
+        posted(0x02, 0x6040, notice)
     );
     assert_eq!(common::get(&image, 0x6040), 0x0000_6040_0002_8005);
     assert_eq!(common::get(&image, 0x6060), 0x0000_0900_00AA_0001);

@@ -3,7 +3,7 @@
 
 mod common;
 
-use common::{bench_image, bench_with, get, reason, set, BENCH, SOURCE};
+use common::{bench_image, bench_with, get, posted, reason, set, BENCH, SOURCE};
 use reference::{interrupt_request, memory_request, Notice, Outcome, Registers};
 
 const ADDRESS: u64 = 0x4020_1ABC;
@@ -254,7 +254,7 @@ fn remapped_entry() {
                         vector: 0,
                         destination: 0,
                     });
-                    assert_eq!(answer, Outcome::Posted { notice: zero });
+                    assert_eq!(answer, posted(0x41, 0x700, zero));
                     continue;
                 }
                 15 => continue,
@@ -289,12 +289,10 @@ fn remapped_entry() {
 
 #[test]
 fn posted_entry() {
-    let good = Outcome::Posted {
-        notice: Some(Notice {
-            vector: 0xF2,
-            destination: 7,
-        }),
-    };
+    let notice = Some(Notice {
+        vector: 0xF2,
+        destination: 7,
+    });
     for haw in [36, 39, 52] {
         let registers = Registers { haw, ..BENCH };
         for k in 0..128 {
@@ -308,8 +306,9 @@ fn posted_entry() {
             match k {
                 // Bits 64 to 81 are SID and SQ, which SVT 0 does not ask for.
                 1 | 8..=11 | 14 | 16..=23 | 64..=81 => {
-                    assert_eq!(answer, good, "{here}");
                     let vector = image_vector(&before);
+                    let good = posted(vector as u8, 0x6400, notice.clone());
+                    assert_eq!(answer, good, "{here}");
                     let mut expected = before.clone();
                     expected[0x6400 + vector / 8] |= 1 << (vector % 8);
                     expected[0x6420] |= 1;
@@ -325,8 +324,8 @@ fn posted_entry() {
                         vector: 0,
                         destination: 0,
                     });
-                    assert_eq!(answer, Outcome::Posted { notice: zero }, "{here}");
                     let descriptor = 0x6400 | 1 << (k - 32);
+                    assert_eq!(answer, posted(0x31, descriptor as u64, zero), "{here}");
                     assert_eq!(image[descriptor + 6], 2, "{here}");
                     assert_eq!(image[descriptor + 32], 1, "{here}");
                     continue;
@@ -399,7 +398,7 @@ fn descriptor() {
                 expected[0x6420] |= 1;
             }
             let notice = if held_back { None } else { Some(notice) };
-            assert_eq!(answer, Outcome::Posted { notice }, "{here}");
+            assert_eq!(answer, posted(0x31, 0x6400, notice), "{here}");
             assert_eq!(image, expected, "{here}");
         }
     }

@@ -3,7 +3,7 @@
 
 mod common;
 
-use common::{bench_image, bench_with, fault, reason, BENCH, SOURCE};
+use common::{bench_image, bench_with, fault, posted, reason, BENCH, SOURCE};
 use reference::{
     interrupt_request, interrupt_request_with, memory_request, memory_request_with, Notice,
     Outcome, Slip,
@@ -118,7 +118,7 @@ fn on_despite_sn() {
     let mut after = image.clone();
     assert_eq!(
         interrupt_request_with(slip, &BENCH, &mut after, SOURCE, 0xFEE0_0090, 0),
-        Outcome::Posted { notice: None }
+        posted(0x31, 0x6400, None)
     );
     assert_eq!(after[0x6420], 3);
     assert_eq!(noticed_in_interrupts(&image, 0xFEE0_0090, 0), [slip]);
@@ -135,7 +135,7 @@ fn on_despite_sn() {
     });
     assert_eq!(
         interrupt_request_with(slip, &BENCH, &mut bench_image(), SOURCE, 0xFEE0_0090, 0),
-        Outcome::Posted { notice }
+        posted(0x31, 0x6400, notice)
     );
     assert_eq!(noticed_in_interrupts(&bench_image(), 0xFEE0_0090, 0), []);
 }

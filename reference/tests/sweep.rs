@@ -198,8 +198,10 @@ fn kind(answer: &Outcome) -> String {
         Outcome::Refused(number) => format!("refused {number}"),
         Outcome::Passed => "passed".into(),
         Outcome::Remapped { .. } => "remapped".into(),
-        Outcome::Posted { notice: Some(_) } => "posted, notice".into(),
-        Outcome::Posted { notice: None } => "posted".into(),
+        Outcome::Posted {
+            notice: Some(_), ..
+        } => "posted, notice".into(),
+        Outcome::Posted { .. } => "posted".into(),
     }
 }
 
@@ -434,9 +436,14 @@ fn interrupts() {
             .map(|&n| (image[n] ^ after[n]).count_ones())
             .sum();
         match &answer {
-            Outcome::Posted { notice } => {
+            Outcome::Posted {
+                vector: told,
+                descriptor: at,
+                notice,
+            } => {
                 let vector = usize::from(image[words[0] as usize + 2]);
                 let descriptor = words[2] as usize;
+                assert_eq!((usize::from(*told), *at), (vector, words[2]));
                 assert!(after[descriptor + vector / 8] >> (vector % 8) & 1 == 1);
                 assert!(after[descriptor + 32] & 1 == 1 || notice.is_none());
                 let was = image[descriptor + vector / 8] >> (vector % 8) & 1 == 1;

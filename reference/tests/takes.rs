@@ -20,7 +20,7 @@ fn bench() {
     let mut image = bench_image();
     let ring = |image: &mut Vec<u8>| match interrupt_request(&BENCH, image, SOURCE, 0xFEE0_0090, 0)
     {
-        Outcome::Posted { notice } => notice.is_some(),
+        Outcome::Posted { notice, .. } => notice.is_some(),
         other => panic!("{other:x?}"),
     };
     assert!(ring(&mut image));
@@ -213,7 +213,7 @@ fn random_byte(n: u64) -> u64 {
 fn post(image: &mut [u8], n: u64) -> (u64, u64, bool) {
     let entry = get(image, 0x6000 + 16 * n as usize);
     match interrupt_request(&BENCH, image, SOURCE, 0xFEE0_0010 | n << 5, 0) {
-        Outcome::Posted { notice } => (entry >> 32, entry >> 16 & 0xFF, notice.is_some()),
+        Outcome::Posted { notice, .. } => (entry >> 32, entry >> 16 & 0xFF, notice.is_some()),
         other => panic!("{other:x?}"),
     }
 }

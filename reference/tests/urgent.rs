@@ -4,7 +4,7 @@
 
 mod common;
 
-use common::{bench_with, get, reason, BENCH, SOURCE};
+use common::{bench_with, get, posted, reason, BENCH, SOURCE};
 use reference::{interrupt_request, Notice, Outcome};
 
 const ENTRY_4: u64 = 0xFEE0_0090;
@@ -45,13 +45,13 @@ fn rows() {
         common::set(&mut expected, 0x6420, DESTINATION | after);
         let notice = notified.then_some(NOTICE);
         let answer = interrupt_request(&BENCH, &mut image, SOURCE, ENTRY_4, 0);
-        assert_eq!(answer, Outcome::Posted { notice }, "{entry:X} {before:X}");
+        assert_eq!(answer, posted(0x31, 0x6400, notice), "{entry:X} {before:X}");
         assert!(image == expected, "{entry:X} {before:X}");
 
         // Again: a notice only from a descriptor whose ON is still clear, and
         // that is one whose notice SN holds back.
         let answer = interrupt_request(&BENCH, &mut image, SOURCE, ENTRY_4, 0);
-        assert_eq!(answer, Outcome::Posted { notice: None });
+        assert_eq!(answer, posted(0x31, 0x6400, None));
         assert!(image == expected, "{entry:X} {before:X}");
     }
 }
@@ -110,7 +110,7 @@ fn urgent_first_or_last() {
     ]);
     let post = |image: &mut Vec<u8>, address| {
         let answer = interrupt_request(&BENCH, image, SOURCE, address, 0);
-        let Outcome::Posted { notice } = answer else {
+        let Outcome::Posted { notice, .. } = answer else {
             panic!("{answer:x?}");
         };
         u32::from(notice.is_some())

@@ -6,7 +6,7 @@
 
 mod common;
 
-use common::{bench_image, bench_with, fault, get, BENCH, SOURCE};
+use common::{bench_image, bench_with, fault, get, posted, BENCH, SOURCE};
 use reference::{
     interrupt_request, interrupt_request_in, memory_request, memory_request_in,
     named_words_interrupt_in, named_words_memory_in, take_in, Notice, Outcome, Registers, Slip,
@@ -272,12 +272,12 @@ fn bench_cases() {
     });
     assert_eq!(
         ring(&BENCH, &windows, &mut after, 0xFEE0_0090),
-        Outcome::Posted { notice }
+        posted(0x31, 0x6400, notice)
     );
     assert!(after == expected);
     assert_eq!(
         ring(&BENCH, &windows, &mut after, 0xFEE0_0090),
-        Outcome::Posted { notice: None }
+        posted(0x31, 0x6400, None)
     );
     assert!(after == expected);
 }
@@ -418,7 +418,7 @@ fn posts_stay_in_their_window() {
         vector: 0xF2,
         destination: 7,
     });
-    assert_eq!(answer, Outcome::Posted { notice });
+    assert_eq!(answer, posted(0xFF, 0x9000, notice));
     let mut expected = before;
     expected[0x801F] |= 0x80;
     expected[0x8020] |= 1;

@@ -7,7 +7,7 @@ use crate::ffi::{ANSWER_SIZE, BLOCKED};
 use crate::SourceId;
 
 macro_rules! reasons {
-    ($($(#[$doc:meta])* $name:ident = $number:literal,)*) => {
+    ($($(#[$doc:meta])* $name:ident = $number:literal, $text:literal;)*) => {
         /// Why a request was blocked, by Intel's fault reason numbers.
         ///
         /// ```
@@ -16,6 +16,7 @@ macro_rules! reasons {
         /// assert_eq!(Reason::from(0x21), Reason::IndexOutOfRange);
         /// assert_eq!(Reason::ReadDenied.number(), 0x06);
         /// assert_eq!(Reason::ReadDenied.to_string(), "06h ReadDenied");
+        /// assert_eq!(Reason::ReadDenied.text(), "read permission missing");
         /// ```
         #[derive(Clone, Copy, Debug, PartialEq, Eq, Hash)]
         #[non_exhaustive]
@@ -36,6 +37,14 @@ macro_rules! reasons {
                     Reason::Other(number) => number,
                 }
             }
+
+            /// In words, as a fault's line has it; the C interface's `galitzaf_text.h` has the same.
+            pub const fn text(self) -> &'static str {
+                match self {
+                    $(Reason::$name => $text,)*
+                    Reason::Other(_) => "unknown reason",
+                }
+            }
         }
 
         impl From<u8> for Reason {
@@ -51,47 +60,47 @@ macro_rules! reasons {
 
 reasons! {
     /// 01h: the root entry isn't present.
-    RootNotPresent = 0x01,
+    RootNotPresent = 0x01, "root entry not present";
     /// 02h: the context entry isn't present.
-    ContextNotPresent = 0x02,
+    ContextNotPresent = 0x02, "context entry not present";
     /// 03h: the context entry has an unsupported width (AW) or a bad type (TT).
-    ContextInvalid = 0x03,
+    ContextInvalid = 0x03, "context entry invalid";
     /// 04h: the address is beyond the guest width.
-    AddressOverflow = 0x04,
+    AddressOverflow = 0x04, "address beyond guest width";
     /// 05h: a page entry doesn't allow the write.
-    WriteDenied = 0x05,
+    WriteDenied = 0x05, "write permission missing";
     /// 06h: a page entry doesn't allow the read.
-    ReadDenied = 0x06,
+    ReadDenied = 0x06, "read permission missing";
     /// 07h: a page entry can't be fetched.
-    PageEntryAccess = 0x07,
+    PageEntryAccess = 0x07, "page entry not fetched";
     /// 08h: the root entry can't be fetched.
-    RootAccess = 0x08,
+    RootAccess = 0x08, "root entry not fetched";
     /// 09h: the context entry can't be fetched.
-    ContextAccess = 0x09,
+    ContextAccess = 0x09, "context entry not fetched";
     /// 0Ah: a reserved bit of the root entry is set.
-    RootReserved = 0x0A,
+    RootReserved = 0x0A, "reserved bit set in root entry";
     /// 0Bh: a reserved bit of the context entry is set.
-    ContextReserved = 0x0B,
+    ContextReserved = 0x0B, "reserved bit set in context entry";
     /// 0Ch: a reserved bit of a page entry is set.
-    PageEntryReserved = 0x0C,
+    PageEntryReserved = 0x0C, "reserved bit set in page entry";
     /// 20h: a reserved bit of an interrupt request is set.
-    RequestReserved = 0x20,
+    RequestReserved = 0x20, "reserved bit set in interrupt request";
     /// 21h: the interrupt index is beyond the table.
-    IndexOutOfRange = 0x21,
+    IndexOutOfRange = 0x21, "interrupt index out of range";
     /// 22h: the interrupt remapping table entry (IRTE) isn't present.
-    IrteNotPresent = 0x22,
+    IrteNotPresent = 0x22, "interrupt entry not present";
     /// 23h: the IRTE can't be fetched.
-    IrteAccess = 0x23,
+    IrteAccess = 0x23, "interrupt entry not fetched";
     /// 24h: a reserved bit of the IRTE is set.
-    IrteReserved = 0x24,
+    IrteReserved = 0x24, "reserved bit set in interrupt entry";
     /// 25h: a compatibility-format interrupt where none is allowed.
-    CompatibilityBlocked = 0x25,
+    CompatibilityBlocked = 0x25, "compatibility format interrupt blocked";
     /// 26h: the IRTE isn't for this source.
-    SourceRejected = 0x26,
+    SourceRejected = 0x26, "interrupt source rejected";
     /// 27h: the posted interrupt descriptor can't be fetched.
-    DescriptorAccess = 0x27,
+    DescriptorAccess = 0x27, "posted descriptor not fetched";
     /// 28h: a reserved bit of the posted interrupt descriptor is set.
-    DescriptorReserved = 0x28,
+    DescriptorReserved = 0x28, "reserved bit set in posted descriptor";
 }
 
 impl fmt::Display for Reason {
@@ -125,6 +134,10 @@ impl fmt::Display for Reason {
 /// assert!(fault.recordable());
 /// assert_eq!(fault.record().words(), [0x1000, 0x8000_0008_0000_0310]);
 /// assert_eq!(fault.entry(), Some(0x30));
+/// assert_eq!(
+///     fault.to_string(),
+///     "[DMA Write] Request device [03:02.0] fault addr 1000 [fault reason 08h] root entry not fetched, entry 30",
+/// );
 /// ```
 #[derive(Clone, Copy, Debug, PartialEq, Eq, Hash)]
 pub struct Fault {
@@ -181,17 +194,13 @@ impl Fault {
     }
 }
 
+/// A line in the style of Linux's log: the record's, and the entry concerned where there is one.
 impl fmt::Display for Fault {
     fn fmt(&self, f: &mut fmt::Formatter<'_>) -> fmt::Result {
-        let [low, high] = self.record.words();
-        write!(f, "fault {}, record {low:016X} {high:016X}", self.reason)?;
-        if let Some(entry) = self.entry {
-            write!(f, ", entry {entry:X}")?;
-        }
-        if self.recordable {
-            Ok(())
-        } else {
-            f.write_str(", not recorded")
+        self.record.fmt(f)?;
+        match self.entry {
+            Some(entry) => write!(f, ", entry {entry:X}"),
+            None => Ok(()),
         }
     }
 }
@@ -265,6 +274,11 @@ impl FaultRecord {
         u16::from_le_bytes([low, high])
     }
 
+    /// Whether an interrupt was blocked, and no memory request: reasons 20h to 2Fh.
+    fn is_interrupt(self) -> bool {
+        (0x20..0x30).contains(&self.reason().number())
+    }
+
     /// The 64 bits from a place, which is below 128.
     const fn word_from(self, place: u32) -> u64 {
         let [a, b, c, d, e, f, g, h, ..] = self.0.wrapping_shr(place).to_le_bytes();
@@ -272,9 +286,61 @@ impl FaultRecord {
     }
 }
 
+/// A line in the style of Linux's log, with the address of a memory request's page or an interrupt's index.
+impl fmt::Display for FaultRecord {
+    fn fmt(&self, f: &mut fmt::Formatter<'_>) -> fmt::Result {
+        let (source, reason) = (self.source(), self.reason());
+        if self.is_interrupt() {
+            let index = self.interrupt_index();
+            write!(
+                f,
+                "[INTR-REMAP] Request device [{source}] fault index {index:X}"
+            )?;
+        } else {
+            let kind = if self.is_read() { "Read" } else { "Write" };
+            let page = self.page_address();
+            write!(
+                f,
+                "[DMA {kind}] Request device [{source}] fault addr {page:X}"
+            )?;
+        }
+        write!(
+            f,
+            " [fault reason {:02X}h] {}",
+            reason.number(),
+            reason.text()
+        )
+    }
+}
+
 #[cfg(test)]
 mod tests {
+    extern crate std;
+
     use super::*;
+    use crate::MemoryAnswer;
+    use std::string::ToString;
+
+    /// Each line of the file is an answer in hexadecimal, a space and the fault's line. The C header is held to it too.
+    #[test]
+    fn a_fault_is_told_in_a_line() {
+        let mut faults = 0;
+        for line in include_str!("../tests/fault_lines.txt").lines() {
+            let (answer, told) = line.split_once(' ').unwrap();
+            let mut bytes = [0; ANSWER_SIZE];
+            for (i, byte) in bytes.iter_mut().enumerate() {
+                *byte = u8::from_str_radix(&answer[2 * i..2 * i + 2], 16).unwrap();
+            }
+            match MemoryAnswer::decode(bytes) {
+                MemoryAnswer::Blocked(fault) => {
+                    assert_eq!(fault.to_string(), told);
+                    faults += 1;
+                }
+                _ => assert_eq!(told, ""),
+            }
+        }
+        assert_eq!(faults, 105);
+    }
 
     #[test]
     fn reasons_keep_their_numbers() {

@@ -39,6 +39,10 @@ fn case_02() {
     let answer = Unit::new(&BENCH).memory(&Memory::flat(bench_image()), request);
     let words = [0x4020_1000, 0x8000_0005_0000_0310];
     assert_eq!(told(answer.fault()), (0x05, words));
+    assert_eq!(
+        answer.fault().unwrap().to_string(),
+        "[DMA Write] Request device [03:02.0] fault addr 40201000 [fault reason 05h] write permission missing, entry 5008"
+    );
 }
 
 #[test]

@@ -59,3 +59,14 @@ pub fn cleared(buffer: &mut [u8], recorder: Recorder, slot: u8) -> RecorderStep
         recorder: state,
     }
 }
+
+pub fn overflow_cleared(buffer: &[u8], recorder: Recorder) -> RecorderStep
+    ensures { λ r. ⌜ afterOf r (now (buffer .entry)) ≡ clearingOverflow (slotsIn (now (buffer .entry))) (now (buffer .entry)) (recorder .next) (recorder .overflow) ⌝ }
+{
+    let mut state = recorder;
+    let answer = clear_overflow(&mut state, buffer);
+    RecorderStep {
+        answer,
+        recorder: state,
+    }
+}

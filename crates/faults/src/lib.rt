@@ -13,6 +13,7 @@ pub use fault::record_bytes;
 pub use lent::clear;
 pub use lent::clear_overflow;
 pub use lent::cleared;
+pub use lent::overflow_cleared;
 pub use lent::record;
 pub use lent::recorded;
 pub use reason::Reason;

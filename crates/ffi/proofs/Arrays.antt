@@ -9,9 +9,10 @@ use lib.ListN.{length, getD, set, drop}
 use lib.Ieee.{Float}
 use Rattle.meter.specs.declared.Meter.{Meter}
 use Rattle.meter.specs.Meter.{nought, ticked, byteOf}
-use Rattle.meter.specs.Refused.{some}
-use Rattle.meter.specs.Row.{tickRow}
-use Rattle.meter.proofs.Rows.{fit, allFit, steps, marks, steps-length, steps-next, marks-next, allFit-next, both-true, even, outcome}
+use Rattle.meter.specs.Refused.{some, badCount, badMeter}
+use Rattle.meter.specs.Row.{tickedAll, tickRow}
+use Rattle.meter.proofs.Rows as rows
+use Rattle.meter.proofs.Rows.{fit, allFit, steps, marks, steps-length, steps-next, marks-next, allFit-next, fits-all, steps-all, marks-all, both-true, even}
 use Rattle.ffi.specs.Status.{ok, badMeters, metersRefused}
 use Rattle.meter.specs.declared.Gate.the-variants.{Off}
 use Rattle.ffi.specs.Meters.{meterOf, rowOf, loadsOf, malformed, told, tickMetersCall}
@@ -199,23 +200,27 @@ module _ (ks : List ℕ) (ls hs xs : List Float) (cs bs : List ℕ) where
   bad-row bad = sym (ap (λ (t : Bool). cond {A = ℕ × List Float × List ℕ} t (badMeters, xs, bs) (told (tickRow row cs bs))) bad)
 
   pub uneven : malformed ks ls hs xs ≡ false → (eqb (length cs) (length xs) && eqb (length bs) (length xs)) ≡ false → kept ≡ tickMetersCall ks ls hs xs cs bs
-  unfolding steps marks
-  uneven good e = left ∙ called good (outcome row cs bs false false (lists false e) refl)
+  uneven good e = left ∙ called good (rows.uneven row cs bs (lists false e))
 
-  pub unfit : malformed ks ls hs xs ≡ false → (eqb (length cs) (length xs) && eqb (length bs) (length xs)) ≡ true → allFit (length xs) row cs ≡ false → kept ≡ tickMetersCall ks ls hs xs cs bs
-  unfolding steps marks
-  unfit good e f = left ∙ called good (outcome row cs bs true false (lists true e) (ap (λ (n : ℕ). allFit n row cs) (row-length ks ls hs xs) ∙ f))
+  pub unfit : malformed ks ls hs xs ≡ false → (eqb (length cs) (length xs) && eqb (length bs) (length xs)) ≡ true → not (some badCount cs || some badMeter row) ≡ false → kept ≡ tickMetersCall ks ls hs xs cs bs
+  unfit good e f = left ∙ called good (rows.one-bad row cs bs (lists true e) f)
 
-  pub all-ticked : malformed ks ls hs xs ≡ false → (eqb (length cs) (length xs) && eqb (length bs) (length xs)) ≡ true → allFit (length xs) row cs ≡ true
-      → {ys : List Float} {zs : List ℕ} → ys ≡ loadsOf (steps (length xs) row cs) → zs ≡ marks (length xs) row cs bs → _≡_ {A = ℕ × List Float × List ℕ} (ok, ys, zs) (tickMetersCall ks ls hs xs cs bs)
-  all-ticked good e f {ys} {zs} g h =
-      ap₂ (λ (us : List Float) (vs : List ℕ). answer us vs)
-      (g ∙ ap (λ (n : ℕ). loadsOf (steps n row cs)) (sym (row-length ks ls hs xs)))
-      (h ∙ ap (λ (n : ℕ). marks n row cs bs) (sym (row-length ks ls hs xs)))
-      ∙ called good (outcome row cs bs true true (lists true e) (ap (λ (n : ℕ). allFit n row cs) (row-length ks ls hs xs) ∙ f))
+  pub all-ticked : malformed ks ls hs xs ≡ false → (eqb (length cs) (length xs) && eqb (length bs) (length xs)) ≡ true → not (some badCount cs || some badMeter row) ≡ true
+      → {ys : List Float} {zs : List ℕ} → ys ≡ loadsOf (tickedAll row cs) → zs ≡ map byteOf (tickedAll row cs) → _≡_ {A = ℕ × List Float × List ℕ} (ok, ys, zs) (tickMetersCall ks ls hs xs cs bs)
+  all-ticked good e f {ys} {zs} g h = ap₂ (λ (us : List Float) (vs : List ℕ). answer us vs) g h ∙ called good (rows.all-good row cs bs (lists true e) f)
     where
       answer : List Float → List ℕ → ℕ × List Float × List ℕ
       answer us vs = (ok, us, vs)
+
+  -- after all turns of the two loops
+  pub all-looked : length cs ≡ length xs → allFit (length xs) row cs ≡ not (some badCount cs || some badMeter row)
+  all-looked e = ap (λ (n : ℕ). allFit n row cs) (sym (row-length ks ls hs xs)) ∙ fits-all row cs (e ∙ sym (row-length ks ls hs xs))
+
+  pub loads-all : loadsOf (steps (length xs) row cs) ≡ loadsOf (tickedAll row cs)
+  loads-all = ap loadsOf (ap (λ (n : ℕ). steps n row cs) (sym (row-length ks ls hs xs)) ∙ steps-all row cs)
+
+  pub bytes-all : length cs ≡ length xs → length bs ≡ length xs → marks (length xs) row cs bs ≡ map byteOf (tickedAll row cs)
+  bytes-all e f = ap (λ (n : ℕ). marks n row cs bs) (sym (row-length ks ls hs xs)) ∙ marks-all row cs bs (e ∙ sym (row-length ks ls hs xs)) (f ∙ sym (row-length ks ls hs xs))
 
   -- what a well-formed row and even lists say of the lengths
   holds : (t : Bool) → t ≡ true → T t

@@ -1,10 +1,12 @@
 // A row of meters, an array for each part of a meter.
 ghost use mathlib.Core.Path.{_≡_};
+ghost use mathlib.Core.Bool.{not, _||_};
 ghost use mathlib.Core.List.{map};
 ghost use lib.Dec.{ltb};
 ghost use lib.ListN.{length};
-ghost use Rattle.meter.specs.Refused.{some};
-ghost use Rattle.meter.proofs.Rows.{allFit, steps, marks};
+ghost use Rattle.meter.specs.Meter.{byteOf};
+ghost use Rattle.meter.specs.Refused.{some, badCount, badMeter};
+ghost use Rattle.meter.specs.Row.{tickedAll};
 ghost use Rattle.ffi.specs.Meters.{gateOf, meterOf, rowOf, loadsOf, malformed, tickMetersCall, resetMetersCall};
 use crate::status::BAD_METERS;
 use crate::status::METERS_REFUSED;
@@ -57,7 +59,7 @@ fn malformed_row(kinds: &[u8], lows: &[f64], highs: &[f64], loads: &[f64]) -> bo
 
 fn all_fit(kinds: &[u8], lows: &[f64], highs: &[f64], loads: &[f64], counts: &[u32]) -> bool
     requires { ⌜ (length (now kinds) ≡ length (now loads)) × (length (now lows) ≡ length (now loads)) × (length (now highs) ≡ length (now loads)) × (length (now counts) ≡ length (now loads)) ⌝ }
-    ensures { λ r. ⌜ r ≡ allFit (length (now (loads .entry))) (rowOf (now (kinds .entry)) (now (lows .entry)) (now (highs .entry)) (now (loads .entry))) (now (counts .entry)) ⌝ }
+    ensures { λ r. ⌜ r ≡ not (some badCount (now (counts .entry)) || some badMeter (rowOf (now (kinds .entry)) (now (lows .entry)) (now (highs .entry)) (now (loads .entry)))) ⌝ }
 {
     let mut good = true;
     let mut i = 0usize;
@@ -77,8 +79,8 @@ fn tick_all(
     bytes: &mut [u8],
 )
     requires { ⌜ (length (now kinds) ≡ length (now loads)) × (length (now lows) ≡ length (now loads)) × (length (now highs) ≡ length (now loads)) × (length (now counts) ≡ length (now loads)) × (length (now bytes) ≡ length (now loads)) ⌝ }
-    ensures { λ _. ⌜ (now (loads .exit) ≡ loadsOf (steps (length (now (loads .entry))) (rowOf (now (kinds .entry)) (now (lows .entry)) (now (highs .entry)) (now (loads .entry))) (now (counts .entry))))
-        × (now (bytes .exit) ≡ marks (length (now (loads .entry))) (rowOf (now (kinds .entry)) (now (lows .entry)) (now (highs .entry)) (now (loads .entry))) (now (counts .entry)) (now (bytes .entry))) ⌝ }
+    ensures { λ _. ⌜ (now (loads .exit) ≡ loadsOf (tickedAll (rowOf (now (kinds .entry)) (now (lows .entry)) (now (highs .entry)) (now (loads .entry))) (now (counts .entry))))
+        × (now (bytes .exit) ≡ map byteOf (tickedAll (rowOf (now (kinds .entry)) (now (lows .entry)) (now (highs .entry)) (now (loads .entry))) (now (counts .entry)))) ⌝ }
 {
     let mut i = 0usize;
     while i < loads.len() {

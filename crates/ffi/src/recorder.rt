@@ -12,8 +12,8 @@ use crate::status::NO_FAULT;
 use crate::status::REFUSED_3;
 use faults::FaultRecord;
 use faults::Recorder;
-use faults::after_clear_overflow;
 use faults::cleared;
+use faults::overflow_cleared;
 use faults::recorded;
 use faults::slot_count;
 
@@ -71,7 +71,7 @@ pub extern "C" fn galitzaf_clear_overflow(records: &[u8], recorder: &mut [u8]) -
     if 1 < recorder[1] {
         return BAD_RECORDER;
     }
-    let step = after_clear_overflow(records, read_state(recorder));
+    let step = overflow_cleared(records, read_state(recorder));
     let answer = step.answer;
     let left = step.recorder;
     write_state(recorder, left);

@@ -100,7 +100,7 @@ shuffle false true false d = refl
 shuffle false false true d = refl
 shuffle false false false d = refl
 
-fits-all : (ms : List Meter) (cs : List ℕ) → length cs ≡ length ms → allFit (length ms) ms cs ≡ not (some badCount cs || some badMeter ms)
+pub fits-all : (ms : List Meter) (cs : List ℕ) → length cs ≡ length ms → allFit (length ms) ms cs ≡ not (some badCount cs || some badMeter ms)
 unfolding allFit some
 fits-all [] [] same = refl
 fits-all [] (c ∷ cs) same = absurd (omega arith)
@@ -108,13 +108,13 @@ fits-all (m ∷ ms) [] same = absurd (omega arith)
 fits-all (m ∷ ms) (c ∷ cs) same =
     ap (λ (t : Bool). fit m c && t) (fits-all ms cs (omega arith)) ∙ shuffle (badCount c) (badMeter m) (some badCount cs) (some badMeter ms)
 
-steps-all : (ms : List Meter) (cs : List ℕ) → steps (length ms) ms cs ≡ tickedAll ms cs
+pub steps-all : (ms : List Meter) (cs : List ℕ) → steps (length ms) ms cs ≡ tickedAll ms cs
 unfolding steps tickedAll
 steps-all [] cs = refl
 steps-all (m ∷ ms) [] = refl
 steps-all (m ∷ ms) (c ∷ cs) = ap (λ (t : List Meter). ticked m c ∷ t) (steps-all ms cs)
 
-marks-all : (ms : List Meter) (cs bs : List ℕ) → length cs ≡ length ms → length bs ≡ length ms → marks (length ms) ms cs bs ≡ map byteOf (tickedAll ms cs)
+pub marks-all : (ms : List Meter) (cs bs : List ℕ) → length cs ≡ length ms → length bs ≡ length ms → marks (length ms) ms cs bs ≡ map byteOf (tickedAll ms cs)
 unfolding marks tickedAll
 marks-all [] cs [] same one = refl
 marks-all [] cs (b ∷ bs) same one = absurd (omega arith)
@@ -168,19 +168,28 @@ module _ (ms : List Meter) (cs bs : List ℕ) where
   abbrev bads : Bool
   bads = some badCount cs || some badMeter ms
 
-  pub outcome : (g h : Bool) → even ≡ g → (g && allFit (cond g (length ms) 0) ms cs) ≡ h
+  judged : (g : Bool) → even ≡ g → cond (not g || some badCount cs || some badMeter ms) kept done ≡ tickRow ms cs bs
+  judged g e = sym (ap (λ (t : Bool). cond (not t || some badCount cs || some badMeter ms) kept done) e)
+
+  pub uneven : even ≡ false → kept ≡ tickRow ms cs bs
+  uneven e = judged false e
+
+  pub one-bad : even ≡ true → not bads ≡ false → kept ≡ tickRow ms cs bs
+  one-bad e f = sym (ap (λ (t : Bool). cond t kept done) (flop bads f)) ∙ judged true e
+
+  pub all-good : even ≡ true → not bads ≡ true → done ≡ tickRow ms cs bs
+  all-good e f = sym (ap (λ (t : Bool). cond t kept done) (flip bads f)) ∙ judged true e
+
+  outcome : (g h : Bool) → even ≡ g → (g && allFit (cond g (length ms) 0) ms cs) ≡ h
       → (h, steps (cond h (length ms) 0) ms cs, marks (cond h (length ms) 0) ms cs bs) ≡ tickRow ms cs bs
   unfolding steps marks
   outcome false true e f = never (sym f)
-  outcome false false e f = sym (ap (λ (t : Bool). cond (not t || some badCount cs || some badMeter ms) kept done) e)
+  outcome false false e f = uneven e
   outcome true true e f =
       let same = lengths e in
-      let none : bads ≡ false = flip bads (sym (fits-all ms cs (same .0)) ∙ f) in
       ap₂ (λ (s : List Meter) (b : List ℕ). (true, s, b)) (steps-all ms cs) (marks-all ms cs bs (same .0) (same .1))
-      ∙ sym (ap (λ (t : Bool). cond (not t || some badCount cs || some badMeter ms) kept done) e ∙ ap (λ (t : Bool). cond t kept done) none)
-  outcome true false e f =
-      let one : bads ≡ true = flop bads (sym (fits-all ms cs (lengths e .0)) ∙ f) in
-      sym (ap (λ (t : Bool). cond (not t || some badCount cs || some badMeter ms) kept done) e ∙ ap (λ (t : Bool). cond t kept done) one)
+      ∙ all-good e (sym (fits-all ms cs (same .0)) ∙ f)
+  outcome true false e f = one-bad e (sym (fits-all ms cs (lengths e .0)) ∙ f)
 
   pub all-turns : (fine, steps end ms cs, marks end ms cs bs) ≡ tickRow ms cs bs
   all-turns = outcome even fine refl refl

@@ -97,7 +97,7 @@ fn one_call(buffer: &mut [u8], recorder: Recorder, x: u64) -> RecorderStep {
     match kind {
         0..=8 => faults::recorded(buffer, recorder, faults::record_of(fault_of(rest))),
         9..=13 => faults::cleared(buffer, recorder, slot_of(rest, buffer.len())),
-        14 => faults::after_clear_overflow(buffer, recorder),
+        14 => faults::overflow_cleared(buffer, recorder),
         _ => {
             let mut short = [0u8; 112];
             faults::recorded(&mut short, recorder, faults::record_of(fault_of(rest)))

@@ -2,7 +2,7 @@
 
 #![allow(dead_code)]
 
-use reference::{Fault, Outcome, Registers};
+use reference::{Fault, Notice, Outcome, Registers};
 
 /// "HAW 39, MGAW 48, levels 3 and 4, both large pages, posting, root 1000h,
 /// interrupt table 6000h, S 3, EIME 0, CFIS 0, TE and IRE on."
@@ -69,6 +69,15 @@ pub fn bench_with(words: &[(usize, u64)]) -> Vec<u8> {
         set(&mut image, address, value);
     }
     image
+}
+
+/// A post's answer.
+pub fn posted(vector: u8, descriptor: u64, notice: Option<Notice>) -> Outcome {
+    Outcome::Posted {
+        vector,
+        descriptor,
+        notice,
+    }
 }
 
 /// The fault of a blocked request.

@@ -14,8 +14,10 @@ pub fn meet(met: &mut Met, outcome: &Outcome) {
         Outcome::Refused(number) => format!("refused {number}"),
         Outcome::Passed => "passed".into(),
         Outcome::Remapped { .. } => "remapped".into(),
-        Outcome::Posted { notice: Some(_) } => "posted, notified".into(),
-        Outcome::Posted { notice: None } => "posted".into(),
+        Outcome::Posted {
+            notice: Some(_), ..
+        } => "posted, notified".into(),
+        Outcome::Posted { .. } => "posted".into(),
     };
     *met.entry(name).or_default() += 1;
 }

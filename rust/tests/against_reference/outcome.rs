@@ -32,6 +32,8 @@ pub fn of_interrupt(answer: InterruptAnswer) -> Outcome {
             destination: to.destination,
         },
         InterruptAnswer::Posted(post) => Outcome::Posted {
+            vector: post.vector,
+            descriptor: post.descriptor,
             notice: post.notification.map(|n| Notice {
                 vector: n.vector,
                 destination: n.destination,

@@ -54,24 +54,19 @@ pub fn answer(outcome: &Outcome) -> [u8; ANSWER_SIZE] {
             bytes[..4].copy_from_slice(&[4, *vector, *delivery, modes]);
             bytes[4..8].copy_from_slice(&destination.to_le_bytes());
         }
-        Outcome::Posted { notice } => {
+        Outcome::Posted {
+            vector,
+            descriptor,
+            notice,
+        } => {
             bytes[0] = 5;
+            bytes[3] = *vector;
+            bytes[8..16].copy_from_slice(&descriptor.to_le_bytes());
             if let Some(notice) = notice {
                 bytes[1..3].copy_from_slice(&[1, notice.vector]);
                 bytes[4..8].copy_from_slice(&notice.destination.to_le_bytes());
             }
         }
-    }
-    bytes
-}
-
-/// An answer with a post's vector and descriptor as they came: the reference doesn't name them, and the
-/// run, which is compared too, has the bit that was set.
-pub fn answer_beside(outcome: &Outcome, came: &[u8]) -> [u8; ANSWER_SIZE] {
-    let mut bytes = answer(outcome);
-    if let (Outcome::Posted { .. }, &[5, _, _, vector, ..]) = (outcome, came) {
-        bytes[3] = vector;
-        bytes[8..16].copy_from_slice(&came[8..16]);
     }
     bytes
 }

@@ -45,12 +45,6 @@ impl Read {
         Self { places, words }
     }
 
-    /// The vector that a posted entry has, and the descriptor's host address.
-    pub fn post(&self) -> Option<(u8, u64)> {
-        let vector = (self.words.first()? >> 16) as u8;
-        Some((vector, *self.places.get(2)?))
-    }
-
     /// What is met in the entries themselves.
     pub fn entries(&self, registers: &Registers, request: &Request) -> Vec<Met> {
         match request {
@@ -184,7 +178,7 @@ impl Read {
             Outcome::Passed if registers.ire => Met::PassedOld,
             Outcome::Passed => Met::PassedOff,
             Outcome::Remapped { .. } => self.remapped(),
-            Outcome::Posted { notice } => {
+            Outcome::Posted { notice, .. } => {
                 let word = |n: usize| self.words.get(n).copied().unwrap_or(0);
                 let [on, sn] = [0, 1].map(|bit| word(6) >> bit & 1 == 1);
                 Met::Posted {

@@ -2,7 +2,7 @@
 //! nothing.
 
 use crate::parts::Part;
-use reference::Slip;
+use reference::{Outcome, Slip};
 use std::fmt;
 
 /// What is wrong with the reference's side.
@@ -14,6 +14,10 @@ pub enum Flaw {
     Known(Slip),
     /// A blocked interrupt leaves a bit in the image's last byte.
     StrayBit,
+    /// A post's answer names no vector.
+    PostedVectorLost,
+    /// A post's answer names no descriptor.
+    DescriptorLost,
     /// The next slot goes on after the last.
     NextAfterLast,
     /// The next slot goes from 7 to 0, however many there are.
@@ -64,13 +68,15 @@ pub enum Flaw {
 
 impl Flaw {
     /// Each of them.
-    pub const ALL: [Flaw; 29] = [
+    pub const ALL: [Flaw; 31] = [
         Flaw::Known(Slip::Index16),
         Flaw::Known(Slip::LastEntryRights),
         Flaw::Known(Slip::MaskLargeFrame),
         Flaw::Known(Slip::FpdIgnoredWhenAbsent),
         Flaw::Known(Slip::OnDespiteSn),
         Flaw::StrayBit,
+        Flaw::PostedVectorLost,
+        Flaw::DescriptorLost,
         Flaw::NextAfterLast,
         Flaw::WrapAtEight,
         Flaw::SilencedRecorded,
@@ -101,7 +107,10 @@ impl Flaw {
         match (self, part) {
             (_, Part::Malformed) => false,
             (Flaw::None, _) => true,
-            (Flaw::Known(_) | Flaw::StrayBit, part) => matches!(part, Part::Worlds(_)),
+            (
+                Flaw::Known(_) | Flaw::StrayBit | Flaw::PostedVectorLost | Flaw::DescriptorLost,
+                part,
+            ) => matches!(part, Part::Worlds(_)),
             (
                 Flaw::AddedThenHalved
                 | Flaw::LimitTripsAtEquality
@@ -129,6 +138,20 @@ impl Flaw {
                 part,
             ) => matches!(part, Part::Worlds(suite) if suite.name == "windows"),
             (_, part) => matches!(part, Part::Recorder),
+        }
+    }
+
+    /// What becomes of a post's answer.
+    pub fn post(self, outcome: &mut Outcome) {
+        if let Outcome::Posted {
+            vector, descriptor, ..
+        } = outcome
+        {
+            match self {
+                Flaw::PostedVectorLost => *vector = 0,
+                Flaw::DescriptorLost => *descriptor = 0,
+                _ => {}
+            }
         }
     }
 

@@ -56,7 +56,7 @@ impl Judge {
             self.answer.take(&BEFORE, n % 8);
             let status = self.ours(&registers, request);
             let outcome = self.theirs(world, request);
-            self.compare(n, status, &outcome, read.as_ref())?;
+            self.compare(n, status, &outcome)?;
             if let (Some(read), Some(tally)) = (read, tally.as_deref_mut()) {
                 self.count(tally, world, request, &read, &outcome);
             }
@@ -168,9 +168,10 @@ impl Judge {
                 address,
                 data,
             } => {
-                let outcome = over(flaw, windows, run, refused, |shown, run| {
+                let mut outcome = over(flaw, windows, run, refused, |shown, run| {
                     interrupt_request_in(slip, registers, shown, run, source, address, data)
                 });
+                flaw.post(&mut outcome);
                 if let (Flaw::StrayBit, Outcome::Blocked(_)) = (flaw, &outcome) {
                     run.last_mut().into_iter().for_each(|byte| *byte ^= 1);
                 }
@@ -179,23 +180,9 @@ impl Judge {
         }
     }
 
-    /// Of a post the reference doesn't name vector and descriptor: they are as the words say that were
-    /// read, where these are at hand.
-    fn compare(
-        &self,
-        request: usize,
-        status: u32,
-        outcome: &Outcome,
-        read: Option<&Read>,
-    ) -> Result<(), String> {
+    fn compare(&self, request: usize, status: u32, outcome: &Outcome) -> Result<(), String> {
         let (ours, answer) = (self.ours.content(), self.answer.content());
-        let mut expected = bytes::answer_beside(outcome, answer);
-        if let (Outcome::Posted { .. }, Some((vector, descriptor))) =
-            (outcome, read.and_then(Read::post))
-        {
-            expected[3] = vector;
-            expected[8..16].copy_from_slice(&descriptor.to_le_bytes());
-        }
+        let expected = bytes::answer(outcome);
         let kept = self.ours.kept() && self.answer.kept();
         if status == 0 && answer == expected && ours == self.theirs && kept {
             return Ok(());

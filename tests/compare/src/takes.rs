@@ -143,7 +143,7 @@ impl Run {
                     if let Outcome::Posted { .. } = outcome {
                         books.posted(&before, handle);
                     }
-                    let same = answer == bytes::answer_beside(&outcome, &answer);
+                    let same = answer == bytes::answer(&outcome);
                     (u32::from(same), 1)
                 }
                 Step::Take { descriptor } => {

@@ -71,6 +71,8 @@ fn interrupt(answer: InterruptAnswer) -> Outcome {
             }
         }
         InterruptAnswer::Posted(notice) => Outcome::Posted {
+            vector: 0,
+            descriptor: 0,
             notice: notice.map(|notice| Notice {
                 vector: notice.vector,
                 destination: notice.destination,
@@ -120,7 +122,14 @@ fn compare(world: &World, request: &Request, ours: &mut Vec<u8>, theirs: &mut [u
             });
             let answer =
                 ordinary::interrupt_request(&registers, &windows, ours, source, address, data);
-            let expected = interrupt_request_in(none, r, shown, theirs, source, address, data);
+            let mut expected = interrupt_request_in(none, r, shown, theirs, source, address, data);
+            // This translator doesn't say what it posted and where.
+            if let Outcome::Posted {
+                vector, descriptor, ..
+            } = &mut expected
+            {
+                (*vector, *descriptor) = (0, 0);
+            }
             if again.is_some() {
                 assert!(copy == *ours, "{r:X?} {request:X?}");
             }

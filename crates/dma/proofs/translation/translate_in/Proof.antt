@@ -30,7 +30,7 @@ returns c =
 
 returns-2 : tie.Need-returns-2
 unfolding widthRules run lastTried
-returns-2 c = (rw (← c .before .before .before .before .smaller .ensures, ← c .before .before .before .at-or-above-power .ensures, c .before .before .if1 .left, eq-eqb _ _ (c .if2 .taken)), refl)
+returns-2 c = (rw (← c .before .before .before .before .smaller .ensures, ← c .before .before .before .at-or-above-power .ensures, c .before .before .if1 .left, eq-eqb _ 2 (c .if2 .taken)), refl)
 
 walk-requires : tie.Need-walk-requires
 walk-requires c κs = let p = c .before .before .before .before .before .before .before .before .pre in (p .0, p .1 .0, p .1 .1, p .1 .2)

@@ -1,6 +1,7 @@
 -- Each way out is a case of the definition. Past the refusal the slot lies in the buffer.
 use Prim.Native.Nat.{_+_, _*_, _≤_}
-use mathlib.Core.Path.{sym, _∙_}
+use mathlib.Core.Bool.{true, _||_}
+use mathlib.Core.Path.{_≡_, sym, _∙_}
 use borrow.Author.Needs.{needs}
 use denote.Ref.{now}
 use lib.Dec.{leb}
@@ -12,7 +13,11 @@ use Rattle.faults.proofs.recorder.after_clear.Tie as tie
 
 returns : tie.Need-returns
 unfolding clearing
-returns c = rw (← c .before .before .slot-count .ensures, c .if1 .taken)
+returns c =
+    let n = c .before .before in
+    let a = n .before .before .args in
+    let out : (leb (n .slot-count .result) (a .recorder .next) || leb (n .slot-count .result) (a .slot)) ≡ true = c .if1 .taken in
+    rw (← n .slot-count .ensures, out)
 
 reached : (c : tie.Else1)
     → let a = c .before .before .before .before .args in 16 * (a .slot) + 16 ≤ length (now (a .buffer))

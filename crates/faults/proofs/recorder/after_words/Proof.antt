@@ -1,6 +1,7 @@
 -- Each way out is a case of the definition. Past the refusal the next slot lies in the buffer.
 use Prim.Native.Nat.{_+_, _*_, _≤_}
 use mathlib.Core.Path.{sym, _∙_}
+use native.Mathlib.Omega.{arith}
 use borrow.Author.Needs.{needs}
 use borrow.Author.Tests.{le-leb, lt-leb}
 use denote.Ref.{now}
@@ -13,13 +14,15 @@ use Rattle.faults.proofs.recorder.after_words.Tie as tie
 
 returns : tie.Need-returns
 unfolding recording
-returns c = rw (← c .before .slot-count .ensures, le-leb _ _ (c .if1 .taken))
+returns c =
+    let n = c .before in
+    rw (← n .slot-count .ensures, le-leb (n .slot-count .result) (n .before .before .args .recorder .next) (omega (arith, c .if1 .taken)))
 
 returns-2 : tie.Need-returns-2
 unfolding recording
 returns-2 c =
     let kept = c .before in
-    rw (← kept .before .slot-count .ensures, lt-leb _ _ (kept .if1 .left), c .if2 .taken)
+    rw (← kept .before .slot-count .ensures, lt-leb (kept .before .slot-count .result) _ (kept .if1 .left), c .if2 .taken)
 
 returns-3 : tie.Need-returns-3
 unfolding recording

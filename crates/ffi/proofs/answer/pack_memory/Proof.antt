@@ -27,7 +27,7 @@ pack-refusal-requires c κs = search needs
 
 returns : tie.Need-returns
 returns c =
-    rw (c .head .ensures, low-alone (c .before .before .answer .given .0 .0))
+    rw (c .head .ensures, low-alone)
     (sym (ap (λ (a : MemoryAnswer). memoryBytes (outcomeOf a) (entryOf a)) (c .before .before .answer .given .1)))
 
 returns-2 : tie.Need-returns-2

@@ -5,7 +5,7 @@ use native.Mathlib.Omega.{arith}
 use lib.ListN.{length, getD}
 use Rattle.meter.proofs.Rows.{fit, allFit}
 use Rattle.ffi.specs.Meters.{meterOf, rowOf}
-use Rattle.ffi.proofs.Arrays.{looked}
+use Rattle.ffi.proofs.Arrays.{looked, all-looked}
 use borrow.Author.Needs.{needs}
 use Rattle.ffi.proofs.meters.all_fit.Statement.{statement}
 use Rattle.ffi.proofs.meters.all_fit.Tie as tie
@@ -70,6 +70,7 @@ returns c =
     let a = c .before .before .before .before .before .before .before .args in
     let all : l .i ≡ length (a .loads .now) = omega arith in
     l .inv .1 ∙ ap (λ (j : ℕ). allFit j (rowOf (a .kinds .now) (a .lows .now) (a .highs .now) (a .loads .now)) (a .counts .now)) all
+    ∙ all-looked (a .kinds .now) (a .lows .now) (a .highs .now) (a .loads .now) (a .counts .now) (a .counts .now) (omega arith)
 
 pub all-fit-spec : {M : Type 1} → statement M
 all-fit-spec =

@@ -4,7 +4,7 @@ use native.Mathlib.Omega.{arith}
 use lib.ListN.{length, getD, length-set}
 use Rattle.meter.proofs.Rows.{steps, marks}
 use Rattle.ffi.specs.Meters.{meterOf, rowOf, loadsOf}
-use Rattle.ffi.proofs.Arrays.{row-loads, loads-next, bytes-next}
+use Rattle.ffi.proofs.Arrays.{row-loads, loads-next, bytes-next, loads-all, bytes-all}
 use borrow.Author.Needs.{needs}
 use Rattle.ffi.proofs.meters.tick_all.Statement.{statement}
 use Rattle.ffi.proofs.meters.tick_all.Tie as tie
@@ -96,8 +96,10 @@ returns c =
     let l = c .before .loop in
     let a = c .before .before .before .before .before .before .before .before .args in
     let all : l .i ≡ length (a .loads .now) = omega arith in (
-      l .inv .3 ∙ ap (λ (j : ℕ). loadsOf (steps j (rowOf (a .kinds .now) (a .lows .now) (a .highs .now) (a .loads .now)) (a .counts .now))) all,
-      l .inv .4 ∙ ap (λ (j : ℕ). marks j (rowOf (a .kinds .now) (a .lows .now) (a .highs .now) (a .loads .now)) (a .counts .now) (a .bytes .now)) all,
+      l .inv .3 ∙ ap (λ (j : ℕ). loadsOf (steps j (rowOf (a .kinds .now) (a .lows .now) (a .highs .now) (a .loads .now)) (a .counts .now))) all
+          ∙ loads-all (a .kinds .now) (a .lows .now) (a .highs .now) (a .loads .now) (a .counts .now) (a .bytes .now),
+      l .inv .4 ∙ ap (λ (j : ℕ). marks j (rowOf (a .kinds .now) (a .lows .now) (a .highs .now) (a .loads .now)) (a .counts .now) (a .bytes .now)) all
+          ∙ bytes-all (a .kinds .now) (a .lows .now) (a .highs .now) (a .loads .now) (a .counts .now) (a .bytes .now) (omega arith) (omega arith),
     )
 
 pub tick-all-spec : {M : Type 1} → statement M

@@ -53,7 +53,7 @@ returns-3 c =
       ← read .read-state .ensures .0,
       ← read .read-state .ensures .1,
     )
-    (ap withState (rw (← first .before .before .before .slot-count .ensures) at (cleared .after-clear-overflow .ensures)))
+    (ap withState (rw (← first .before .before .before .slot-count .ensures) at (cleared .overflow-cleared .ensures)))
 
 pub galitzaf-clear-overflow-spec : {M : Type 1} → statement M
 galitzaf-clear-overflow-spec =

@@ -1,5 +1,6 @@
 -- Each way out is a line of the definition.
 use Prim.Native.Nat.{ℕ}
+use mathlib.Core.Bool.{true, _||_}
 use mathlib.Core.Path.{_≡_, ap, sym, _∙_}
 use native.Mathlib.Omega.{arith}
 use borrow.Author.Needs.{needs}
@@ -14,7 +15,11 @@ use Rattle.ffi.proofs.recorder.galitzaf_clear_slot.Tie as tie
 
 returns : tie.Need-returns
 unfolding clearSlotCall
-returns c = rw (← c .before .before .slot-count .ensures, ← c .before .is-unfit .ensures, c .if1 .taken)
+returns c =
+    let counted = c .before .before in
+    let unfit = c .before .is-unfit in
+    let out : (unfit .result || leb (counted .slot-count .result) (counted .before .before .before .args .slot)) ≡ true = c .if1 .taken in
+    rw (← counted .slot-count .ensures, ← unfit .ensures, out)
 
 two : (c : tie.Else1) → length (c .before .before .before .before .before .args .recorder .now) ≡ 2
 two c =

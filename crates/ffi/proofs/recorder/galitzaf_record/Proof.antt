@@ -67,7 +67,7 @@ returns-4 c =
       ← second .before .bad-answer .ensures,
       second .if2 .left,
       le-ltb _ _ (third .if3 .left),
-      ne-eqb _ _ (c .if4 .taken),
+      ne-eqb _ 1 (c .if4 .taken),
     )
 
 read-state-requires : tie.Need-read-state-requires

@@ -1,4 +1,5 @@
 -- Each answer by the tests on its way.
+use mathlib.Core.Bool.{true, not, _||_}
 use mathlib.Core.Path.{_≡_, sym, _∙_}
 use native.Mathlib.Omega.{arith}
 use borrow.Author.Tests.{eq-eqb, ne-eqb}
@@ -15,7 +16,9 @@ returns : tie.Need-returns
 unfolding requestCheck
 returns c =
     let old = c .before .before .before in
-    rw (← old .before .field .ensures, ne-eqb _ _ (old .if1 .taken), c .if2 .taken)
+    let registers = old .before .before .args .registers in
+    let blocked : (registers .eime || not (registers .cfis)) ≡ true = c .if2 .taken in
+    rw (← old .before .field .ensures, ne-eqb _ _ (old .if1 .taken), blocked)
 
 returns-2 : tie.Need-returns-2
 unfolding requestCheck

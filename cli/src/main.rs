@@ -1,0 +1,103 @@
+//! `galitzaf`, the command line over the proved unit. `src/help.txt` says what it does.
+
+#![forbid(unsafe_code)]
+
+mod answer;
+mod decode;
+mod memory;
+mod setting;
+mod text;
+
+use setting::Setting;
+use std::io::{Read, Write};
+use std::process::ExitCode;
+
+const HELP: &str = include_str!("help.txt");
+const BENCH: &str = include_str!("../../examples/ask/bench.txt");
+
+/// Why there is no answer.
+enum Problem {
+    /// No such command.
+    Usage(String),
+    /// A file that can't be read, or a step in it that is bad.
+    Bad(String),
+}
+
+impl From<String> for Problem {
+    fn from(message: String) -> Self {
+        Self::Bad(message)
+    }
+}
+
+fn main() -> ExitCode {
+    let arguments: Vec<String> = std::env::args_os()
+        .skip(1)
+        .map(|argument| argument.to_string_lossy().into_owned())
+        .collect();
+    let words: Vec<&str> = arguments.iter().map(String::as_str).collect();
+    match command(&words) {
+        Ok(lines) => print(&lines),
+        Err(Problem::Bad(message)) => {
+            eprintln!("{message}");
+            ExitCode::from(1)
+        }
+        Err(Problem::Usage(message)) => {
+            eprintln!("galitzaf: {message}; try galitzaf --help");
+            ExitCode::from(2)
+        }
+    }
+}
+
+/// A reader that has seen enough may close the pipe.
+fn print(text: &str) -> ExitCode {
+    match std::io::stdout().write_all(text.as_bytes()) {
+        Ok(()) => ExitCode::SUCCESS,
+        Err(_) => ExitCode::from(1),
+    }
+}
+
+fn command(words: &[&str]) -> Result<String, Problem> {
+    match words {
+        ["--help" | "-h" | "help"] => Ok(HELP.to_string()),
+        ["--version"] => Ok(concat!("galitzaf ", env!("CARGO_PKG_VERSION"), "\n").to_string()),
+        ["ask", files @ ..] if !files.is_empty() => ask(files),
+        ["probe", steps @ ..] if !steps.is_empty() => probe(&steps.join(" ")),
+        ["decode", file] => Ok(decode::text(file, &read(file)?)?),
+        ["decode", words @ ..] if words.len() > 1 => Ok(decode::words(words)?),
+        ["ask" | "decode"] => usage(format!("{} what?", words[0])),
+        ["probe"] => usage("probe which step?".to_string()),
+        [] => usage("no command".to_string()),
+        [other, ..] => usage(format!("no command `{other}`")),
+    }
+}
+
+fn usage(message: String) -> Result<String, Problem> {
+    Err(Problem::Usage(message))
+}
+
+/// A file's text, or that of standard input.
+fn read(file: &str) -> Result<String, String> {
+    let mut bytes = Vec::new();
+    let got = if file == "-" {
+        std::io::stdin().read_to_end(&mut bytes).map(|_| ())
+    } else {
+        std::fs::read(file).map(|read| bytes = read)
+    };
+    got.map_err(|error| format!("{file}: {error}"))?;
+    String::from_utf8(bytes).map_err(|_| format!("{file}: expected text in UTF-8"))
+}
+
+fn ask(files: &[&str]) -> Result<String, Problem> {
+    let mut setting = Setting::default();
+    let mut lines = String::new();
+    for file in files {
+        lines += &setting.answer_all(file, &read(file)?)?;
+    }
+    Ok(lines)
+}
+
+fn probe(steps: &str) -> Result<String, Problem> {
+    let mut setting = Setting::default();
+    setting.answer_all("bench.txt", BENCH)?;
+    Ok(setting.answer_all("probe", steps)?)
+}

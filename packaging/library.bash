@@ -1,0 +1,14 @@
+# What packaging/install and the scripts of tests/ share. Sourced by them, from anywhere; leaves the shell in the
+# repository's root.
+
+# A relative one is meant from where the caller stands.
+if [ -n "${GALITZAF_LIB_DIR:-}" ]; then
+    GALITZAF_LIB_DIR=$(realpath "$GALITZAF_LIB_DIR") || exit 2
+fi
+cd "$(dirname "${BASH_SOURCE[0]}")/.." || exit 2
+
+# The Rattle crate that exports the C interface, and the archive that `rt staticlib` writes for it.
+library=ffi
+archive=${GALITZAF_LIB_DIR:-$PWD/target/staticlib}/lib$library.a
+# The one version number.
+version=$(sed -n 's/^#define GALITZAF_VERSION "\(.*\)"$/\1/p' include/galitzaf.h)
