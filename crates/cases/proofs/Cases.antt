@@ -4,9 +4,10 @@ use lib.ListN.{length}
 use Rattle.image.specs.Bits.{bits}
 use Rattle.image.specs.Bytes.{littleEndian, bytesOf}
 use Rattle.image.specs.Entries.{spell}
-use Rattle.image.specs.Memory.{wordAt, ofImage, entry}
+use Rattle.image.specs.Memory.{entry}
 use Rattle.image.specs.Place.{lastTried}
 use Rattle.image.specs.Rules.{run, mapRules}
+use Rattle.image.specs.Windows.{windowsOf, spotIn, entryIn, ofWindows, badWithAny, badList, badWindows, flat}
 use Rattle.registers.specs.Admission.{admission}
 use Rattle.registers.specs.Registers.{registersBad}
 use Rattle.faults.specs.Record.{silenced, memoryRecord, fromBit64, memoryFault, indexField, interruptRecord, interruptFault}
@@ -30,7 +31,7 @@ unfolding bench layout bytesOf
 whole = refl
 
 answered : answers (rows bench) ≡ said (rows bench)
-unfolding answers said resultOf changed bench layout bytesOf littleEndian bits spell wordAt ofImage entry run lastTried mapRules admission registersBad silenced memoryRecord fromBit64 memoryFault indexField interruptRecord interruptFault contextReserved contextInvalid contextCheck pageReserved pageCheck memoryRules rootReserved rootCheck widthRules contextRules rootRules walkRules descriptorCheck descriptorRules indexRules requestRules interruptRules reservedIrte irteCheck setBit requestCheck sourceAllowed
+unfolding answers said resultOf changed bench layout bytesOf littleEndian bits spell windowsOf spotIn entryIn ofWindows badWithAny badList badWindows flat entry run lastTried mapRules admission registersBad silenced memoryRecord fromBit64 memoryFault indexField interruptRecord interruptFault contextReserved contextInvalid contextCheck pageReserved pageCheck memoryRules rootReserved rootCheck widthRules contextRules rootRules walkRules descriptorCheck descriptorRules indexRules requestRules interruptRules reservedIrte irteCheck setBit requestCheck sourceAllowed
 answered = refl
 
 pub twelve-cases : TwelveCases

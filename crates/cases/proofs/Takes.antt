@@ -10,21 +10,21 @@ use lib.Dec.{lit≤, ltb}
 use lib.ListN.{getD}
 use Rattle.image.specs.Bits.{bits}
 use Rattle.image.specs.Bytes.{littleEndian, bytesOf}
-use Rattle.image.specs.Memory.{wordAt, ofImage, entry}
+use Rattle.image.specs.Memory.{entry}
 use Rattle.image.specs.Rules.{run, mapRules}
+use Rattle.image.specs.Windows.{windowsOf, spotIn, entryIn, ofWindows, byteAt, badWithAny, badList, badWindows, flat}
 use Rattle.registers.specs.Admission.{admission}
 use Rattle.registers.specs.Registers.{registersBad}
 use Rattle.irte.specs.Irte.{reservedIrte, irteCheck}
 use Rattle.irte.specs.Source.{sourceAllowed}
-use Rattle.interrupts.specs.Claims.{outcome}
 use Rattle.interrupts.specs.Descriptor.{notice, descriptorCheck}
-use Rattle.interrupts.specs.Interrupts.{posted, descriptorRules, indexRules, requestRules, interruptRules}
+use Rattle.interrupts.specs.Interrupts.{posted, interruptAnswer, descriptorRules, indexRules, requestRules, interruptRules}
 use Rattle.interrupts.specs.Post.{setBit}
 use Rattle.interrupts.specs.Request.{requestCheck}
 use Rattle.takes.specs.Claims.{Apart}
 use Rattle.takes.specs.Runs.{after, left, count, countFrom}
 use Rattle.takes.specs.Take.{highest, takeRules, clearBit}
-use Rattle.cases.specs.Takes.{registers, withRequests, full, empty, posts31, postsF0, TakesMet}
+use Rattle.cases.specs.Takes.{registers, withRequests, full, empty, window, posts31, postsF0, TakesMet}
 
 -- bytes, by looking at each
 small : List ℕ → Bool
@@ -46,20 +46,20 @@ unfolding small withRequests bytesOf
 full-bytes = below full refl
 
 -- both post to the descriptor at 64, behind the entries
-posts-to-64 : (outcome registers posts31 (ofImage empty) ≡ posted 64 0x31 (notice 0 0)) × (outcome registers postsF0 (ofImage empty) ≡ posted 64 0xF0 (notice 0 0))
-unfolding withRequests bytesOf littleEndian bits wordAt ofImage entry run mapRules admission registersBad descriptorRules indexRules requestRules interruptRules reservedIrte irteCheck requestCheck sourceAllowed descriptorCheck
+posts-to-64 : (interruptAnswer registers posts31 window empty ≡ posted 64 0x31 (notice 0 0)) × (interruptAnswer registers postsF0 window empty ≡ posted 64 0xF0 (notice 0 0))
+unfolding withRequests bytesOf littleEndian bits windowsOf spotIn entryIn ofWindows byteAt badWithAny badList badWindows flat entry run mapRules admission registersBad descriptorRules indexRules requestRules interruptRules reservedIrte irteCheck requestCheck sourceAllowed descriptorCheck
 posts-to-64 = (refl, refl)
 
-apart : Apart registers posts31 postsF0 empty
+apart : Apart registers posts31 postsF0 window empty
 unfolding bits
 apart d v n h = let here : d ≡ 64 = cc (posts-to-64 .0) in inr (rw here (lit≤ tt))
 
-apart-back : Apart registers postsF0 posts31 empty
+apart-back : Apart registers postsF0 posts31 window empty
 unfolding bits
 apart-back d v n h = let here : d ≡ 64 = cc (posts-to-64 .1) in inr (rw here (lit≤ tt))
 
 pub takes-met : TakesMet
-unfolding withRequests bytesOf littleEndian bits wordAt ofImage entry run mapRules admission registersBad descriptorRules indexRules requestRules interruptRules reservedIrte irteCheck requestCheck sourceAllowed descriptorCheck setBit clearBit highest takeRules after left count countFrom
+unfolding withRequests bytesOf littleEndian bits windowsOf spotIn entryIn ofWindows byteAt badWithAny badList badWindows flat entry run mapRules admission registersBad descriptorRules indexRules requestRules interruptRules reservedIrte irteCheck requestCheck sourceAllowed descriptorCheck setBit clearBit highest takeRules after left count countFrom
 takes-met =
     record {
       hands-255 = refl;

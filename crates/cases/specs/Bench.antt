@@ -6,12 +6,11 @@ use mathlib.Core.Path.{_≡_}
 use lib.ListN.{length, take, replicate, set}
 use Rattle.image.specs.Bytes.{bytesOf}
 use Rattle.image.specs.Entries.{spell}
-use Rattle.image.specs.Memory.{ofImage}
 use Rattle.image.specs.Place.{Place, noEntry, entryAt}
-use Rattle.image.specs.Rules.{run}
+use Rattle.image.specs.Windows.{flat}
 use Rattle.registers.specs.declared.Registers.{Registers}
 use Rattle.faults.specs.Record.{FaultAnswer}
-use Rattle.dma.specs.Requests.{MemoryOutcome, granted, blocked, refused, memoryRules, memoryPlace}
+use Rattle.dma.specs.Requests.{MemoryOutcome, granted, blocked, refused, memoryAnswer, memoryAnswerPlace}
 use Rattle.dma.specs.declared.MemoryRequest.{MemoryRequest}
 use Rattle.interrupts.specs.Descriptor.{silent, notice}
 use Rattle.interrupts.specs.Interrupts as interrupts
@@ -75,7 +74,8 @@ pub data Ask : Type 0 where
   write : ℕ → Ask
   interrupt : (address message : ℕ) → Ask
 
--- what becomes of it: a memory request's outcome with the entry concerned, or an interrupt's with the image at exit too
+-- what becomes of it, over the image as one window from 0: a memory request's outcome with the entry concerned, or an interrupt's with
+-- the image at exit too
 pub data Result : Type 0 where
   memory : MemoryOutcome → Place → Result
   interrupted : interrupts.InterruptOutcome → Place → List ℕ → Result
@@ -89,18 +89,18 @@ interruptRequest source address message =
 
 abbrev pub memoryResult : MemoryRequest → (image : List ℕ) → Result
 memoryResult request image =
-    memory (run (memoryRules benchRegisters request) (ofImage image)) (memoryPlace benchRegisters request (ofImage image))
+    memory (memoryAnswer benchRegisters request (flat (length image)) image) (memoryAnswerPlace benchRegisters request (flat (length image)) image)
 
 abbrev pub interruptedBy : interrupts.InterruptOutcome → Place → (image : List ℕ) → Result
-interruptedBy outcome place image = interrupted outcome place (written outcome image)
+interruptedBy outcome place image = interrupted outcome place (written (flat (length image)) outcome image)
 
--- the rules' answer under the bench registers
+-- the unit's answer under the bench registers
 unfoldable pub resultOf : (source : ℕ) → Ask → (image : List ℕ) → Result
 resultOf source (read address) image = memoryResult (memoryRequest source address false) image
 resultOf source (write address) image = memoryResult (memoryRequest source address true) image
 resultOf source (interrupt address message) image =
-    interruptedBy (run (interrupts.interruptRules benchRegisters (interruptRequest source address message)) (ofImage image))
-    (interrupts.interruptPlace benchRegisters (interruptRequest source address message) (ofImage image)) image
+    interruptedBy (interrupts.interruptAnswer benchRegisters (interruptRequest source address message) (flat (length image)) image)
+    (interrupts.interruptAnswerPlace benchRegisters (interruptRequest source address message) (flat (length image)) image) image
 
 -- a recordable fault by its reason and its record's two words
 abbrev pub faulted : (reason low high : ℕ) → FaultAnswer

@@ -6,16 +6,17 @@ use mathlib.Core.Path.{_≡_}
 use lib.ListN.{getD, replicate}
 use Rattle.image.specs.Bits.{bits}
 use Rattle.image.specs.Bytes.{bytesOf}
-use Rattle.image.specs.Memory.{found, entry, ofImage}
+use Rattle.image.specs.Memory.{found, entry}
+use Rattle.image.specs.Windows.{ofWindows, flat}
 use Rattle.registers.specs.declared.Registers.{Registers}
-use Rattle.interrupts.specs.Claims.{outcome, entryAt}
+use Rattle.interrupts.specs.Claims.{entryAt}
 use Rattle.interrupts.specs.Descriptor.{notice}
-use Rattle.interrupts.specs.Interrupts.{posted}
+use Rattle.interrupts.specs.Interrupts.{posted, interruptAnswer}
 use Rattle.interrupts.specs.declared.InterruptRequest.{InterruptRequest}
 use Rattle.takes.specs.Claims.{Apart}
 use Rattle.takes.specs.Runs.{Operation, request, take, left, count, stands, standingFrom, takesAt, handsOut, postsAt, postsClear, notices}
 use Rattle.takes.specs.Take as rules
-use Rattle.takes.specs.Take.{takeOutcome}
+use Rattle.takes.specs.Take.{takeAnswer}
 use Rattle.cases.specs.Bench.{interruptRequest}
 
 -- two interrupt entries from address 0: the first posts 31h and the second F0h, to the descriptor at 64
@@ -55,6 +56,10 @@ one = withRequests (2 ^ 0x31) 1
 abbrev pub empty : List ℕ
 empty = withRequests 0 0
 
+-- one window from 0, on all of the 128 bytes
+abbrev pub window : List ℕ
+window = flat 128
+
 -- posts through the first entry and through the second, from source 0310h, and a take at the descriptor
 abbrev pub posts31 : InterruptRequest
 posts31 = interruptRequest 0x0310 0xFEE00010 0
@@ -67,32 +72,32 @@ takes n = replicate n (take registers 64)
 
 pub record TakesMet : Type 0 where
   -- one take: the highest bit, none, and two refusals
-  pub hands-255 : takeOutcome registers 64 full ≡ rules.handed 255
-  pub hands-none : takeOutcome registers 64 empty ≡ rules.none
-  pub odd : takeOutcome registers 32 full ≡ rules.refused 5
-  pub outside : takeOutcome registers 128 full ≡ rules.refused 5
+  pub hands-255 : takeAnswer registers 64 window full ≡ rules.handed 255
+  pub hands-none : takeAnswer registers 64 window empty ≡ rules.none
+  pub odd : takeAnswer registers 32 window full ≡ rules.refused 5
+  pub outside : takeAnswer registers 128 window full ≡ rules.refused 5
   -- of 256 bits the lowest is handed out by the 256th take and by none before it
   pub full-bytes : (n : ℕ) → getD full n 0 < 256
-  pub lowest-stands : stands 64 full 0 ≡ true
-  pub nothing-posted : count (postsAt 64 0) (takes 256) full ≡ 0
-  pub takes-made : count (takesAt 64) (takes 256) full ≡ 256
-  pub not-by-255 : count (handsOut 64 0) (takes 255) full ≡ 0
-  pub by-256 : count (handsOut 64 0) (takes 256) full ≡ 1
+  pub lowest-stands : stands window 64 full 0 ≡ true
+  pub nothing-posted : count window (postsAt window 64 0) (takes 256) full ≡ 0
+  pub takes-made : count window (takesAt window 64) (takes 256) full ≡ 256
+  pub not-by-255 : count window (handsOut window 64 0) (takes 255) full ≡ 0
+  pub by-256 : count window (handsOut window 64 0) (takes 256) full ≡ 1
   -- 31h stands alone, F0h is posted meanwhile: handed out by the second take and not by the first
-  pub one-stands : standingFrom 64 0x31 one ≡ 1
-  pub one-posted : count (postsAt 64 0x31) (request registers postsF0 ∷ takes 2) one ≡ 1
-  pub not-by-first : count (handsOut 64 0x31) (request registers postsF0 ∷ takes 1) one ≡ 0
-  pub by-second : count (handsOut 64 0x31) (request registers postsF0 ∷ takes 2) one ≡ 1
+  pub one-stands : standingFrom window 64 0x31 one ≡ 1
+  pub one-posted : count window (postsAt window 64 0x31) (request registers postsF0 ∷ takes 2) one ≡ 1
+  pub not-by-first : count window (handsOut window 64 0x31) (request registers postsF0 ∷ takes 1) one ≡ 0
+  pub by-second : count window (handsOut window 64 0x31) (request registers postsF0 ∷ takes 2) one ≡ 1
   -- 31h stands, is posted, taken, posted twice: one post finds it clear, it is handed out once and stands at the end
-  pub found-clear : count (postsClear 64 0x31) (request registers posts31 ∷ take registers 64 ∷ request registers posts31 ∷ request registers posts31 ∷ []) one ≡ 1
-  pub handed-once : count (handsOut 64 0x31) (request registers posts31 ∷ take registers 64 ∷ request registers posts31 ∷ request registers posts31 ∷ []) one ≡ 1
-  pub still-stands : stands 64 (left (request registers posts31 ∷ take registers 64 ∷ request registers posts31 ∷ request registers posts31 ∷ []) one) 0x31 ≡ true
+  pub found-clear : count window (postsClear window 64 0x31) (request registers posts31 ∷ take registers 64 ∷ request registers posts31 ∷ request registers posts31 ∷ []) one ≡ 1
+  pub handed-once : count window (handsOut window 64 0x31) (request registers posts31 ∷ take registers 64 ∷ request registers posts31 ∷ request registers posts31 ∷ []) one ≡ 1
+  pub still-stands : stands window 64 (left window (request registers posts31 ∷ take registers 64 ∷ request registers posts31 ∷ request registers posts31 ∷ []) one) 0x31 ≡ true
   -- two posts to one descriptor: neither's entry shares a byte with it, and there is one notice
-  pub apart : Apart registers posts31 postsF0 empty
-  pub apart-back : Apart registers postsF0 posts31 empty
-  pub one-notice : count notices (request registers posts31 ∷ request registers postsF0 ∷ []) empty ≡ 1
+  pub apart : Apart registers posts31 postsF0 window empty
+  pub apart-back : Apart registers postsF0 posts31 window empty
+  pub one-notice : count window (notices window) (request registers posts31 ∷ request registers postsF0 ∷ []) empty ≡ 1
   -- the first entry is for source 0310h alone: SVT 1, SQ 0
-  pub its-post : outcome registers posts31 (ofImage empty) ≡ posted 64 0x31 (notice 0 0)
-  pub its-entry : entry 2 (ofImage empty) (entryAt registers posts31) ≡ found (0x40310 * 2 ^ 64 + 0x4000318001)
+  pub its-post : interruptAnswer registers posts31 window empty ≡ posted 64 0x31 (notice 0 0)
+  pub its-entry : entry 2 (ofWindows window empty) (entryAt registers posts31) ≡ found (0x40310 * 2 ^ 64 + 0x4000318001)
   pub its-svt : bits (0x40310 * 2 ^ 64 + 0x4000318001) 83 82 ≡ 1
   pub its-sq : bits (0x40310 * 2 ^ 64 + 0x4000318001) 81 80 ≡ 0

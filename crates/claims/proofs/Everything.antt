@@ -18,7 +18,7 @@ use Rattle.interrupts.proofs.RaisedBy.{remapped-by-entry, posted-by-entry, one-
 use Rattle.takes.proofs.Conserved.{conserved, none-invented}
 use Rattle.takes.proofs.HandedOut.{fewer-until-handed-out, handed-out-within, handed-out-within-256}
 use Rattle.takes.proofs.Orders.{either-order}
-use Rattle.takes.proofs.Takes.{clears-exactly, hands-highest, none-stands}
+use Rattle.takes.proofs.Takes.{clears-exactly, takes-stay-inside, hands-highest, none-stands}
 use Rattle.unit.proofs.Demand3.{isolation, more-memory}
 use Rattle.cases.proofs.Cases.{twelve-cases}
 use Rattle.cases.proofs.Instances.{premises-met}
@@ -74,6 +74,7 @@ everything =
       stays-in-range = stays-in-range;
       bytes-tell = bytes-tell;
       clears-exactly = clears-exactly;
+      takes-stay-inside = takes-stay-inside;
       hands-highest = hands-highest;
       none-stands = none-stands;
       fewer-until-handed-out = fewer-until-handed-out;

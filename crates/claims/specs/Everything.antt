@@ -10,7 +10,7 @@ use Rattle.dma.specs.NoInterrupt.{NoInterruptGranted, WholeFrameTested}
 use Rattle.dma.specs.Reached.{GrantedByOwnWalk}
 use Rattle.interrupts.specs.Claims.{SetsExactly, NoticeExactly, LeavesAll, StaysInside, IndexBound, EntryOfIndex, NoWrap, AtMostTen, NoneBeforeTable, InterruptAccessMeansUnfetched, Isolated, SameBits}
 use Rattle.interrupts.specs.RaisedBy.{RemappedByEntry, PostedByEntry, OneSource, ExactSource}
-use Rattle.takes.specs.Claims.{ClearsExactly, HandsHighest, NoneStands, FewerUntilHandedOut, HandedOutWithin, HandedOutWithin256, Conserved, NoneInvented, EitherOrder}
+use Rattle.takes.specs.Claims.{ClearsExactly, TakesStayInside, HandsHighest, NoneStands, FewerUntilHandedOut, HandedOutWithin, HandedOutWithin256, Conserved, NoneInvented, EitherOrder}
 use Rattle.unit.specs.Isolation.{Isolation, MoreMemory}
 use Rattle.cases.specs.Bench.{TwelveCases}
 use Rattle.cases.specs.Instances.{PremisesMet}
@@ -70,6 +70,7 @@ pub record Everything : Type 0 where
   pub bytes-tell : BytesTell
   -- takes: one, and runs of posts and takes
   pub clears-exactly : ClearsExactly
+  pub takes-stay-inside : TakesStayInside
   pub hands-highest : HandsHighest
   pub none-stands : NoneStands
   pub fewer-until-handed-out : FewerUntilHandedOut
