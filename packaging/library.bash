@@ -10,5 +10,17 @@ cd "$(dirname "${BASH_SOURCE[0]}")/.." || exit 2
 # The Rattle crate that exports the C interface, and the archive that `rt staticlib` writes for it.
 library=ffi
 archive=${GALITZAF_LIB_DIR:-$PWD/target/staticlib}/lib$library.a
+# Whether it has to be made: there is none, or a source is newer.
+stale() {
+    [ -z "${GALITZAF_LIB_DIR:-}" ] && { [ ! -f "$archive" ] || [ -n "$(find crates crates.txt -newer "$archive" -print -quit)" ]; }
+}
+# The archive, proved and compiled where it has to be.
+static_library() {
+    if stale; then
+        packaging/kit || true
+        rt staticlib "$library" || return 1
+    fi
+    [ -f "$archive" ] || { echo "no $archive" >&2; return 1; }
+}
 # The one version number.
 version=$(sed -n 's/^#define GALITZAF_VERSION "\(.*\)"$/\1/p' include/galitzaf.h)

@@ -35,17 +35,6 @@ tree() { git status --porcelain 2>/dev/null; }
 before=$(tree)
 tree_unchanged() { diff <(echo "$before") <(echo "$(tree)"); }
 
-# The archive, made again where a source is newer.
-static_library() {
-    if [ -z "${GALITZAF_LIB_DIR:-}" ]; then
-        if [ ! -f "$archive" ] || [ -n "$(find crates crates.txt -newer "$archive" -print -quit)" ]; then
-            packaging/kit
-            rt staticlib "$library" || return 1
-        fi
-    fi
-    [ -f "$archive" ] || { echo "no $archive"; return 1; }
-}
-
 # each COMMAND...: in each of the script's crates.
 each() {
     local crate

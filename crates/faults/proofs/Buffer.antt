@@ -2,18 +2,7 @@
 use Prim.Native.Nat.{ℕ, zero, suc, _+_, _*_, _/_, _%_, _^_, _<_, _≤_}
 use mathlib.Core.Path.{_≡_, sym}
 use mathlib.Core.List.{List, [], _∷_, _++_, append-assoc, append-nil}
-use native.Mathlib.Nat.{
-  zero-add,
-  add-assoc,
-  add-comm,
-  add-suc,
-  mul-add,
-  mul-comm,
-  mod-eq-of-lt,
-  div-eq-of-lt,
-  add-mul-div-left,
-  add-mul-mod-self-left,
-}
+use native.Mathlib.Nat.{zero-add, add-assoc, add-comm, add-suc, mul-add, mul-comm, mod-eq-of-lt, div-eq-of-lt, add-mul-div-left, add-mul-mod-self-left}
 use native.Mathlib.Omega.{arith}
 use native.Mathlib.Decide.{decLe}
 use borrow.Author.Tests.{le-leb, lt-leb, eq-eqb}

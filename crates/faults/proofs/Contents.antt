@@ -10,17 +10,7 @@ use Rattle.image.specs.Entries.{spell}
 use Rattle.faults.specs.declared.fault.Fault.{Fault}
 use Rattle.faults.specs.Fault.{faultOf, highWord}
 use Rattle.faults.proofs.Numbers.{numberOf-injective}
-use Rattle.faults.specs.Record.{
-  FaultAnswer,
-  fromBit64,
-  recordable,
-  silenced,
-  memoryRecord,
-  memoryFault,
-  indexField,
-  interruptRecord,
-  interruptFault,
-}
+use Rattle.faults.specs.Record.{FaultAnswer, fromBit64, recordable, silenced, memoryRecord, memoryFault, indexField, interruptRecord, interruptFault}
 
 spread : (w s n a r t : ℕ) → w * (s + n * a + r + t) ≡ s * w + n * (w * a) + w * r + w * t
 spread w s n a r t =

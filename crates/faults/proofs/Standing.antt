@@ -1,17 +1,16 @@
 -- How many records stand in a buffer, when one of its slots is written.
-use Prim.Native.Nat.{ℕ, zero, suc, _+_, _*_, _-_, _/_, _%_, _^_, _<_, _≤_}
-use mathlib.Core.Path.{_≡_, refl, ap, sym, _∙_}
-use mathlib.Core.Bool.{Bool, true, false}
+use Prim.Native.Nat.{ℕ, zero, suc, _+_, _*_, _-_, _%_, _^_, _<_, _≤_}
+use mathlib.Core.Path.{_≡_, refl}
+use mathlib.Core.Bool.{true, false}
 use mathlib.Core.List.{List, [], _∷_, _++_, append-assoc}
 use native.Mathlib.Nat.{zero-add, suc-add, mod-mod, mod-lt, div-eq-of-lt, add-div-right}
 use native.Mathlib.Decide.{decLe}
 use native.Mathlib.Omega.{arith}
-use lib.Dec.{eqb}
-use lib.ListN.{length, take, drop, length-append, length-take, length-drop}
+use lib.ListN.{length, take, drop, length-append, length-drop}
 use lib.Pow.{field, pow-pos}
-use lib.Seq.{take-at, drop-at, drop-drop, take-take, take-append-le, take-length, length-take-le, drop-append-le}
+use lib.Seq.{take-at, drop-at, drop-drop, take-take, take-append-le, length-take-le, drop-append-le}
 use Rattle.image.specs.Bits.{bits, bit}
-use Rattle.image.specs.Bytes.{littleEndian, bytesOf}
+use Rattle.image.specs.Bytes.{bytesOf}
 use Rattle.faults.specs.Slots.{recordAt, withRecord, standing, standingIn, one-if, set127, clear127}
 use Rattle.image.proofs.Bytes.{length-bytesOf, number-back}
 

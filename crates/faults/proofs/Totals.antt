@@ -1,6 +1,6 @@
 -- Records written are records cleared and records standing: each call keeps the balance, so every run of calls does.
-use Prim.Native.Nat.{ℕ, zero, suc, _+_, _*_, _<_, _≤_}
-use mathlib.Core.Path.{_≡_, refl, ap, sym, _∙_}
+use Prim.Native.Nat.{ℕ, zero, suc, _+_, _*_, _<_}
+use mathlib.Core.Path.{_≡_, refl, sym, _∙_}
 use mathlib.Core.Bool.{Bool, true, false, not, _||_}
 use mathlib.Core.List.{List, [], _∷_}
 use native.Mathlib.Omega.{arith}
@@ -10,25 +10,8 @@ use lib.Seq.{take-nil, drop-nil}
 use Rattle.image.specs.Bits.{bits}
 use Rattle.image.specs.Bytes.{littleEndian}
 use Rattle.image.specs.Choice.{if_then_else_}
-use Rattle.faults.specs.Recorder.{
-  State,
-  After,
-  leaves,
-  outOfPlace,
-  recording,
-  clearing,
-  clearingOverflow,
-  written,
-  slotCleared,
-  refused,
-  notRecordable,
-  dropped,
-  overflowed,
-  slotClear,
-  overflowClear,
-  overflowCleared,
-}
-use Rattle.faults.specs.Slots.{slotsIn, recordAt, withRecord, standing, standingIn, one-if, set127, clear127}
+use Rattle.faults.specs.Recorder.{State, After, leaves, outOfPlace, recording, clearing, clearingOverflow, written, slotCleared, refused, notRecordable, dropped, overflowed, slotClear, overflowClear, overflowCleared}
+use Rattle.faults.specs.Slots.{slotsIn, recordAt, standing, standingIn, one-if, set127, clear127}
 use Rattle.faults.specs.Total.{Call, recordFault, clearSlot, clearOverflow, call, left, answered, zeroed, OneLength, Total}
 use Rattle.faults.proofs.Recording.{neither, in-place, counted}
 use Rattle.faults.proofs.Standing.{length-withRecord, stands, set-bit, clear-bit}

@@ -1,6 +1,6 @@
 // The recorder: records in a lent buffer, whose length gives the number of slots, and its small state.
 ghost use mathlib.Core.Path.{_≡_};
-ghost use Prim.Native.Nat.{_%_, _+_, _<_, _≤_};
+ghost use Prim.Native.Nat.{_%_, _+_, _^_, _<_, _≤_};
 ghost use mathlib.Core.List.{[], _∷_};
 ghost use Rattle.image.specs.Entries.{spell};
 ghost use Rattle.faults.specs.Answers.{afterOf, answerOf};
@@ -97,6 +97,13 @@ fn slot_after(next: u8, slots: usize) -> u8
     ((next as usize + 1) % slots) as u8
 }
 
+// A record's high word, bit 127 set whatever was handed in.
+fn with_bit_127(high: u64) -> u64
+    ensures { λ r. ⌜ r ≡ high % 2 ^ 63 + 2 ^ 63 ⌝ }
+{
+    high % 0x8000_0000_0000_0000 + 0x8000_0000_0000_0000
+}
+
 // The recorder after a record was handed to it, as two words.
 pub fn after_words(
     buffer: &mut [u8],
@@ -137,9 +144,7 @@ pub fn after_words(
             },
         };
     }
-    // Bit 127 is set whatever was handed in.
-    let marked = high % 0x8000_0000_0000_0000 + 0x8000_0000_0000_0000;
-    write_record(buffer, next as usize, low, marked);
+    write_record(buffer, next as usize, low, with_bit_127(high));
     RecorderStep {
         answer: RecorderAnswer::Written,
         recorder: Recorder {

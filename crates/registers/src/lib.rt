@@ -33,7 +33,7 @@ pub struct Registers {
     pub interrupt_table: u64,
     // The interrupt table has 2^(S+1) entries.
     pub s: u8,
-    // Translation, interrupt remapping, x2APIC destinations, old-format interrupts allowed.
+    // Translation, interrupt remapping, x2APIC destinations, compatibility-format interrupts allowed.
     pub te: bool,
     pub ire: bool,
     pub eime: bool,

@@ -1,6 +1,5 @@
 -- Each way out is a case of the definition. Past the refusal the next slot lies in the buffer.
 use Prim.Native.Nat.{_+_, _*_, _≤_}
-use mathlib.Core.Path.{sym, _∙_}
 use native.Mathlib.Omega.{arith}
 use borrow.Author.Needs.{needs}
 use borrow.Author.Tests.{le-leb, lt-leb}
@@ -54,11 +53,11 @@ returns-4 c =
     )
 
 write-record-requires : tie.Need-write-record-requires
-write-record-requires c κs = reached (c .before .before .before .before .before .before)
+write-record-requires c κs = reached (c .before .before .before .before .before .before .before)
 
 slot-after-requires : tie.Need-slot-after-requires
 slot-after-requires c κs =
-    let kept = c .before .before .before .before .before .before .before .before .before in
+    let kept = c .before .before .before .before .before .before .before .before .before .before in
     let n = kept .before .slot-count in
     (kept .if1 .left, rw (n .ensures) (counted _ .0))
 
@@ -66,7 +65,7 @@ returns-5 : tie.Need-returns-5
 unfolding recording
 returns-5 c =
     let wrote = c .before .before .before in
-    let fourth = wrote .before .before in
+    let fourth = wrote .before .before .before in
     let third = fourth .before .before .before in
     let kept = third .before .before in
     let s = kept .before .before .before in
@@ -78,6 +77,7 @@ returns-5 c =
       ← fourth .before .is-standing .ensures,
       fourth .if4 .left,
       ← marked (s .args .low) (s .args .high) (s .fits .low .fits),
+      ← wrote .before .with-bit-127 .ensures,
       wrote .write-record .ensures,
       c .slot-after .ensures,
     )
@@ -87,4 +87,4 @@ after-words-spec =
     tie.close
     (tie.spec
     (λ c κs. search needs) (λ c. search needs) returns returns-2 returns-3 (λ c. search needs) is-standing-requires (λ c. search needs)
-    returns-4 (λ c. search needs) (λ c. search needs) write-record-requires slot-after-requires (λ c. search needs) returns-5)
+    returns-4 (λ c. search needs) (λ c κs. search needs) write-record-requires slot-after-requires (λ c. search needs) returns-5)
