@@ -125,7 +125,9 @@ impl Setting {
     fn answer(&mut self, request: &Request) -> String {
         let unit = Unit::new(&self.registers);
         match *request {
-            Request::Memory(asked) => answer::memory(asked, unit.memory(&self.memory.lent(), asked)),
+            Request::Memory(asked) => {
+                answer::memory(asked, unit.memory(&self.memory.lent(), asked))
+            }
             Request::Interrupt(asked) => {
                 answer::interrupt(asked, unit.interrupt(&mut self.memory.lent(), asked))
             }
