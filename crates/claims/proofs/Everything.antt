@@ -19,7 +19,7 @@ use Rattle.takes.proofs.Conserved.{conserved, none-invented}
 use Rattle.takes.proofs.HandedOut.{fewer-until-handed-out, handed-out-within, handed-out-within-256}
 use Rattle.takes.proofs.Orders.{either-order}
 use Rattle.takes.proofs.Takes.{clears-exactly, takes-stay-inside, hands-highest, none-stands}
-use Rattle.unit.proofs.Demand3.{isolation, more-memory}
+use Rattle.unit.proofs.Demand3.{isolation, more-memory, flat-images}
 use Rattle.cases.proofs.Cases.{twelve-cases}
 use Rattle.cases.proofs.Instances.{premises-met}
 use Rattle.cases.proofs.InterruptFrames.{interrupt-frames}
@@ -62,6 +62,7 @@ everything =
       rights-off = rights-off;
       unshared = unshared;
       more-memory = more-memory;
+      flat-images = flat-images;
       granted-by-own-walk = granted-by-own-walk;
       premises-met = premises-met;
       at-most-nine = at-most-nine;

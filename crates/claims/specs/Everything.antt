@@ -11,7 +11,7 @@ use Rattle.dma.specs.Reached.{GrantedByOwnWalk}
 use Rattle.interrupts.specs.Claims.{SetsExactly, NoticeExactly, LeavesAll, StaysInside, IndexBound, EntryOfIndex, NoWrap, AtMostTen, NoneBeforeTable, InterruptAccessMeansUnfetched, Isolated, SameBits}
 use Rattle.interrupts.specs.RaisedBy.{RemappedByEntry, PostedByEntry, OneSource, ExactSource}
 use Rattle.takes.specs.Claims.{ClearsExactly, TakesStayInside, HandsHighest, NoneStands, FewerUntilHandedOut, HandedOutWithin, HandedOutWithin256, Conserved, NoneInvented, EitherOrder}
-use Rattle.unit.specs.Isolation.{Isolation, MoreMemory}
+use Rattle.unit.specs.Isolation.{Isolation, MoreMemory, FlatImages}
 use Rattle.cases.specs.Bench.{TwelveCases}
 use Rattle.cases.specs.Instances.{PremisesMet}
 use Rattle.cases.specs.InterruptFrames.{InterruptFrames}
@@ -56,6 +56,7 @@ pub record Everything : Type 0 where
   pub rights-off : RightsOff
   pub unshared : Unshared
   pub more-memory : MoreMemory
+  pub flat-images : FlatImages
   pub granted-by-own-walk : GrantedByOwnWalk
   pub premises-met : PremisesMet
   pub at-most-nine : AtMostNine

@@ -6,12 +6,12 @@ use mathlib.Core.Path.{_≡_, refl, ap, sym, _∙_}
 use native.Mathlib.Decide.{decLe}
 use native.Mathlib.Nat.{mod-lt, div-eq-of-lt, mul-mod-left, one-mul}
 use native.Mathlib.Omega.{arith}
-use borrow.Author.Tests.{eq-eqb, ne-eqb, eqb-true, eqb-false}
+use borrow.Author.Tests.{eqb-true, eqb-false}
 use lib.Bits.{bitOr, or-shr, or-mod, or-zero-r}
 use lib.Dec.{eqb}
-use lib.ListN.{length, getD, set, length-set}
+use lib.ListN.{length, getD, length-set}
 use lib.Pow.{pow-lt, pow-add, shl-shr}
-use lib.Seq.{getD-set-same, getD-set-other}
+use lib.Seq.{getD-set-other}
 use Rattle.image.specs.Bits.{bits, bit}
 use Rattle.image.specs.Windows.{windowsOf, Spot, nowhere, here, onSpot, spotIn, badWindows}
 use Rattle.image.proofs.Choices.{or-false, or-assoc}
@@ -20,7 +20,7 @@ use Rattle.interrupts.specs.Claims.{bitAt, due, sets, Shows, SetsExactly
 use Rattle.interrupts.specs.Descriptor.{Notice, silent, notice}
 use Rattle.interrupts.specs.Interrupts.{InterruptOutcome, passed, remapped, posted, blocked, refused, interruptAnswer}
 use Rattle.interrupts.specs.Post.{withBit, setBit, notified, written}
-use Rattle.interrupts.proofs.Hosts.{bitIn, spot-inside, carried}
+use Rattle.interrupts.proofs.Hosts.{spot-inside, store-at}
 use Rattle.interrupts.proofs.Posts.{one-bit, or-power}
 use Rattle.interrupts.proofs.Raised.{Stands, Within, within}
 
@@ -75,47 +75,12 @@ pub length-setBit : (image : List ℕ) (descriptor place : ℕ) → length (setB
 unfolding setBit
 length-setBit image descriptor place = simp length-set
 
--- the run with a bit of a descriptor set, bit by bit
-set-at : (image : List ℕ) (descriptor place n : ℕ) → descriptor + place / 8 < length image
-    → bitIn (setBit descriptor place image) n ≡ (bitIn image n || eqb n (8 * descriptor + place))
+-- the run with a bit of a descriptor set, bit by bit and by host address
+host-at : (windows bytes : List ℕ) → badWindows windows (length bytes) ≡ false → (descriptor : ℕ) {k left : ℕ}
+    → spotIn (windowsOf windows) 64 descriptor ≡ here k left → (place : ℕ) → place < 512 → (n : ℕ)
+    → bitAt windows (setBit k place bytes) n ≡ (bitAt windows bytes n || eqb n (8 * descriptor + place))
 unfolding setBit
-set-at image descriptor place n inside = go (eqb (n / 8) at) refl
-  where
-    at : ℕ
-    at = descriptor + place / 8
-
-    byte : ℕ
-    byte = withBit (place % 8) (getD image at 0)
-
-    place-same : n / 8 ≡ at → (t : Bool) → eqb (n % 8) (place % 8) ≡ t → t ≡ eqb n (8 * descriptor + place)
-    place-same same true e =
-        let low : n % 8 ≡ place % 8 = eqb-true (n % 8) (place % 8) e in
-        sym (eq-eqb n (8 * descriptor + place) (omega arith))
-    place-same same false e = sym (ne-eqb n (8 * descriptor + place) (λ h. eqb-false (n % 8) (place % 8) e (omega arith)))
-
-    go : (t : Bool) → eqb (n / 8) at ≡ t → bitIn (set image at byte) n ≡ (bitIn image n || eqb n (8 * descriptor + place))
-    go true e =
-        let same : n / 8 ≡ at = eqb-true (n / 8) at e in
-        ap (λ (k : ℕ). bit (getD (set image at byte) k 0) (n % 8)) same
-        ∙ ap (λ (b : ℕ). bit b (n % 8)) (getD-set-same image at byte 0 inside)
-        ∙ bit-with (getD image at 0) (place % 8) (n % 8)
-        ∙ ap (λ (k : ℕ). bit (getD image k 0) (n % 8) || eqb (n % 8) (place % 8)) (sym same)
-        ∙ ap (λ (t : Bool). bitIn image n || t) (place-same same (eqb (n % 8) (place % 8)) refl)
-    go false e =
-        let other = eqb-false (n / 8) at e in
-        ap (λ (b : ℕ). bit b (n % 8)) (getD-set-other image at (n / 8) byte 0 other)
-        ∙ sym (or-false (bitIn image n))
-        ∙ ap (λ (t : Bool). bitIn image n || t) (sym (ne-eqb n (8 * descriptor + place) (λ h. other (omega arith))))
-
--- and by host address
-module _ (windows bytes : List ℕ) (descriptor : ℕ) {k left : ℕ} (there : spotIn (windowsOf windows) 64 descriptor ≡ here k left)
-    (place : ℕ) (small : place < 512) where
-  host-at : badWindows windows (length bytes) ≡ false → (n : ℕ)
-      → bitAt windows (setBit k place bytes) n ≡ (bitAt windows bytes n || eqb n (8 * descriptor + place))
-  host-at good =
-      let inside = spot-inside windows bytes good 64 descriptor there in
-      carried windows bytes good 64 descriptor there (setBit k place bytes) (λ a b. a || b) refl place (omega arith)
-      (λ n. set-at bytes k place n (omega arith))
+host-at = store-at (λ a b. a || b) or-false withBit bit-with
 
 module _ (windows bytes : List ℕ) (descriptor vector : ℕ) (s : Stands windows bytes descriptor vector) where
   post-at : (m : Notice) (n : ℕ)
@@ -123,13 +88,13 @@ module _ (windows bytes : List ℕ) (descriptor vector : ℕ) (s : Stands window
       ≡ (bitAt windows bytes n || (eqb n (8 * descriptor + vector) || due m && eqb n (8 * descriptor + 256)))
   post-at silent n =
       let h = s .small in
-      host-at windows bytes descriptor (s .there) vector (omega arith) (s .good) n
+      host-at windows bytes (s .good) descriptor (s .there) vector (omega arith) n
       ∙ ap (λ (t : Bool). bitAt windows bytes n || t) (sym (or-false (eqb n (8 * descriptor + vector))))
   post-at (notice v d) n =
       let h = s .small in
       let still : badWindows windows (length (setBit (s .place) vector bytes)) ≡ false = rw (length-setBit bytes (s .place) vector) (s .good) in
-      host-at windows (setBit (s .place) vector bytes) descriptor (s .there) 256 (omega arith) still n
-      ∙ ap (λ (t : Bool). t || eqb n (8 * descriptor + 256)) (host-at windows bytes descriptor (s .there) vector (omega arith) (s .good) n)
+      host-at windows (setBit (s .place) vector bytes) still descriptor (s .there) 256 (omega arith) n
+      ∙ ap (λ (t : Bool). t || eqb n (8 * descriptor + 256)) (host-at windows bytes (s .good) descriptor (s .there) vector (omega arith) n)
       ∙ or-assoc (bitAt windows bytes n) (eqb n (8 * descriptor + vector)) (eqb n (8 * descriptor + 256))
 
 -- what a post writes, at the place where its descriptor stands

@@ -6,7 +6,8 @@ use mathlib.Core.Path.{_≡_, refl, ap, sym, _∙_}
 use native.Mathlib.Omega.{arith}
 use borrow.Author.Tests.{eq-eqb, ne-eqb, eqb-true, eqb-false}
 use lib.Dec.{eqb}
-use lib.ListN.{length, getD}
+use lib.ListN.{length, getD, set}
+use lib.Seq.{getD-set-same, getD-set-other}
 use Rattle.image.specs.Bits.{bit}
 use Rattle.image.specs.Windows.{windowsOf, Spot, nowhere, here, onSpot, spotIn, byteAt, badWindows}
 use Rattle.image.proofs.Bytes.{no-bits}
@@ -39,7 +40,7 @@ module _ (windows bytes : List ℕ) (good : badWindows windows (length bytes) �
       rw (host, byte-there windows bytes good size at there (p / 8) (omega arith), place, low)
 
   -- no other host address shows it
-  pub same-place : (p n : ℕ) → p < 8 * size → {j rest : ℕ} → spotIn (windowsOf windows) 1 (n / 8) ≡ here j rest
+  same-place : (p n : ℕ) → p < 8 * size → {j rest : ℕ} → spotIn (windowsOf windows) 1 (n / 8) ≡ here j rest
       → eqb (8 * j + n % 8) (8 * k + p) ≡ eqb n (8 * at + p)
   same-place p n small {j} {rest} shown = by (eqb n (8 * at + p)) refl
     where
@@ -73,20 +74,57 @@ module _ (windows bytes : List ℕ) (good : badWindows windows (length bytes) �
           let z : _≡_ {A = ℕ} 0 1 = cc in
           omega arith
 
-  -- a store told bit by bit in the run is told so by host address
-  pub carried : (after : List ℕ) (f : Bool → Bool → Bool) → f false false ≡ false → (p : ℕ) → p < 8 * size
-      → ((n : ℕ) → bitIn after n ≡ f (bitIn bytes n) (eqb n (8 * k + p)))
-      → (n : ℕ) → bitAt windows after n ≡ f (bitAt windows bytes n) (eqb n (8 * at + p))
+-- a bit of the descriptor that stands at a place of the run is stored: its byte is changed, so that this bit becomes f of what it was
+module _ (f : Bool → Bool → Bool) (keeps : (t : Bool) → f t false ≡ t) (change : (place byte : ℕ) → ℕ)
+    (changed : (byte place other : ℕ) → bit (change place byte) other ≡ f (bit byte other) (eqb other place)) where
+  abbrev pub store : (at place : ℕ) → List ℕ → List ℕ
+  store at place bytes = set bytes (at + place / 8) (change (place % 8) (getD bytes (at + place / 8) 0))
+
+  -- bit by bit of the run
+  store-in : (bytes : List ℕ) (at place n : ℕ) → at + place / 8 < length bytes → bitIn (store at place bytes) n ≡ f (bitIn bytes n) (eqb n (8 * at + place))
+  store-in bytes at place n inside = by (eqb (n / 8) there) refl
+    where
+      there : ℕ
+      there = at + place / 8
+
+      byte : ℕ
+      byte = change (place % 8) (getD bytes there 0)
+
+      same-bit : n / 8 ≡ there → (t : Bool) → eqb (n % 8) (place % 8) ≡ t → t ≡ eqb n (8 * at + place)
+      same-bit same true e =
+          let low : n % 8 ≡ place % 8 = eqb-true (n % 8) (place % 8) e in
+          sym (eq-eqb n (8 * at + place) (omega arith))
+      same-bit same false e = sym (ne-eqb n (8 * at + place) (λ h. eqb-false (n % 8) (place % 8) e (omega arith)))
+
+      by : (t : Bool) → eqb (n / 8) there ≡ t → bitIn (set bytes there byte) n ≡ f (bitIn bytes n) (eqb n (8 * at + place))
+      by true e =
+          let same : n / 8 ≡ there = eqb-true (n / 8) there e in
+          ap (λ (k : ℕ). bit (getD (set bytes there byte) k 0) (n % 8)) same
+          ∙ ap (λ (b : ℕ). bit b (n % 8)) (getD-set-same bytes there byte 0 inside)
+          ∙ changed (getD bytes there 0) (place % 8) (n % 8)
+          ∙ ap (λ (k : ℕ). f (bit (getD bytes k 0) (n % 8)) (eqb (n % 8) (place % 8))) (sym same)
+          ∙ ap (f (bitIn bytes n)) (same-bit same (eqb (n % 8) (place % 8)) refl)
+      by false e =
+          let other = eqb-false (n / 8) there e in
+          ap (λ (b : ℕ). bit b (n % 8)) (getD-set-other bytes there (n / 8) byte 0 other)
+          ∙ sym (keeps (bitIn bytes n))
+          ∙ ap (f (bitIn bytes n)) (sym (ne-eqb n (8 * at + place) (λ h. other (omega arith))))
+
+  -- and by host address
+  pub store-at : (windows bytes : List ℕ) → badWindows windows (length bytes) ≡ false → (descriptor : ℕ) {k left : ℕ}
+      → spotIn (windowsOf windows) 64 descriptor ≡ here k left → (place : ℕ) → place < 512 → (n : ℕ)
+      → bitAt windows (store k place bytes) n ≡ f (bitAt windows bytes n) (eqb n (8 * descriptor + place))
   unfolding byteAt
-  carried after f quiet p small stored n = by (spotIn (windowsOf windows) 1 (n / 8)) refl
+  store-at windows bytes good descriptor {k} {left} there place small n = by (spotIn (windowsOf windows) 1 (n / 8)) refl
     where
       by : (s : Spot) → spotIn (windowsOf windows) 1 (n / 8) ≡ s
-          → bit (onSpot s 0 (λ place left. getD after place 0)) (n % 8)
-          ≡ f (bit (onSpot s 0 (λ place left. getD bytes place 0)) (n % 8)) (eqb n (8 * at + p))
-      by nowhere e = rw (no-bit (n % 8), hidden p n small e) (sym quiet)
+          → bit (onSpot s 0 (λ j left. getD (store k place bytes) j 0)) (n % 8)
+          ≡ f (bit (onSpot s 0 (λ j left. getD bytes j 0)) (n % 8)) (eqb n (8 * descriptor + place))
+      by nowhere e = rw (no-bit (n % 8), hidden windows bytes good 64 descriptor there place n (omega arith) e) (sym (keeps false))
       by (here j rest) e =
+          let inside = spot-inside windows bytes good 64 descriptor there in
           let high : (8 * j + n % 8) / 8 ≡ j = omega arith in
           let low : (8 * j + n % 8) % 8 ≡ n % 8 = omega arith in
-          let is : bit (getD after j 0) (n % 8) ≡ f (bit (getD bytes j 0) (n % 8)) (eqb (8 * j + n % 8) (8 * k + p)) =
-          rw (high, low) at (stored (8 * j + n % 8)) in
-          is ∙ ap (f (bit (getD bytes j 0) (n % 8))) (same-place p n small e)
+          let is : bit (getD (store k place bytes) j 0) (n % 8) ≡ f (bit (getD bytes j 0) (n % 8)) (eqb (8 * j + n % 8) (8 * k + place)) =
+          rw (high, low) at (store-in bytes k place (8 * j + n % 8) (omega arith)) in
+          is ∙ ap (f (bit (getD bytes j 0) (n % 8))) (same-place windows bytes good 64 descriptor there place n (omega arith) e)

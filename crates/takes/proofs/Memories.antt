@@ -1,6 +1,6 @@
 -- Two runs of bytes through the same windows: which entries can be fetched is the same, and an entry whose bytes are the same by host
 -- address is the same.
-use Prim.Native.Nat.{ℕ, zero, suc, _+_, _-_, _*_, _<_}
+use Prim.Native.Nat.{ℕ, zero, suc, _+_, _*_, _<_}
 use mathlib.Core.Bool.{false}
 use mathlib.Core.List.{List}
 use mathlib.Core.Path.{_≡_, refl}

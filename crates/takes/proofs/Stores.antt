@@ -6,7 +6,7 @@ use mathlib.Core.Path.{_≡_, refl, ap, sym, _∙_}
 use native.Mathlib.Decide.{decLe}
 use native.Mathlib.Omega.{arith}
 use native.Mathlib.Nat.{mod-lt, add-mul, one-mul}
-use borrow.Author.Tests.{eq-eqb, ne-eqb, eqb-true, eqb-false}
+use borrow.Author.Tests.{ne-eqb, eqb-true, eqb-false}
 use lib.Bits.{or-lt}
 use lib.Dec.{eqb}
 use lib.ListN.{length, getD, set, length-set}
@@ -23,7 +23,7 @@ use Rattle.interrupts.specs.Descriptor.{Notice, silent, notice}
 use Rattle.interrupts.specs.Interrupts.{InterruptOutcome, passed, remapped, posted, blocked, refused}
 use Rattle.interrupts.specs.Post.{withBit, setBit, notified, written}
 use Rattle.interrupts.proofs.Exact.{bit-with}
-use Rattle.interrupts.proofs.Hosts.{bitIn, spot-inside, carried}
+use Rattle.interrupts.proofs.Hosts.{store-at}
 use Rattle.interrupts.proofs.Posts.{one-bit, or-power}
 use Rattle.takes.specs.Take.{withoutBit, clearBit}
 use Rattle.takes.proofs.Bools.{and-true, and-false}
@@ -110,47 +110,12 @@ bytes-written windows image bytes (remapped r) = bytes
 bytes-written windows image bytes (blocked f) = bytes
 bytes-written windows image bytes (refused number) = bytes
 
--- the run with a bit of a descriptor clear, bit by bit
-clear-at : (image : List ℕ) (descriptor place n : ℕ) → descriptor + place / 8 < length image
-    → bitIn (clearBit descriptor place image) n ≡ (bitIn image n && not (eqb n (8 * descriptor + place)))
+-- the run with a bit of a descriptor clear, bit by bit and by host address
+pub host-clear : (windows bytes : List ℕ) → badWindows windows (length bytes) ≡ false → (descriptor : ℕ) {k left : ℕ}
+    → spotIn (windowsOf windows) 64 descriptor ≡ here k left → (place : ℕ) → place < 512 → (n : ℕ)
+    → bitAt windows (clearBit k place bytes) n ≡ (bitAt windows bytes n && not (eqb n (8 * descriptor + place)))
 unfolding clearBit
-clear-at image descriptor place n inside = go (eqb (n / 8) at) refl
-  where
-    at : ℕ
-    at = descriptor + place / 8
-
-    byte : ℕ
-    byte = withoutBit (place % 8) (getD image at 0)
-
-    place-same : n / 8 ≡ at → (t : Bool) → eqb (n % 8) (place % 8) ≡ t → t ≡ eqb n (8 * descriptor + place)
-    place-same same true e =
-        let low : n % 8 ≡ place % 8 = eqb-true (n % 8) (place % 8) e in
-        sym (eq-eqb n (8 * descriptor + place) (omega arith))
-    place-same same false e = sym (ne-eqb n (8 * descriptor + place) (λ h. eqb-false (n % 8) (place % 8) e (omega arith)))
-
-    go : (t : Bool) → eqb (n / 8) at ≡ t → bitIn (set image at byte) n ≡ (bitIn image n && not (eqb n (8 * descriptor + place)))
-    go true e =
-        let same : n / 8 ≡ at = eqb-true (n / 8) at e in
-        ap (λ (k : ℕ). bit (getD (set image at byte) k 0) (n % 8)) same
-        ∙ ap (λ (b : ℕ). bit b (n % 8)) (getD-set-same image at byte 0 inside)
-        ∙ bit-without (getD image at 0) (place % 8) (n % 8)
-        ∙ ap (λ (k : ℕ). bit (getD image k 0) (n % 8) && not (eqb (n % 8) (place % 8))) (sym same)
-        ∙ ap (λ (t : Bool). bitIn image n && not t) (place-same same (eqb (n % 8) (place % 8)) refl)
-    go false e =
-        let other = eqb-false (n / 8) at e in
-        ap (λ (b : ℕ). bit b (n % 8)) (getD-set-other image at (n / 8) byte 0 other)
-        ∙ sym (and-true (bitIn image n))
-        ∙ ap (λ (t : Bool). bitIn image n && not t) (sym (ne-eqb n (8 * descriptor + place) (λ h. other (omega arith))))
-
--- and by host address
-module _ (windows bytes : List ℕ) (descriptor : ℕ) {k left : ℕ} (there : spotIn (windowsOf windows) 64 descriptor ≡ here k left)
-    (place : ℕ) (small : place < 512) where
-  pub host-clear : badWindows windows (length bytes) ≡ false → (n : ℕ)
-      → bitAt windows (clearBit k place bytes) n ≡ (bitAt windows bytes n && not (eqb n (8 * descriptor + place)))
-  host-clear good =
-      let inside = spot-inside windows bytes good 64 descriptor there in
-      carried windows bytes good 64 descriptor there (clearBit k place bytes) (λ a b. a && not b) refl place (omega arith)
-      (λ n. clear-at bytes k place n (omega arith))
+host-clear = store-at (λ a b. a && not b) and-true withoutBit bit-without
 
 -- a byte of the run in which no bit of a descriptor is cleared
 pub uncleared : (bytes : List ℕ) (at place k : ℕ) → (k ≡ at + place / 8 → ⊥) → getD (clearBit at place bytes) k 0 ≡ getD bytes k 0

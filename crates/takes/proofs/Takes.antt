@@ -135,11 +135,11 @@ taken-at windows bytes d (handed h) w n =
     let below = w .1 in
     let still : badWindows windows (length (clearBit k 256 bytes)) ≡ false = rw (length-clearBit bytes k 256) (s .good) in
     rw (handed-there windows bytes d (s .there) h)
-    (host-clear windows (clearBit k 256 bytes) d (s .there) h (omega arith) still n
-    ∙ ap (λ (t : Bool). t && not (eqb n (8 * d + h))) (host-clear windows bytes d (s .there) 256 (omega arith) (s .good) n)
+    (host-clear windows (clearBit k 256 bytes) still d (s .there) h (omega arith) n
+    ∙ ap (λ (t : Bool). t && not (eqb n (8 * d + h))) (host-clear windows bytes (s .good) d (s .there) 256 (omega arith) n)
     ∙ and-not-or (bitAt windows bytes n) (eqb n (8 * d + 256)) (eqb n (8 * d + h)))
 taken-at windows bytes d none s n =
-    rw (none-there windows bytes d (s .there)) (host-clear windows bytes d (s .there) 256 (omega arith) (s .good) n)
+    rw (none-there windows bytes d (s .there)) (host-clear windows bytes (s .good) d (s .there) 256 (omega arith) n)
 taken-at windows bytes d (refused number) w n = sym (and-true (bitAt windows bytes n))
 
 pub clears-exactly : ClearsExactly
