@@ -1,5 +1,6 @@
 -- Every claim holds.
 use Rattle.meter.proofs.Runs.{first-ticks, decay, never-above, stays-in-range, bytes-tell}
+use Rattle.blocks.proofs.OneByte.{one-byte-named}
 use Rattle.faults.proofs.Recording.{slot-counts}
 use Rattle.faults.proofs.Totals.{one-length, total}
 use Rattle.dma.proofs.Access.{locality}
@@ -85,4 +86,5 @@ everything =
       none-invented = none-invented;
       either-order = either-order;
       takes-met = takes-met;
+      one-byte-named = one-byte-named;
     }

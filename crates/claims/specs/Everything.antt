@@ -2,6 +2,7 @@
 -- is refused here, and tests/run-claims holds the page to this list and this list to the page. What a function promises is its contract,
 -- and isn't repeated here.
 use Rattle.meter.specs.Runs.{FirstTicks, Decays, NeverAbove, StaysInRange, BytesTell}
+use Rattle.blocks.specs.Block.{OneByteNamed}
 use Rattle.faults.specs.Slots.{SlotCounts}
 use Rattle.faults.specs.Total.{OneLength, Total}
 use Rattle.dma.specs.Isolation.{Locality, AlwaysAnEntry, AccessMeansUnfetched, RightsOn, RightsOff, Unshared}
@@ -81,3 +82,5 @@ pub record Everything : Type 0 where
   pub none-invented : NoneInvented
   pub either-order : EitherOrder
   pub takes-met : TakesMet
+  -- traces: damage is named
+  pub one-byte-named : OneByteNamed

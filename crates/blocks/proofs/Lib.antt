@@ -1,0 +1,4 @@
+pub mod Sums
+pub mod Tested
+pub mod Frames
+pub mod OneByte
