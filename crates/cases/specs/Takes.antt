@@ -19,9 +19,9 @@ use Rattle.takes.specs.Take as rules
 use Rattle.takes.specs.Take.{takeAnswer}
 use Rattle.cases.specs.Bench.{interruptRequest}
 
--- two interrupt entries from address 0: the first posts 31h and the second F0h, to the descriptor at 64
-abbrev pub registers : Registers
-registers =
+-- an interrupt table of two entries at an address
+abbrev pub registersAt : (table : ℕ) → Registers
+registersAt table =
     record {
       haw = 39;
       mgaw = 48;
@@ -32,13 +32,17 @@ registers =
       «pages_1g» = true;
       posting = true;
       «root_table» = 0x1000;
-      «interrupt_table» = 0;
+      «interrupt_table» = table;
       s = 0;
       te = true;
       ire = true;
       eime = false;
       cfis = false;
     }
+
+-- from address 0: the first entry posts 31h and the second F0h, to the descriptor at 64
+abbrev pub registers : Registers
+registers = registersAt 0
 
 -- the entries, then the descriptor's request bits and control word as given
 unfoldable pub withRequests : (requests control : ℕ) → List ℕ

@@ -24,6 +24,7 @@ use Rattle.unit.proofs.Demand3.{isolation, more-memory, flat-images}
 use Rattle.cases.proofs.Cases.{twelve-cases}
 use Rattle.cases.proofs.Instances.{premises-met}
 use Rattle.cases.proofs.InterruptFrames.{interrupt-frames}
+use Rattle.cases.proofs.PostsThroughWindows.{posts-through-windows}
 use Rattle.cases.proofs.Takes.{takes-met}
 use Rattle.claims.specs.Everything.{Everything}
 use Rattle.claims.proofs.OneAnswer.{one-memory-answer, one-interrupt-answer, one-reason}
@@ -86,5 +87,6 @@ everything =
       none-invented = none-invented;
       either-order = either-order;
       takes-met = takes-met;
+      posts-through-windows = posts-through-windows;
       one-byte-named = one-byte-named;
     }

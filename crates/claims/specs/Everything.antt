@@ -16,6 +16,7 @@ use Rattle.unit.specs.Isolation.{Isolation, MoreMemory, FlatImages}
 use Rattle.cases.specs.Bench.{TwelveCases}
 use Rattle.cases.specs.Instances.{PremisesMet}
 use Rattle.cases.specs.InterruptFrames.{InterruptFrames}
+use Rattle.cases.specs.PostsThroughWindows.{PostsThroughWindows}
 use Rattle.cases.specs.Takes.{TakesMet}
 use Rattle.claims.specs.OneAnswer.{OneMemoryAnswer, OneInterruptAnswer, OneReason}
 
@@ -82,5 +83,6 @@ pub record Everything : Type 0 where
   pub none-invented : NoneInvented
   pub either-order : EitherOrder
   pub takes-met : TakesMet
+  pub posts-through-windows : PostsThroughWindows
   -- traces: damage is named
   pub one-byte-named : OneByteNamed

@@ -40,21 +40,24 @@ fn over_copy<T>(
     let mut copy = Vec::new();
     let mut windows = Vec::new();
     for window in shown {
-        let from = copy.len() as u64;
+        let from = copy.len();
+        let part = run.get(window.from as usize..).unwrap_or(&[]);
+        copy.extend_from_slice(&part[..part.len().min(window.length as usize)]);
+        copy.resize(from + window.length as usize, 0);
+        let from = from as u64;
         windows.push(Window { from, ..*window });
-        let bytes = (window.from..).map(|at| run.get(at as usize).copied().unwrap_or(0));
-        copy.extend(bytes.take(window.length as usize));
     }
     let before = copy.clone();
     let answer = call(&windows, &mut copy);
-    for (window, to) in windows.iter().zip(shown) {
-        for n in 0..window.length {
-            let at = (window.from + n) as usize;
-            let to = run.get_mut((to.from + n) as usize);
-            if let Some(to) = to.filter(|_| copy[at] != before[at]) {
-                *to = copy[at];
-            }
-        }
+    if copy == before {
+        return answer;
+    }
+    for at in (0..copy.len()).filter(|&n| copy[n] != before[n]) {
+        let mut both = windows.iter().zip(shown).rev();
+        let found = both.find(|(window, _)| window.from <= at as u64);
+        let to = found.map(|(window, to)| to.from + (at as u64 - window.from));
+        let to = to.and_then(|to| run.get_mut(to as usize));
+        to.into_iter().for_each(|to| *to = copy[at]);
     }
     answer
 }
