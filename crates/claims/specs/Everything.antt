@@ -3,6 +3,8 @@
 -- and isn't repeated here.
 use Rattle.meter.specs.Runs.{FirstTicks, Decays, NeverAbove, StaysInRange, BytesTell}
 use Rattle.blocks.specs.Block.{OneByteNamed}
+use Rattle.traced.specs.Entry.{EntryBack, BytesAgain}
+use Rattle.traced.specs.Decoded.{DecodedAgain}
 use Rattle.faults.specs.Slots.{SlotCounts}
 use Rattle.faults.specs.Total.{OneLength, Total}
 use Rattle.dma.specs.Isolation.{Locality, AlwaysAnEntry, AccessMeansUnfetched, RightsOn, RightsOff, Unshared}
@@ -79,5 +81,8 @@ pub record Everything : Type 0 where
   pub none-invented : NoneInvented
   pub either-order : EitherOrder
   pub takes-met : TakesMet
-  -- traces: damage is named
+  -- traces: damage is named, and an entry comes back from its bytes
   pub one-byte-named : OneByteNamed
+  pub entry-back : EntryBack
+  pub bytes-again : BytesAgain
+  pub decoded-again : DecodedAgain
