@@ -1,6 +1,7 @@
 -- Every claim holds.
 use Rattle.meter.proofs.Runs.{first-ticks, decay, never-above, stays-in-range, bytes-tell}
 use Rattle.blocks.proofs.OneByte.{one-byte-named}
+use Rattle.traced.proofs.Back.{entry-back, bytes-again, decoded-again}
 use Rattle.faults.proofs.Recording.{slot-counts}
 use Rattle.faults.proofs.Totals.{one-length, total}
 use Rattle.dma.proofs.Access.{locality}
@@ -89,4 +90,7 @@ everything =
       takes-met = takes-met;
       posts-through-windows = posts-through-windows;
       one-byte-named = one-byte-named;
+      entry-back = entry-back;
+      bytes-again = bytes-again;
+      decoded-again = decoded-again;
     }

@@ -3,6 +3,8 @@
 -- and isn't repeated here.
 use Rattle.meter.specs.Runs.{FirstTicks, Decays, NeverAbove, StaysInRange, BytesTell}
 use Rattle.blocks.specs.Block.{OneByteNamed}
+use Rattle.traced.specs.Entry.{EntryBack, BytesAgain}
+use Rattle.traced.specs.Decoded.{DecodedAgain}
 use Rattle.faults.specs.Slots.{SlotCounts}
 use Rattle.faults.specs.Total.{OneLength, Total}
 use Rattle.dma.specs.Isolation.{Locality, AlwaysAnEntry, AccessMeansUnfetched, RightsOn, RightsOff, Unshared}
@@ -84,5 +86,8 @@ pub record Everything : Type 0 where
   pub either-order : EitherOrder
   pub takes-met : TakesMet
   pub posts-through-windows : PostsThroughWindows
-  -- traces: damage is named
+  -- traces: damage is named, and an entry comes back from its bytes
   pub one-byte-named : OneByteNamed
+  pub entry-back : EntryBack
+  pub bytes-again : BytesAgain
+  pub decoded-again : DecodedAgain
