@@ -23,12 +23,12 @@ impl Memory {
 
     /// One window more, which the unit may refuse. A run without a size reaches to the end of its windows.
     pub fn window(&mut self, window: Window) -> Result<(), String> {
-        let end = window.offset.checked_add(window.length);
-        let end = end.filter(|end| *end <= LONGEST || self.sized);
-        let end = end.ok_or(format!(
-            "expected windows that end within {LONGEST:X} bytes"
-        ))?;
         if !self.sized {
+            let end = window.offset.checked_add(window.length);
+            let end = end.filter(|end| *end <= LONGEST);
+            let end = end.ok_or(format!(
+                "expected a window that ends within {LONGEST:X} bytes"
+            ))?;
             self.run.resize(self.run.len().max(end as usize), 0);
         }
         self.windows.push(window);

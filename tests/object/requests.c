@@ -14,24 +14,25 @@
 
 uint64_t image[0x1000] __attribute__((aligned(4096)));
 volatile uint32_t marker;
-static size_t length;
+static size_t length, count;
+static struct galitzaf_window windows[4];
 static uint8_t registers[GALITZAF_REGISTERS_SIZE], answer[GALITZAF_ANSWER_SIZE];
 static char mode;
 
 /* The calls, in one place. */
 static uint32_t memory(uint16_t source, uint64_t address, uint8_t write)
 {
-    return galitzaf_memory_request(registers, sizeof registers, GALITZAF_FLAT(length), (uint8_t *)image, length, source, address, write, answer, sizeof answer);
+    return galitzaf_memory_request(registers, sizeof registers, GALITZAF_WINDOWS(windows, count), (uint8_t *)image, length, source, address, write, answer, sizeof answer);
 }
 
 static uint32_t interrupt(uint16_t source, uint64_t address, uint32_t data)
 {
-    return galitzaf_interrupt_request(registers, sizeof registers, GALITZAF_FLAT(length), (uint8_t *)image, length, source, address, data, answer, sizeof answer);
+    return galitzaf_interrupt_request(registers, sizeof registers, GALITZAF_WINDOWS(windows, count), (uint8_t *)image, length, source, address, data, answer, sizeof answer);
 }
 
 static uint32_t take(uint64_t descriptor)
 {
-    return galitzaf_take(registers, sizeof registers, GALITZAF_FLAT(length), (uint8_t *)image, length, descriptor);
+    return galitzaf_take(registers, sizeof registers, GALITZAF_WINDOWS(windows, count), (uint8_t *)image, length, descriptor);
 }
 
 /* The bench image; beside it an entry of 1 GiB, tables for 4 and 5 levels and their devices, one that passes through, a page
@@ -74,6 +75,20 @@ static uint64_t below(uint64_t bound) /* SplitMix64 */
 
 #define ONE_OF(list) ((list)[below(sizeof(list) / sizeof((list)[0]))])
 
+/* The whole run by one window, or by as many as it has room for, host addresses as before. */
+static void show(void)
+{
+    static const size_t ends[] = {0x2000, 0x4000, 0x6000};
+    size_t from = 0;
+    count = 0;
+    if (below(2))
+        for (size_t i = 0; i < 3 && ends[i] < length; i++) {
+            windows[count++] = (struct galitzaf_window){from, from, ends[i] - from};
+            from = ends[i];
+        }
+    windows[count++] = (struct galitzaf_window){from, from, length - from};
+}
+
 static void world(void)
 {
     static const uint8_t good[GALITZAF_REGISTERS_SIZE] = {39, 57, 0x3F, 0x03, 3, [9] = 0x10, [17] = 0x60};
@@ -89,6 +104,7 @@ static void world(void)
         image[edits[i].address / 8] ^= edits[i].bits;
     }
     length = ONE_OF(lengths);
+    show();
     switch (below(16)) {
     case 0: registers[0] = 35; break;    /* HAW */
     case 1: registers[3] = 0x00; break;  /* TE and IRE off */
