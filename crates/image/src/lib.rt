@@ -6,7 +6,6 @@ ghost use Rattle.image.specs.Bits.{bits, inPlace};
 mod buffer;
 mod entries;
 mod entry_fields;
-mod flat;
 mod windows;
 
 pub use buffer::fetch8;
@@ -22,10 +21,6 @@ pub use entry_fields::any_set64;
 pub use entry_fields::bit16;
 pub use entry_fields::bits16;
 pub use entry_fields::bits64;
-pub use flat::flat_fetch16;
-pub use flat::flat_fetch64;
-pub use flat::flat_page_entry8;
-pub use flat::flat_page_entry16;
 pub use windows::bad_windows;
 
 // An entry of 16 bytes: bits 63:0 and 127:64.
