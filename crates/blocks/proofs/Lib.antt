@@ -2,3 +2,5 @@ pub mod Sums
 pub mod Tested
 pub mod Frames
 pub mod OneByte
+pub mod Laid
+pub mod Finished

@@ -5,6 +5,10 @@ ghost use lib.ListN.{length};
 ghost use Rattle.image.specs.Bytes.{littleEndian};
 ghost use Rattle.blocks.specs.Block.{headed, framed, zeros, sumOf};
 
+mod writing;
+
+pub use writing::finish;
+
 fn wide(x: u8) -> u64
     ensures { λ r. ⌜ (r ≡ x) × (r < 256) ⌝ }
 {
@@ -12,7 +16,7 @@ fn wide(x: u8) -> u64
 }
 
 // The sum over bytes 0 to 507 of byte times (place + 1).
-fn sum(block: &[u8]) -> u64
+pub(crate) fn sum(block: &[u8]) -> u64
     requires { ⌜ 508 ≤ length (now block) ⌝ }
     ensures { λ r. ⌜ r ≡ sumOf (now (block .entry)) ⌝ }
 {

@@ -2,6 +2,8 @@
 use Rattle.meter.proofs.Runs.{first-ticks, decay, never-above, stays-in-range, bytes-tell}
 use Rattle.blocks.proofs.OneByte.{one-byte-named}
 use Rattle.traced.proofs.Back.{entry-back, bytes-again, decoded-again}
+use Rattle.trace.proofs.Apart.{one-block}
+use Rattle.trace.proofs.Reading.{told-in-steps}
 use Rattle.faults.proofs.Recording.{slot-counts}
 use Rattle.faults.proofs.Totals.{one-length, total}
 use Rattle.dma.proofs.Access.{locality}
@@ -93,4 +95,6 @@ everything =
       entry-back = entry-back;
       bytes-again = bytes-again;
       decoded-again = decoded-again;
+      one-block = one-block;
+      told-in-steps = told-in-steps;
     }

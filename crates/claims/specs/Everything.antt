@@ -5,6 +5,8 @@ use Rattle.meter.specs.Runs.{FirstTicks, Decays, NeverAbove, StaysInRange, Byte
 use Rattle.blocks.specs.Block.{OneByteNamed}
 use Rattle.traced.specs.Entry.{EntryBack, BytesAgain}
 use Rattle.traced.specs.Decoded.{DecodedAgain}
+use Rattle.trace.specs.Told.{OneBlock}
+use Rattle.trace.specs.Reader.{ToldInSteps}
 use Rattle.faults.specs.Slots.{SlotCounts}
 use Rattle.faults.specs.Total.{OneLength, Total}
 use Rattle.dma.specs.Isolation.{Locality, AlwaysAnEntry, AccessMeansUnfetched, RightsOn, RightsOff, Unshared}
@@ -91,3 +93,5 @@ pub record Everything : Type 0 where
   pub entry-back : EntryBack
   pub bytes-again : BytesAgain
   pub decoded-again : DecodedAgain
+  pub one-block : OneBlock
+  pub told-in-steps : ToldInSteps
