@@ -4,6 +4,8 @@ use Rattle.blocks.proofs.OneByte.{one-byte-named}
 use Rattle.traced.proofs.Back.{entry-back, bytes-again, decoded-again}
 use Rattle.trace.proofs.Apart.{one-block}
 use Rattle.trace.proofs.Reading.{told-in-steps}
+use Rattle.trace.proofs.Filling.{trace-handed-out}
+use Rattle.trace.proofs.RoundTrip.{read-back}
 use Rattle.faults.proofs.Recording.{slot-counts}
 use Rattle.faults.proofs.Totals.{one-length, total}
 use Rattle.dma.proofs.Access.{locality}
@@ -97,4 +99,6 @@ everything =
       decoded-again = decoded-again;
       one-block = one-block;
       told-in-steps = told-in-steps;
+      trace-handed-out = trace-handed-out;
+      read-back = read-back;
     }

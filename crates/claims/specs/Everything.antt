@@ -7,6 +7,8 @@ use Rattle.traced.specs.Entry.{EntryBack, BytesAgain}
 use Rattle.traced.specs.Decoded.{DecodedAgain}
 use Rattle.trace.specs.Told.{OneBlock}
 use Rattle.trace.specs.Reader.{ToldInSteps}
+use Rattle.trace.specs.Written.{ReadBack}
+use Rattle.trace.specs.Writer.{TraceHandedOut}
 use Rattle.faults.specs.Slots.{SlotCounts}
 use Rattle.faults.specs.Total.{OneLength, Total}
 use Rattle.dma.specs.Isolation.{Locality, AlwaysAnEntry, AccessMeansUnfetched, RightsOn, RightsOff, Unshared}
@@ -95,3 +97,5 @@ pub record Everything : Type 0 where
   pub decoded-again : DecodedAgain
   pub one-block : OneBlock
   pub told-in-steps : ToldInSteps
+  pub trace-handed-out : TraceHandedOut
+  pub read-back : ReadBack

@@ -1,2 +1,4 @@
 pub mod Told
 pub mod Reader
+pub mod Written
+pub mod Writer

@@ -1,4 +1,4 @@
-// A trace of requests and answers: its reader.
+// A trace of requests and answers: its reader and its writer.
 ghost use mathlib.Core.Path.{_≡_};
 ghost use mathlib.Core.Bool.{not};
 ghost use lib.Dec.{leb};
@@ -7,10 +7,17 @@ ghost use lib.ListN.{length, take, drop};
 ghost use Rattle.blocks.specs.Block.{count, entriesWell, wellLaid};
 ghost use Rattle.traced.specs.Decoded.{entryWell};
 ghost use Rattle.trace.specs.Reader.{blockAt, shut, behind, stepOf, stepAt};
+
+mod writer;
+
 use blocks::is_framed;
 use traced::Decoded;
 pub use traced::Traced;
 use traced::decode;
+pub use writer::Writer;
+pub use writer::Wrote;
+pub use writer::append;
+pub use writer::close;
 
 // Where a reader stands: a block's place in the trace, and an entry's in the block, both from 0.
 pub struct Cursor {
