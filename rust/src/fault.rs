@@ -83,6 +83,8 @@ reasons! {
     ContextReserved = 0x0B, "reserved bit set in context entry";
     /// 0Ch: a reserved bit of a page entry is set.
     PageEntryReserved = 0x0C, "reserved bit set in page entry";
+    /// 0Dh: the context entry blocks translation requests (TT 0 or 2).
+    TranslationBlocked = 0x0D, "translation request blocked";
     /// 20h: a reserved bit of an interrupt request is set.
     RequestReserved = 0x20, "reserved bit set in interrupt request";
     /// 21h: the interrupt index is beyond the table.
@@ -347,7 +349,7 @@ mod tests {
         for number in 0..=u8::MAX {
             let reason = Reason::from(number);
             assert_eq!(reason.number(), number);
-            let named = (0x01..=0x0C).contains(&number) || (0x20..=0x28).contains(&number);
+            let named = (0x01..=0x0D).contains(&number) || (0x20..=0x28).contains(&number);
             assert_eq!(Reason::NAMED.contains(&reason), named, "{number:02X}h");
         }
     }

@@ -10,7 +10,7 @@ use Rattle.image.specs.Entries.{spell}
 use Rattle.faults.specs.declared.fault.Fault.{Fault}
 use Rattle.faults.specs.Fault.{faultOf, highWord}
 use Rattle.faults.proofs.Numbers.{numberOf-injective}
-use Rattle.faults.specs.Record.{FaultAnswer, fromBit64, recordable, silenced, memoryRecord, memoryFault, indexField, interruptRecord, interruptFault}
+use Rattle.faults.specs.Record.{FaultAnswer, fromBit64, recordable, silenced, memoryRecord, memoryFault, translationRecord, translationFault, indexField, interruptRecord, interruptFault}
 
 spread : (w s n a r t : ℕ) → w * (s + n * a + r + t) ≡ s * w + n * (w * a) + w * r + w * t
 spread w s n a r t =
@@ -46,6 +46,10 @@ upper low source number true =
 upper low source number false =
     rw (two-words, spread (2 ^ 64) source number (2 ^ 32) 0 (2 ^ 63))
 
+-- bits 125:124 of a record are bits 61:60 of its upper word
+with-type : (low word : ℕ) → spell (low ∷ (word + 2 ^ 60) ∷ []) ≡ spell (low ∷ word ∷ []) + 2 ^ 124
+with-type low word = rw (two-words, two-words, mul-add (2 ^ 64) word (2 ^ 60)) (omega arith)
+
 -- an address with its low 12 bits cleared has bits 63:12 in place
 pub aligned : (address : ℕ) → address < 2 ^ 64 → address / 4096 * 4096 ≡ inPlace address 63 12
 unfolding bits
@@ -66,6 +70,15 @@ module _ (fpd : Bool) (source : ℕ) {reason number high : ℕ} {may : Bool} (nu
       (memoryFault reason fpd source address write)
   unfolding memoryFault memoryRecord
   memory-answered address write fits word = rw (← aligned address fits) (answered _ (not write) word)
+
+  pub translation-answered : (address : ℕ) {word : ℕ} → address < 2 ^ 64
+      → word ≡ highWord source number true → high ≡ word + 2 ^ 60
+      → _≡_ {A = FaultAnswer}
+      (record { reason = reason; recordable = may; contents = spell ((address / 4096 * 4096) ∷ high ∷ []) })
+      (translationFault reason fpd source address)
+  unfolding translationFault translationRecord memoryRecord
+  translation-answered address fits told-word sum =
+      rw (← aligned address fits, sum, told, with-type _ _, told-word, upper _ source number true, numbered)
 
   pub interrupt-answered : (index : ℕ) {field : ℕ} → field ≡ indexField number index
       → high ≡ highWord source number false

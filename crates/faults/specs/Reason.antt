@@ -16,6 +16,7 @@ numberOf reason.ContextAccess = 0x09
 numberOf reason.RootReserved = 0x0A
 numberOf reason.ContextReserved = 0x0B
 numberOf reason.PageEntryReserved = 0x0C
+numberOf reason.TranslationBlocked = 0x0D
 numberOf reason.RequestReserved = 0x20
 numberOf reason.IndexOutOfRange = 0x21
 numberOf reason.IrteNotPresent = 0x22

@@ -1,6 +1,6 @@
 -- A fault's answer: its reason, whether it may be recorded, and its record. A record's 16 bytes are one number of 128 bits.
 use Prim.Native.Nat.{ℕ, _+_, _*_, _^_, min}
-use mathlib.Core.Bool.{Bool, false, not, _&&_, _||_}
+use mathlib.Core.Bool.{Bool, true, false, not, _&&_, _||_}
 use lib.Dec.{eqb, leb}
 use Rattle.image.specs.Bits.{inPlace}
 use Rattle.image.specs.Choice.{if_then_else_}
@@ -9,10 +9,10 @@ use Rattle.image.specs.Choice.{if_then_else_}
 abbrev pub within : (low high n : ℕ) → Bool
 within low high n = leb low n && leb n high
 
--- FPD silences 02h to 07h, 0Bh, 0Ch (of the context entry) and 22h, 24h, 26h to 28h (of the interrupt entry)
+-- FPD silences 02h to 07h, 0Bh to 0Dh (of the context entry) and 22h, 24h, 26h to 28h (of the interrupt entry)
 unfoldable pub silenced : (reason : ℕ) → Bool
 silenced reason =
-    within 0x02 0x07 reason || within 0x0B 0x0C reason || eqb reason 0x22 || eqb reason 0x24 || within 0x26 0x28 reason
+    within 0x02 0x07 reason || within 0x0B 0x0D reason || eqb reason 0x22 || eqb reason 0x24 || within 0x26 0x28 reason
 
 -- others are always recordable
 abbrev pub recordable : (fpd : Bool) (reason : ℕ) → Bool
@@ -25,6 +25,10 @@ fromBit64 source reason read = source * 2 ^ 64 + reason * 2 ^ 96 + (if read then
 -- address 63:12 in place
 unfoldable pub memoryRecord : (source address reason : ℕ) (read : Bool) → ℕ
 memoryRecord source address reason read = inPlace address 63 12 + fromBit64 source reason read
+
+-- of a translation request: that of a read, so bit 126 is set, with 01b as AT, the address type, in 125:124
+unfoldable pub translationRecord : (source address reason : ℕ) → ℕ
+translationRecord source address reason = memoryRecord source address reason true + 2 ^ 124
 
 -- the interrupt index: 65,535 if larger; 0 for 20h and 25h
 unfoldable pub indexField : (reason index : ℕ) → ℕ
@@ -48,6 +52,15 @@ memoryFault reason fpd source address write =
       reason = reason;
       recordable = recordable fpd reason;
       contents = memoryRecord source address reason (not write);
+    }
+
+-- a translation request that was blocked
+unfoldable pub translationFault : (reason : ℕ) (fpd : Bool) (source address : ℕ) → FaultAnswer
+translationFault reason fpd source address =
+    record {
+      reason = reason;
+      recordable = recordable fpd reason;
+      contents = translationRecord source address reason;
     }
 
 -- an interrupt that was blocked; its index is a whole number

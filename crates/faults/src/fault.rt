@@ -4,7 +4,7 @@ ghost use Prim.Native.Nat.{_^_, _<_};
 ghost use Rattle.image.specs.Bytes.{bytesOf};
 ghost use Rattle.faults.specs.Fault.{faultOf, highWord};
 ghost use Rattle.faults.specs.Reason.{numberOf};
-ghost use Rattle.faults.specs.Record.{within, silenced, recordable, indexField, memoryFault, interruptFault};
+ghost use Rattle.faults.specs.Record.{within, silenced, recordable, indexField, memoryFault, translationFault, interruptFault};
 use crate::reason::Reason;
 use crate::slots::write_record;
 use registers::Page4K;
@@ -28,7 +28,7 @@ fn is_silenced(number: u8) -> bool
     ensures { λ r. ⌜ r ≡ silenced number ⌝ }
 {
     lies_within(0x02, 0x07, number)
-        | lies_within(0x0B, 0x0C, number)
+        | lies_within(0x0B, 0x0D, number)
         | (number == 0x22)
         | (number == 0x24)
         | lies_within(0x26, 0x28, number)
@@ -62,6 +62,19 @@ pub fn memory_fault(reason: Reason, fpd: bool, source: SourceId, address: u64, w
         recordable: may_record(fpd, number),
         low: address / Page4K::SPAN * Page4K::SPAN,
         high: high_word(source.id, number, !write),
+    }
+}
+
+// A translation request's record is a read's, with AT 01b.
+pub fn translation_fault(reason: Reason, fpd: bool, source: SourceId, address: u64) -> Fault
+    ensures { λ r. ⌜ faultOf r ≡ translationFault (numberOf reason) fpd (source .id) address ⌝ }
+{
+    let number = reason.number();
+    Fault {
+        reason,
+        recordable: may_record(fpd, number),
+        low: address / Page4K::SPAN * Page4K::SPAN,
+        high: high_word(source.id, number, true) + 0x1000_0000_0000_0000,
     }
 }
 

@@ -10,6 +10,7 @@ pub use fault::Fault;
 pub use fault::interrupt_fault;
 pub use fault::memory_fault;
 pub use fault::record_bytes;
+pub use fault::translation_fault;
 pub use lent::clear;
 pub use lent::clear_overflow;
 pub use lent::cleared;
