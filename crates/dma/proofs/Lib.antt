@@ -9,6 +9,7 @@ pub mod Leaves
 pub mod Lookups
 pub mod Nine
 pub mod NoInterrupt
+pub mod Onward
 pub mod Places
 pub mod Raised
 pub mod Reached

@@ -1,10 +1,9 @@
 -- What one level of the walk makes of the entry that the code fetched and checked.
-use Prim.Native.Nat.{ℕ, zero, suc, _+_, _-_, _*_, _%_, _<_, _≤_}
+use Prim.Native.Nat.{ℕ, zero, suc, _-_, _%_, _<_}
 use mathlib.Core.Bool.{Bool, true, false}
-use mathlib.Core.Path.{_≡_, refl, ap, sym, _∙_, subst}
+use mathlib.Core.Path.{_≡_, refl, subst}
 use native.Mathlib.Omega.{arith}
 use mathlib.Core.Logic.{_⊎_, ⊎-elim}
-use Rattle.image.specs.Bits.{bits}
 use Rattle.image.specs.Check.{Check, stop, go, onCheck}
 use Rattle.image.specs.Choice.{if_then_else_}
 use Rattle.image.specs.Memory.{Memory, Fetched, missing, found, entry, onFetch}
@@ -13,7 +12,7 @@ use Rattle.image.specs.Rules.{run}
 use Rattle.registers.specs.declared.Registers.{Registers}
 use Rattle.dma.specs.Page.{pageCheck, leafAt}
 use Rattle.dma.specs.Translation.{Translation, leaf, fault, checked, pageStep, pageOver, pageRules}
-use Rattle.dma.specs.Walk.{Step, done, down, onStep, placeIn, walkRules, stepOver}
+use Rattle.dma.specs.Walk.{Step, done, down, placeIn, stepOver}
 use Rattle.dma.specs.Answers.{stepOf, Names}
 use Rattle.dma.specs.declared.translation.Translation.{Translation as TranslationCode}
 use denote.Enum.Declared.{tagOf}
@@ -21,7 +20,8 @@ use Rattle.dma.proofs.page.Step.{the-type}
 use Rattle.dma.specs.declared.page.Step.{Step as StepCode}
 use Rattle.dma.specs.declared.page.Step.the-variants as step
 use Rattle.dma.proofs.Steps.{page-frame}
-use Rattle.dma.proofs.Walks.{walk-step, walk-tried, walk-anew}
+use Rattle.dma.proofs.Onward as walk
+use Rattle.dma.proofs.Walks.{walk-anew}
 
 -- a fault's entry by another name
 pub renamed : (t : TranslationCode) {place place′ : Place} → place ≡ place′ → Names t place → Names t place′
@@ -63,43 +63,26 @@ module _ (registers : Registers) (address : ℕ) (write fpd : Bool) (m : Memory)
       unfolding stepOver
       at-table more = rw (← h, ← told, more)
 
--- a level that ends the walk, and one that leads on
+-- the laws of every walk, at this one: a level that ends it, and one that leads on
 module _ (registers : Registers) (address : ℕ) (write fpd : Bool) (m : Memory) (level table : ℕ) (more : 0 < level) where
-  first : run (pageRules registers address write fpd level table) m
-      ≡ onStep (pageOver registers address write fpd m (level - 1) table) (λ a. a)
-      (λ next s. run (walkRules address (λ s. fault 0x07 fpd) (pageStep registers address write fpd) (level - 1) next s) m)
-  first =
-      let this : level ≡ suc (level - 1) = omega arith in
-      ap (λ (l : ℕ). run (pageRules registers address write fpd l table) m) this
-      ∙ walk-step address (λ s. fault 0x07 fpd) (pageStep registers address write fpd) m (level - 1) table tt
-
   pub ended : {t : Translation} → done t ≡ pageOver registers address write fpd m (level - 1) table
       → t ≡ run (pageRules registers address write fpd level table) m
-  ended h = sym (rw (← h) at first)
+  ended = walk.ended address (λ s. fault 0x07 fpd) (pageStep registers address write fpd) m level table tt more
 
   pub onward : {next : ℕ} → down next tt ≡ pageOver registers address write fpd m (level - 1) table
       → run (pageRules registers address write fpd (level - 1) next) m ≡ run (pageRules registers address write fpd level table) m
-  onward h = sym (rw (← h) at first)
-
-  first-at : (before : Place) → lastTried before (pageRules registers address write fpd level table) m
-      ≡ onStep (pageOver registers address write fpd m (level - 1) table) (λ a. entryAt (placeIn address table (level - 1)))
-      (λ next s.
-      lastTried (entryAt (placeIn address table (level - 1)))
-      (walkRules address (λ s. fault 0x07 fpd) (pageStep registers address write fpd) (level - 1) next s) m)
-  first-at before =
-      let this : level ≡ suc (level - 1) = omega arith in
-      ap (λ (l : ℕ). lastTried before (pageRules registers address write fpd l table) m) this
-      ∙ walk-tried address (λ s. fault 0x07 fpd) (pageStep registers address write fpd) m before (level - 1) table tt
+  onward = walk.onward address (λ s. fault 0x07 fpd) (pageStep registers address write fpd) m level table tt more
 
   -- where the walk stopped, in either case
   pub ended-at : (before : Place) {t : Translation} → done t ≡ pageOver registers address write fpd m (level - 1) table
       → lastTried before (pageRules registers address write fpd level table) m ≡ entryAt (placeIn address table (level - 1))
-  ended-at before h = rw (← h) at first-at before
+  ended-at = walk.ended-at address (λ s. fault 0x07 fpd) (pageStep registers address write fpd) m level table tt more
 
   pub onward-at : (before : Place) {next : ℕ} → down next tt ≡ pageOver registers address write fpd m (level - 1) table
       → lastTried before (pageRules registers address write fpd level table) m
       ≡ lastTried (entryAt (placeIn address table (level - 1))) (pageRules registers address write fpd (level - 1) next) m
-  onward-at before h = rw (← h) at first-at before
+  onward-at before h =
+      walk.onward-at address (λ s. fault 0x07 fpd) (pageStep registers address write fpd) m level table tt more before h
 
   pub anew : (before before′ : Place)
       → lastTried before (pageRules registers address write fpd level table) m ≡ lastTried before′ (pageRules registers address write fpd level table) m

@@ -34,6 +34,10 @@ checked fpd (go frame) = down frame tt
 abbrev pub withoutContext : Lookup → Translation
 withoutContext found = onLookup found fault (λ c. through)
 
+-- X is the smaller of MGAW and AW's 39, 48 or 57 bits; the address is at or above 2^X
+abbrev pub overflows : Registers → (levels address : ℕ) → Bool
+overflows registers levels address = leb (2 ^ min (registers .mgaw) (12 + 9 * levels)) address
+
 module _ (registers : Registers) (address : ℕ) (write : Bool) where
   -- a page ends the walk, any other entry leads one level down. Nothing is handed down
   abbrev pub pageStep : (fpd : Bool) (level place : ℕ) → Unit {0} → (e : ℕ) → Step (Unit {0}) Translation
@@ -50,10 +54,10 @@ module _ (registers : Registers) (address : ℕ) (write : Bool) where
   pageRules fpd level table =
       walkRules address (λ s. fault 0x07 fpd) (pageStep fpd) level table tt
 
-  -- X is the smaller of MGAW and AW's 39, 48 or 57 bits. Pass-through then goes no further
+  -- pass-through goes no further than the width
   unfoldable pub widthRules : Context → Rules Translation
   widthRules context =
-      if leb (2 ^ min (registers .mgaw) (12 + 9 * context .levels)) address then answer (fault 0x04 (context .fpd))
+      if overflows registers (context .levels) address then answer (fault 0x04 (context .fpd))
       else if eqb (context .«translation_type») 2 then answer through
       else pageRules (context .fpd) (context .levels) (context .top)
 

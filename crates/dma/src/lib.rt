@@ -13,18 +13,24 @@ mod root;
 mod translation;
 mod walk;
 
+pub use context::Context;
+pub use context::Lookup;
 use faults::Fault;
 use faults::memory_fault;
 pub use image::EntryAddress;
 use image::bad_windows;
+pub use lookup::find_context;
 use page::host_address;
-use page::meets_interrupt_range;
+pub use page::is_leaf;
+pub use page::meets_interrupt_range;
+pub use page::page_reserved;
 use registers::Admission;
 use registers::Registers;
 use registers::SourceId;
 use registers::admit;
 use registers::in_interrupt_range;
 use translation::Translation;
+pub use translation::overflows;
 use translation::translate;
 
 pub struct MemoryRequest {

@@ -50,12 +50,7 @@ fn context_in(
     context_check(registers, at, e)
 }
 
-pub(crate) fn find_context(
-    windows: &[u64],
-    image: &[u8],
-    registers: Registers,
-    source: SourceId,
-) -> Lookup
+pub fn find_context(windows: &[u64], image: &[u8], registers: Registers, source: SourceId) -> Lookup
     requires { ⌜ (badWindows (now windows) (length (now image)) ≡ false) × (registers .«root_table» % 4096 ≡ 0) ⌝ }
     ensures { λ r. ⌜ lookupOf r ≡ run (lookupRules registers (source .id)) (ofWindows (now (windows .entry)) (now (image .entry))) ⌝ }
     ensures { λ r. ⌜ lookupPlace r ≡ stoppedAt (lookupRules registers (source .id)) (ofWindows (now (windows .entry)) (now (image .entry))) ⌝ }

@@ -34,14 +34,14 @@ pub enum Step {
 }
 
 // A page and no table: bit 7 at level 1 is not looked at.
-fn is_leaf(level: u32, e: u64) -> bool
+pub fn is_leaf(level: u32, e: u64) -> bool
     ensures { λ r. ⌜ r ≡ leafAt level e ⌝ }
 {
     (level == 1) | (field(e, 7, 7) == 1)
 }
 
 // Bits 51:HAW; bit 7 where the level has no large pages; and of a large page 20:12 or 29:12.
-fn page_reserved(registers: Registers, level: u32, e: u64) -> bool
+pub fn page_reserved(registers: Registers, level: u32, e: u64) -> bool
     ensures { λ r. ⌜ r ≡ pageReserved registers level e ⌝ }
 {
     let beyond = at_or_above_power(field(e, 51, 0), registers.haw as u32);
@@ -134,7 +134,7 @@ pub(crate) fn host_address(level: u32, frame: u64, address: u64) -> u64
 }
 
 // Some byte of the page lies in the interrupt range. A page has at most 1 GiB, so most frames are told by themselves.
-pub(crate) fn meets_interrupt_range(level: u32, frame: u64) -> bool
+pub fn meets_interrupt_range(level: u32, frame: u64) -> bool
     requires { ⌜ Reachable (leaf frame level) ⌝ }
     ensures { λ r. ⌜ r ≡ meetsInterruptRange frame (spanAt level) ⌝ }
 {

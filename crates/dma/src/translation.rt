@@ -2,13 +2,13 @@
 ghost use mathlib.Core.Bool.{false};
 ghost use mathlib.Core.Path.{_≡_};
 ghost use lib.ListN.{length};
-ghost use Prim.Native.Nat.{_%_, min};
+ghost use Prim.Native.Nat.{_%_, _≤_, min};
 ghost use Rattle.dma.specs.Context.{Usable};
 ghost use Rattle.image.specs.Place.{entryAt, lastTried, stoppedAt};
 ghost use Rattle.image.specs.Rules.{run};
 ghost use Rattle.image.specs.Windows.{ofWindows, badWindows};
 ghost use Rattle.dma.specs.Answers.{lookupOf, lookupPlace, translationOf, Names};
-ghost use Rattle.dma.specs.Translation.{withoutContext, widthRules, translationRules};
+ghost use Rattle.dma.specs.Translation.{overflows as addressOverflows, withoutContext, widthRules, translationRules};
 use crate::MemoryRequest;
 use crate::context::Context;
 use crate::context::Lookup;
@@ -34,6 +34,17 @@ fn smaller(a: u32, b: u32) -> u32
     if a < b { a } else { b }
 }
 
+// The address is at or above 2^X: X is the smaller of MGAW and AW's bits.
+pub fn overflows(registers: Registers, levels: u32, address: u64) -> bool
+    requires { ⌜ levels ≤ 5 ⌝ }
+    ensures { λ r. ⌜ r ≡ addressOverflows registers levels address ⌝ }
+{
+    at_or_above_power(
+        address,
+        smaller(registers.mgaw as u32, Page4K::SHIFT + 9 * levels),
+    )
+}
+
 // In a context, whose entry is at an address: the width, then pass-through or the walk.
 fn translate_in(
     windows: &[u64],
@@ -48,10 +59,7 @@ fn translate_in(
     ensures { λ r. ⌜ Names r (lastTried (entryAt at) (widthRules registers (request .address) (request .write) context) (ofWindows (now (windows .entry)) (now (image .entry)))) ⌝ }
 {
     let levels = context.levels;
-    if at_or_above_power(
-        request.address,
-        smaller(registers.mgaw as u32, Page4K::SHIFT + 9 * levels),
-    ) {
+    if overflows(registers, levels, request.address) {
         return Translation::Fault(Reason::AddressOverflow, context.fpd, at);
     }
     if context.translation_type == 2 {

@@ -8,49 +8,33 @@ use borrow.Author.Needs.{needs}
 use Rattle.dma.proofs.translation.translate_in.Statement.{statement}
 use Rattle.dma.proofs.translation.translate_in.Tie as tie
 
-cast-smaller : tie.Need-cast-smaller
-cast-smaller c = search needs
-
-mul-smaller : tie.Need-mul-smaller
-mul-smaller c = search needs
-
-add-smaller : tie.Need-add-smaller
-add-smaller c = search needs
-
-smaller-requires : tie.Need-smaller-requires
-smaller-requires c κs = search needs
-
-at-or-above-power-requires : tie.Need-at-or-above-power-requires
-at-or-above-power-requires c κs = search needs
+overflows-requires : tie.Need-overflows-requires
+overflows-requires c κs = c .before .before .pre .1 .1
 
 returns : tie.Need-returns
 unfolding widthRules run lastTried
 returns c =
-    (rw (← c .before .before .smaller .ensures, ← c .before .at-or-above-power .ensures, c .if1 .taken), rw (← c .before .before .smaller .ensures, ← c .before .at-or-above-power .ensures, c .if1 .taken))
+    (rw (← c .before .overflows .ensures, c .if1 .taken), rw (← c .before .overflows .ensures, c .if1 .taken))
 
 returns-2 : tie.Need-returns-2
 unfolding widthRules run lastTried
-returns-2 c = (rw (← c .before .before .before .before .smaller .ensures, ← c .before .before .before .at-or-above-power .ensures, c .before .before .if1 .left, eq-eqb _ 2 (c .if2 .taken)), refl)
+returns-2 c = (rw (← c .before .before .before .overflows .ensures, c .before .before .if1 .left, eq-eqb _ 2 (c .if2 .taken)), refl)
 
 walk-requires : tie.Need-walk-requires
-walk-requires c κs = let p = c .before .before .before .before .before .before .before .before .pre in (p .0, p .1 .0, p .1 .1, p .1 .2)
+walk-requires c κs = let p = c .before .before .before .before .before .before .pre in (p .0, p .1 .0, p .1 .1, p .1 .2)
 
 returns-3 : tie.Need-returns-3
 unfolding widthRules run lastTried
 returns-3 c = (
-  rw (← c .before .before .before .before .before .smaller .ensures, ← c .before .before .before .before .at-or-above-power .ensures, c .before .before .before .if1 .left, ne-eqb _ _ (c .before .if2 .left)) (c .walk .ensures .0),
-  rw (← c .before .before .before .before .before .smaller .ensures, ← c .before .before .before .before .at-or-above-power .ensures, c .before .before .before .if1 .left, ne-eqb _ _ (c .before .if2 .left)) (c .walk .ensures .1 _),
+  rw (← c .before .before .before .before .overflows .ensures, c .before .before .before .if1 .left, ne-eqb _ _ (c .before .if2 .left)) (c .walk .ensures .0),
+  rw (← c .before .before .before .before .overflows .ensures, c .before .before .before .if1 .left, ne-eqb _ _ (c .before .if2 .left)) (c .walk .ensures .1 _),
 )
 
 pub translate-in-spec : {M : Type 1} → statement M
 translate-in-spec =
     tie.close
     (tie.spec
-    cast-smaller
-    mul-smaller
-    add-smaller
-    smaller-requires
-    at-or-above-power-requires
+    overflows-requires
     returns
     returns-2
     walk-requires

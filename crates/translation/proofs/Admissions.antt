@@ -1,0 +1,40 @@
+-- A translation request by what becomes of it at admission.
+use Prim.Native.Nat.{ℕ}
+use mathlib.Core.Bool.{Bool}
+use mathlib.Core.Path.{_≡_, sym}
+use Rattle.image.specs.Memory.{Memory}
+use Rattle.image.specs.Place.{noEntry, stoppedAt}
+use Rattle.image.specs.Rules.{run}
+use Rattle.image.proofs.Places.{tried-map}
+use Rattle.image.proofs.Trees.{run-map}
+use Rattle.registers.specs.Admission.{Admitted, refusal, pass, take, admission, inInterruptRange}
+use Rattle.registers.specs.declared.Registers.{Registers}
+use Rattle.translation.specs.Completion.{completionRules}
+use Rattle.translation.specs.Requests.{passed, refused, translationOutcome, requestRules}
+use Rattle.translation.specs.declared.TranslationRequest.{TranslationRequest}
+
+module _ (registers : Registers) (request : TranslationRequest) (m : Memory) where
+  -- admission with the address's kind as the code found it
+  abbrev admitted : Bool → Admitted
+  admitted wrong = admission registers wrong (registers .te)
+
+  module _ {wrong : Bool} (kind : wrong ≡ inInterruptRange (request .address)) where
+    pub refuses : {n : ℕ} → refusal n ≡ admitted wrong → refused n ≡ run (requestRules registers request) m
+    unfolding requestRules run
+    refuses h = rw (← kind, ← h)
+
+    pub passes : pass ≡ admitted wrong → passed (request .address) ≡ run (requestRules registers request) m
+    unfolding requestRules run
+    passes h = rw (← kind, ← h)
+
+    pub takes : take ≡ admitted wrong
+        → translationOutcome request (run (completionRules registers (request .address) (request .source .id)) m) ≡ run (requestRules registers request) m
+    unfolding requestRules
+    takes h = rw (← kind, ← h) (sym (run-map (translationOutcome request) (completionRules registers (request .address) (request .source .id)) m))
+
+    pub takes-at : take ≡ admitted wrong
+        → stoppedAt (completionRules registers (request .address) (request .source .id)) m ≡ stoppedAt (requestRules registers request) m
+    unfolding requestRules
+    takes-at h =
+        rw (← kind, ← h)
+        (sym (tried-map (translationOutcome request) noEntry (completionRules registers (request .address) (request .source .id)) m))

@@ -1,0 +1,10 @@
+pub mod Admissions
+pub mod Agree
+pub mod Entries
+pub mod Forks
+pub mod Injective
+pub mod Local
+pub mod Pages
+pub mod Stepped
+pub mod Types
+pub mod Walks

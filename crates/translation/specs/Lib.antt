@@ -1,0 +1,5 @@
+pub mod Answers
+pub mod Claims
+pub mod Completion
+pub mod Requests
+pub mod Rights

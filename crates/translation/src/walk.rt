@@ -1,0 +1,61 @@
+// The walk of a translation request through the page tables, from the top level down, with the rights joined on the way.
+ghost use mathlib.Core.Bool.{false};
+ghost use mathlib.Core.Path.{_≡_};
+ghost use lib.ListN.{length};
+ghost use Prim.Native.Nat.{_%_, _<_, _≤_};
+ghost use Rattle.image.specs.Place.{Place, lastTried};
+ghost use Rattle.image.specs.Rules.{run};
+ghost use Rattle.image.specs.Windows.{ofWindows, badWindows};
+ghost use Rattle.translation.specs.Answers.{completionOf, Names};
+ghost use Rattle.translation.specs.Completion.{joinedRules};
+ghost use Rattle.translation.specs.Rights.{both};
+use crate::Rights;
+use crate::completion::Completion;
+use crate::step::Step;
+use crate::step::entry_step;
+use faults::Reason;
+use registers::Registers;
+
+pub(crate) fn walk(
+    windows: &[u64],
+    image: &[u8],
+    registers: Registers,
+    address: u64,
+    fpd: bool,
+    levels: u32,
+    table: u64,
+) -> Completion
+    requires { ⌜ (badWindows (now windows) (length (now image)) ≡ false) × (0 < levels) × (levels ≤ 5) × (table % 4096 ≡ 0) ⌝ }
+    ensures { λ r. ⌜ completionOf r ≡ run (joinedRules registers address fpd levels table both) (ofWindows (now (windows .entry)) (now (image .entry))) ⌝ }
+    ensures { λ r. ⌜ ((before : Place) → Names r (lastTried before (joinedRules registers address fpd levels table both) (ofWindows (now (windows .entry)) (now (image .entry))))) ⌝ }
+{
+    let mut level = levels;
+    let mut at = table;
+    let mut read = true;
+    let mut write = true;
+    while 0 < level {
+        let step = entry_step(
+            windows,
+            image,
+            registers,
+            address,
+            fpd,
+            level - 1,
+            at,
+            Rights { read, write },
+        );
+        match step {
+            Step::Page(frame, of, r, w) => return Completion::Page(frame, of, r, w),
+            Step::Empty => return Completion::Empty,
+            Step::Fault(reason, fpd, entry) => return Completion::Fault(reason, fpd, entry),
+            Step::Down(next, r, w) => {
+                at = next;
+                read = r;
+                write = w;
+                level -= 1;
+            }
+        }
+    }
+    // No step leads below level 1.
+    Completion::Fault(Reason::PageEntryAccess, fpd, at)
+}
