@@ -22,10 +22,10 @@ unfoldable pub layout : (from : ℕ) → List (ℕ × ℕ) → (end : ℕ) → L
 layout from [] end = replicate (end - from) 0
 layout from (w ∷ ws) end = replicate (w .0 - from) 0 ++ (bytesOf 8 (w .1) ++ layout (w .0 + 8) ws end)
 
-unfoldable pub bench : List ℕ
-bench =
-    layout 0
-    ((0x1030, 0x2001)
+-- its words, as (address, value)
+abbrev pub benchWords : List (ℕ × ℕ)
+benchWords =
+    (0x1030, 0x2001)
     ∷ (0x2100, 0x3001)
     ∷ (0x2108, 0x501)
     ∷ (0x3008, 0x4003)
@@ -40,11 +40,14 @@ bench =
     ∷ (0x6040, 0x0000640000318001)
     ∷ (0x6420, 0x0000070000F20000)
     ∷ (0x7FF8, 0x23456003)
-    ∷ [])
-    32768
+    ∷ []
 
-abbrev pub benchRegisters : Registers
-benchRegisters =
+unfoldable pub bench : List ℕ
+bench = layout 0 benchWords 32768
+
+-- with TE as given, on in the twelve cases
+abbrev pub benchWith : (te : Bool) → Registers
+benchWith te =
     record {
       haw = 39;
       mgaw = 48;
@@ -57,11 +60,14 @@ benchRegisters =
       «root_table» = 0x1000;
       «interrupt_table» = 0x6000;
       s = 3;
-      te = true;
+      te = te;
       ire = true;
       eime = false;
       cfis = false;
     }
+
+abbrev pub benchRegisters : Registers
+benchRegisters = benchWith true
 
 -- bytes of an image that become others
 unfoldable pub changed : List (ℕ × ℕ) → List ℕ → List ℕ

@@ -3,3 +3,4 @@ pub mod Instances
 pub mod InterruptFrames
 pub mod PostsThroughWindows
 pub mod Takes
+pub mod Translations

@@ -15,6 +15,9 @@ use Rattle.dma.proofs.Reached.{granted-by-own-walk}
 use Rattle.dma.proofs.NoInterrupt.{no-interrupt-granted, whole-frame-tested}
 use Rattle.dma.proofs.Rights.{rights-on, rights-off, unshared}
 use Rattle.dma.proofs.Unfetched.{access-means-unfetched}
+use Rattle.translation.proofs.Agree.{engines-agree}
+use Rattle.translation.proofs.Local.{translation-locality, translation-access-means-unfetched, translation-at-most-nine, translation-none-untaken, translation-reads-words, translation-always-an-entry}
+use Rattle.translation.proofs.Types.{only-type-1}
 use Rattle.interrupts.proofs.Exact.{sets-exactly, leaves-all, stays-inside}
 use Rattle.interrupts.proofs.Isolation.{isolated, same-bits}
 use Rattle.interrupts.proofs.Named.{index-bound, entry-of-index, no-wrap, at-most-ten, none-before-table}
@@ -31,8 +34,9 @@ use Rattle.cases.proofs.Instances.{premises-met}
 use Rattle.cases.proofs.InterruptFrames.{interrupt-frames}
 use Rattle.cases.proofs.PostsThroughWindows.{posts-through-windows}
 use Rattle.cases.proofs.Takes.{takes-met}
+use Rattle.cases.proofs.Translations.{translation-cases}
 use Rattle.claims.specs.Everything.{Everything}
-use Rattle.claims.proofs.OneAnswer.{one-memory-answer, one-interrupt-answer, one-reason}
+use Rattle.claims.proofs.OneAnswer.{one-memory-answer, one-translation-answer, one-interrupt-answer, one-reason}
 
 pub everything : Everything
 everything =
@@ -76,6 +80,16 @@ everything =
       none-untaken = none-untaken;
       at-most-ten = at-most-ten;
       none-before-table = none-before-table;
+      one-translation-answer = one-translation-answer;
+      translation-locality = translation-locality;
+      translation-access-means-unfetched = translation-access-means-unfetched;
+      translation-at-most-nine = translation-at-most-nine;
+      translation-none-untaken = translation-none-untaken;
+      translation-reads-words = translation-reads-words;
+      translation-always-an-entry = translation-always-an-entry;
+      engines-agree = engines-agree;
+      only-type-1 = only-type-1;
+      translation-cases = translation-cases;
       first-ticks = first-ticks;
       decay = decay;
       never-above = never-above;

@@ -15,6 +15,7 @@ use Rattle.dma.specs.Isolation.{Locality, AlwaysAnEntry, AccessMeansUnfetched, 
 use Rattle.dma.specs.Named.{AtMostNine, NoneUntaken}
 use Rattle.dma.specs.NoInterrupt.{NoInterruptGranted, WholeFrameTested}
 use Rattle.dma.specs.Reached.{GrantedByOwnWalk}
+use Rattle.translation.specs.Claims.{TranslationLocality, TranslationAccessMeansUnfetched, TranslationAtMostNine, TranslationNoneUntaken, TranslationReadsWords, TranslationAlwaysAnEntry, EnginesAgree, OnlyType1}
 use Rattle.interrupts.specs.Claims.{SetsExactly, NoticeExactly, LeavesAll, StaysInside, IndexBound, EntryOfIndex, NoWrap, AtMostTen, NoneBeforeTable, InterruptAccessMeansUnfetched, Isolated, SameBits}
 use Rattle.interrupts.specs.RaisedBy.{RemappedByEntry, PostedByEntry, OneSource, ExactSource}
 use Rattle.takes.specs.Claims.{ClearsExactly, TakesStayInside, HandsHighest, NoneStands, FewerUntilHandedOut, HandedOutWithin, HandedOutWithin256, Conserved, NoneInvented, EitherOrder}
@@ -24,7 +25,8 @@ use Rattle.cases.specs.Instances.{PremisesMet}
 use Rattle.cases.specs.InterruptFrames.{InterruptFrames}
 use Rattle.cases.specs.PostsThroughWindows.{PostsThroughWindows}
 use Rattle.cases.specs.Takes.{TakesMet}
-use Rattle.claims.specs.OneAnswer.{OneMemoryAnswer, OneInterruptAnswer, OneReason}
+use Rattle.cases.specs.Translations.{TranslationCases}
+use Rattle.claims.specs.OneAnswer.{OneMemoryAnswer, OneTranslationAnswer, OneInterruptAnswer, OneReason}
 
 pub record Everything : Type 0 where
   -- demand 1: nothing is changed by an answer that is no post
@@ -71,6 +73,17 @@ pub record Everything : Type 0 where
   pub none-untaken : NoneUntaken
   pub at-most-ten : AtMostTen
   pub none-before-table : NoneBeforeTable
+  -- document 02, Ask 1: translation requests
+  pub one-translation-answer : OneTranslationAnswer
+  pub translation-locality : TranslationLocality
+  pub translation-access-means-unfetched : TranslationAccessMeansUnfetched
+  pub translation-at-most-nine : TranslationAtMostNine
+  pub translation-none-untaken : TranslationNoneUntaken
+  pub translation-reads-words : TranslationReadsWords
+  pub translation-always-an-entry : TranslationAlwaysAnEntry
+  pub engines-agree : EnginesAgree
+  pub only-type-1 : OnlyType1
+  pub translation-cases : TranslationCases
   -- meters: exact at first, bounded always, and a byte for each
   pub first-ticks : FirstTicks
   pub decay : Decays

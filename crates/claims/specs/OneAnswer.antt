@@ -7,6 +7,9 @@ use Rattle.faults.specs.declared.reason.Reason.{Reason}
 use Rattle.dma.specs.Answers as memory
 use Rattle.dma.specs.declared.MemoryAnswer.{MemoryAnswer}
 use Rattle.dma.specs.declared.MemoryAnswer.the-variants.{Granted, Blocked, Refused}
+use Rattle.translation.specs.Answers as translation
+use Rattle.translation.specs.declared.TranslationAnswer.{TranslationAnswer}
+use Rattle.translation.specs.declared.TranslationAnswer.the-variants as translated
 use Rattle.interrupts.specs.Answers as interrupts
 use Rattle.interrupts.specs.declared.answer.InterruptAnswer.{InterruptAnswer}
 use Rattle.interrupts.specs.declared.answer.InterruptAnswer.the-variants as answer
@@ -17,6 +20,13 @@ Sized (Granted address) = Unit {0}
 Sized (Blocked f at) = f .low < 2 ^ 64
 Sized (Refused number) = Unit {0}
 
+abbrev pub SizedTranslation : TranslationAnswer → Type 0
+SizedTranslation (translated.Passed address) = Unit {0}
+SizedTranslation (translated.Page frame size rights) = Unit {0}
+SizedTranslation translated.Empty = Unit {0}
+SizedTranslation (translated.Blocked f at) = f .low < 2 ^ 64
+SizedTranslation (translated.Refused number) = Unit {0}
+
 abbrev pub SizedInterrupt : InterruptAnswer → Type 0
 SizedInterrupt answer.Passed = Unit {0}
 SizedInterrupt (answer.Remapped r) = Unit {0}
@@ -26,6 +36,10 @@ SizedInterrupt (answer.Refused number) = Unit {0}
 
 abbrev pub OneMemoryAnswer : Type 0
 OneMemoryAnswer = (r s : MemoryAnswer) → Sized r → Sized s → memory.outcomeOf r ≡ memory.outcomeOf s → memory.entryOf r ≡ memory.entryOf s → r ≡ s
+
+abbrev pub OneTranslationAnswer : Type 0
+OneTranslationAnswer = (r s : TranslationAnswer) → SizedTranslation r → SizedTranslation s → translation.outcomeOf r ≡ translation.outcomeOf s
+    → translation.entryOf r ≡ translation.entryOf s → r ≡ s
 
 abbrev pub OneInterruptAnswer : Type 0
 OneInterruptAnswer = (r s : InterruptAnswer) → SizedInterrupt r → SizedInterrupt s → interrupts.outcomeOf r ≡ interrupts.outcomeOf s

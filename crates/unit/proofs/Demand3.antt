@@ -15,9 +15,11 @@ use Rattle.dma.proofs.Access.{locality}
 use Rattle.dma.proofs.Aligned.{aligned-any}
 use Rattle.dma.proofs.Forks.{Fork, Ends, memory-forks}
 use Rattle.dma.proofs.Rights.{rights-on, rights-off}
+use Rattle.translation.specs.Requests.{requestRules}
+use Rattle.translation.proofs.Local.{translation-locality}
 use Rattle.interrupts.specs.Claims.{outcome, namedWords}
 use Rattle.interrupts.proofs.Isolation.{isolated, same-bits}
-use Rattle.unit.specs.Isolation.{MemoryAlike, InterruptsAlike, RightsKeep, RightsDeny, MoreKeeps, Isolation, MoreMemory, FlatImages}
+use Rattle.unit.specs.Isolation.{MemoryAlike, TranslationsAlike, InterruptsAlike, RightsKeep, RightsDeny, MoreKeeps, Isolation, MoreMemory, FlatImages}
 use Rattle.unit.specs.Lent.{Lent, memoryOf, SameWordAt, SameWordsAt}
 use Rattle.unit.proofs.HostBytes.{words-switched, words-kept}
 
@@ -34,6 +36,11 @@ memory : MemoryAlike
 memory registers request l l′ answered same =
     rw (l .good, l′ .good)
     (locality registers request (memoryOf l) (memoryOf l′) (rw (l .good) at answered) (alike l l′ (named (memoryRules registers request) (memoryOf l)) same))
+
+translations : TranslationsAlike
+translations registers request l l′ answered same =
+    rw (l .good, l′ .good)
+    (translation-locality registers request (memoryOf l) (memoryOf l′) (rw (l .good) at answered) (alike l l′ (named (requestRules registers request) (memoryOf l)) same))
 
 interrupts : InterruptsAlike
 interrupts registers request l l′ answered same =
@@ -66,7 +73,7 @@ more registers request l l′ address all was =
 
 pub isolation : Isolation
 isolation =
-    record { memory = memory; interrupts = interrupts; rights-on = keep; rights-off = deny; more-memory = more }
+    record { memory = memory; translations = translations; interrupts = interrupts; rights-on = keep; rights-off = deny; more-memory = more }
 
 pub flat-images : FlatImages
 flat-images image h =

@@ -16,6 +16,9 @@ use Rattle.registers.specs.declared.Registers.{Registers}
 use Rattle.dma.specs.Isolation.{answerOver, accessFault, walkedByAny, Apart}
 use Rattle.dma.specs.Requests.{MemoryOutcome, granted, memoryRules, memoryAnswer, memoryAnswerPlace}
 use Rattle.dma.specs.declared.MemoryRequest.{MemoryRequest}
+use Rattle.translation.specs.Claims as translation
+use Rattle.translation.specs.Requests.{TranslationOutcome, requestRules, translationAnswer, translationAnswerPlace}
+use Rattle.translation.specs.declared.TranslationRequest.{TranslationRequest}
 use Rattle.interrupts.specs.Claims.{outcome, namedWords, AccessFault, bitAt, sets}
 use Rattle.interrupts.specs.Interrupts.{InterruptOutcome, interruptAnswer, interruptAnswerPlace}
 use Rattle.interrupts.specs.Post.{written}
@@ -28,6 +31,12 @@ memoryOver registers request l = memoryAnswer registers request (l .windows) (l 
 
 abbrev pub memoryPlaceOver : Registers → MemoryRequest → Lent → Place
 memoryPlaceOver registers request l = memoryAnswerPlace registers request (l .windows) (l .bytes)
+
+abbrev pub translationOver : Registers → TranslationRequest → Lent → TranslationOutcome
+translationOver registers request l = translationAnswer registers request (l .windows) (l .bytes)
+
+abbrev pub translationPlaceOver : Registers → TranslationRequest → Lent → Place
+translationPlaceOver registers request l = translationAnswerPlace registers request (l .windows) (l .bytes)
 
 abbrev pub interruptOver : Registers → InterruptRequest → Lent → InterruptOutcome
 interruptOver registers request l = interruptAnswer registers request (l .windows) (l .bytes)
@@ -46,6 +55,14 @@ MemoryAlike =
     → SameWordsAt l l′ (named (memoryRules registers request) (memoryOf l))
     → (memoryOver registers request l′ ≡ memoryOver registers request l)
     × (memoryPlaceOver registers request l′ ≡ memoryPlaceOver registers request l)
+
+abbrev pub TranslationsAlike : Type 0
+TranslationsAlike =
+    (registers : Registers) (request : TranslationRequest) (l l′ : Lent)
+    → translation.accessFault (translationOver registers request l) ≡ false
+    → SameWordsAt l l′ (named (requestRules registers request) (memoryOf l))
+    → (translationOver registers request l′ ≡ translationOver registers request l)
+    × (translationPlaceOver registers request l′ ≡ translationPlaceOver registers request l)
 
 abbrev pub InterruptsAlike : Type 0
 InterruptsAlike =
@@ -85,6 +102,8 @@ pub record Isolation : Type 0 where
   -- a memory request that doesn't end in 07h, 08h or 09h gets the same answer, its entry concerned too, over a second memory alike in its
   -- named words
   pub memory : MemoryAlike
+  -- so does a translation request; the claims on rights keep to memory requests
+  pub translations : TranslationsAlike
   -- so does an interrupt that doesn't end in 23h or 27h, record bytes, entry concerned and notice among its parts; and the same bits are set
   pub interrupts : InterruptsAlike
   -- whichever of the page entries that any memory request walked have read, write or both switched on, a granted request stays

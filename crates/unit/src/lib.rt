@@ -1,4 +1,4 @@
-// The whole unit: memory requests and interrupts, behind one admission with refusals 1 and 2 and the switches TE and IRE.
+// The whole unit: memory requests, translation requests and interrupts, behind one admission with refusals 1 and 2 and the switches TE and IRE.
 pub use dma::MemoryAnswer;
 pub use dma::MemoryRequest;
 pub use dma::memory_request;
@@ -15,3 +15,8 @@ pub use registers::Registers;
 pub use registers::SourceId;
 pub use takes::TakeAnswer;
 pub use takes::take;
+pub use translation::PageSize;
+pub use translation::Rights;
+pub use translation::TranslationAnswer;
+pub use translation::TranslationRequest;
+pub use translation::translation_request;
