@@ -6,6 +6,7 @@ ghost use Rattle.dma.specs.Translation.{leaf, Reachable};
 ghost use Rattle.dma.specs.Requests.{memoryOutcome, concerned, memoryAnswer, memoryAnswerPlace};
 
 mod context;
+mod device;
 mod entry;
 mod lookup;
 mod page;
@@ -15,11 +16,11 @@ mod walk;
 
 pub use context::Context;
 pub use context::Lookup;
+pub use device::find_device_context;
 use faults::Fault;
 use faults::memory_fault;
 pub use image::EntryAddress;
 use image::bad_windows;
-pub use lookup::find_context;
 use page::host_address;
 pub use page::is_leaf;
 pub use page::meets_interrupt_range;

@@ -20,7 +20,7 @@ use registers::Registers;
 use registers::SourceId;
 
 // A root entry's check that stopped, told as a lookup: a root entry has no FPD. The other arm is never taken.
-fn stopped(check: Check) -> Lookup
+pub(crate) fn stopped(check: Check) -> Lookup
     ensures { λ r. ⌜ lookupOf r ≡ stoppedLookup (checkOf check) ⌝ }
     ensures { λ r. ⌜ lookupPlace r ≡ checkPlace check ⌝ }
 {
@@ -50,7 +50,12 @@ fn context_in(
     context_check(registers, at, e)
 }
 
-pub fn find_context(windows: &[u64], image: &[u8], registers: Registers, source: SourceId) -> Lookup
+pub(crate) fn find_context(
+    windows: &[u64],
+    image: &[u8],
+    registers: Registers,
+    source: SourceId,
+) -> Lookup
     requires { ⌜ (badWindows (now windows) (length (now image)) ≡ false) × (registers .«root_table» % 4096 ≡ 0) ⌝ }
     ensures { λ r. ⌜ lookupOf r ≡ run (lookupRules registers (source .id)) (ofWindows (now (windows .entry)) (now (image .entry))) ⌝ }
     ensures { λ r. ⌜ lookupPlace r ≡ stoppedAt (lookupRules registers (source .id)) (ofWindows (now (windows .entry)) (now (image .entry))) ⌝ }
