@@ -97,13 +97,20 @@ extern "C" {
  *             bytes 23:8 the 16 record bytes; byte 3 1 where bytes 31:24 are the host address of the
  *             entry concerned, else 0 (20h, 21h and 25h have none); galitzaf_text.h makes a line of it
  *   REFUSED   byte 1 refusal number (1 bad registers or windows, 2 address of the wrong kind, 4 a memory
- *             request whose walk ended with a page that has a byte in FEE00000h to FEEFFFFFh)
- *   PASSED    the interrupt goes on unchanged                                    (interrupts)
+ *             or translation request whose walk ended with a page that has a byte in FEE00000h to
+ *             FEEFFFFFh)
+ *   PASSED    the request goes on unchanged; of a translation request bytes 15:8 are its address
+ *                                                                (interrupts, translation requests)
  *   REMAPPED  byte 1 vector, byte 2 delivery mode, byte 3 bit 0 destination mode, bit 1 redirection
  *             hint, bit 2 trigger mode; bytes 7:4 destination                    (interrupts)
  *   POSTED    byte 1 1 where a notification is due (ON clear, and URG set or SN clear), else 0; then
  *             byte 2 its vector and bytes 7:4 its destination; byte 3 the posted vector and bytes 15:8
  *             the host address of the descriptor that was written                (interrupts)
+ *   TRANSLATED  bytes 15:8 the frame of a page, bytes 23:16 its size (1000h, 200000h or 40000000h);
+ *             byte 1 1 where it may be read, else 0; byte 2 1 where it may be written, else 0; one
+ *             of the two is set                                        (translation requests)
+ *   EMPTY     no right is left, or the address is too wide: no page, no fault and no record
+ *                                                                      (translation requests)
  */
 #define GALITZAF_ANSWER_SIZE 32
 #define GALITZAF_NO_ANSWER 0
@@ -113,6 +120,8 @@ extern "C" {
 #define GALITZAF_REMAPPED 4
 #define GALITZAF_POSTED 5
 #define GALITZAF_GRANTED 6
+#define GALITZAF_TRANSLATED 7
+#define GALITZAF_EMPTY 8
 
 /* Where a part of an answer begins, by its bytes. */
 #define GALITZAF_KIND 0
@@ -120,16 +129,20 @@ extern "C" {
 #define GALITZAF_REFUSAL 1          /* REFUSED */
 #define GALITZAF_VECTOR 1           /* REMAPPED */
 #define GALITZAF_NOTIFIES 1         /* POSTED */
+#define GALITZAF_MAY_READ 1         /* TRANSLATED */
 #define GALITZAF_RECORDABLE 2       /* BLOCKED */
 #define GALITZAF_DELIVERY_MODE 2    /* REMAPPED */
 #define GALITZAF_NOTIFICATION 2     /* POSTED: its vector */
+#define GALITZAF_MAY_WRITE 2        /* TRANSLATED */
 #define GALITZAF_HAS_ENTRY 3        /* BLOCKED */
 #define GALITZAF_MODES 3            /* REMAPPED */
 #define GALITZAF_POSTED_VECTOR 3    /* POSTED */
 #define GALITZAF_DESTINATION 4      /* 4 bytes: REMAPPED, POSTED */
-#define GALITZAF_HOST_ADDRESS 8     /* 8 bytes: GRANTED */
+#define GALITZAF_HOST_ADDRESS 8     /* 8 bytes: GRANTED, PASSED of a translation request */
+#define GALITZAF_FRAME 8            /* 8 bytes: TRANSLATED */
 #define GALITZAF_RECORD 8           /* 16 bytes: BLOCKED */
 #define GALITZAF_DESCRIPTOR 8       /* 8 bytes: POSTED */
+#define GALITZAF_PAGE_SIZE 16       /* 8 bytes: TRANSLATED */
 #define GALITZAF_ENTRY 24           /* 8 bytes: BLOCKED */
 
 /* Fault reasons, byte 1 of a BLOCKED answer: VT-d's numbers. */
@@ -202,6 +215,15 @@ uint32_t galitzaf_memory_request(const uint8_t *registers, size_t registers_len,
                                  const uint8_t *image, size_t image_len,
                                  uint16_t source, uint64_t address, uint8_t write,
                                  uint8_t *answer, size_t answer_len);
+
+/* The page that a device with a translation cache of its own asks for: frame, size and the rights joined over
+ * all levels, which memory requests of that source at every address of the page outside FEE00000h to
+ * FEEFFFFFh have too. */
+uint32_t galitzaf_translation_request(const uint8_t *registers, size_t registers_len,
+                                      const uint64_t *windows, size_t windows_len,
+                                      const uint8_t *image, size_t image_len,
+                                      uint16_t source, uint64_t address,
+                                      uint8_t *answer, size_t answer_len);
 
 /* What becomes of an interrupt message. A posted one changes two bits of the run at most, in the window that
  * holds the descriptor; any other answer leaves it as it came. */

@@ -19,12 +19,12 @@ use crate::ffi::{self, ANSWER_SIZE};
 pub enum Refusal {
     /// 1: a register is outside VT-d's range, or the [windows](crate::Memory) aren't as they have to be.
     BadRegisters,
-    /// 2: a memory request in FEE00000h to FEEFFFFFh, or an interrupt outside of it.
+    /// 2: a memory or translation request in FEE00000h to FEEFFFFFh, or an interrupt outside of it.
     WrongAddress,
     /// 3: the record buffer isn't 8, 16, .. 256 slots, or the next slot or a slot to clear is above
     /// the last.
     BadRecorder,
-    /// 4: the walk of a memory request ended with a page that has a byte in FEE00000h to FEEFFFFFh.
+    /// 4: the walk of a memory or translation request ended with a page that has a byte in FEE00000h to FEEFFFFFh.
     PageInInterruptRange,
     /// 5: a descriptor to take from isn't 64-aligned, or doesn't lie whole in one window.
     BadDescriptor,
@@ -128,6 +128,107 @@ impl MemoryAnswer {
 
 impl<'a> From<&'a MemoryAnswer> for Option<&'a Fault> {
     fn from(answer: &'a MemoryAnswer) -> Self {
+        answer.fault()
+    }
+}
+
+/// The size of a page.
+#[derive(Clone, Copy, Debug, PartialEq, Eq, Hash, PartialOrd, Ord)]
+pub enum PageSize {
+    /// 4 KiB.
+    FourKiB,
+    /// 2 MiB.
+    TwoMiB,
+    /// 1 GiB.
+    OneGiB,
+}
+
+impl PageSize {
+    /// In bytes.
+    pub const fn bytes(self) -> u64 {
+        match self {
+            Self::FourKiB => 0x1000,
+            Self::TwoMiB => 0x20_0000,
+            Self::OneGiB => 0x4000_0000,
+        }
+    }
+
+    const fn of(bytes: u64) -> Option<Self> {
+        match bytes {
+            0x1000 => Some(Self::FourKiB),
+            0x20_0000 => Some(Self::TwoMiB),
+            0x4000_0000 => Some(Self::OneGiB),
+            _ => None,
+        }
+    }
+}
+
+/// A page that a device may keep, with its rights joined over all levels of the page tables.
+#[derive(Clone, Copy, Debug, PartialEq, Eq, Hash)]
+pub struct Page {
+    /// The host address of its first byte.
+    pub frame: u64,
+    /// Its size.
+    pub size: PageSize,
+    /// Whether it may be read.
+    pub read: bool,
+    /// Whether it may be written.
+    pub write: bool,
+}
+
+/// What becomes of a translation request.
+#[derive(Clone, Copy, Debug, PartialEq, Eq, Hash)]
+#[must_use]
+pub enum TranslationAnswer {
+    /// Translation is off: the address itself.
+    Passed(u64),
+    /// The page.
+    Page(Page),
+    /// No right is left, or the address is too wide: no page, no fault and nothing to record.
+    Empty,
+    /// It is blocked by a fault.
+    Blocked(Fault),
+    /// It was refused.
+    Refused(Refusal),
+}
+
+impl TranslationAnswer {
+    /// The page, if there is one.
+    pub const fn page(&self) -> Option<&Page> {
+        match self {
+            Self::Page(page) => Some(page),
+            _ => None,
+        }
+    }
+
+    /// The fault, if blocked.
+    pub const fn fault(&self) -> Option<&Fault> {
+        match self {
+            Self::Blocked(fault) => Some(fault),
+            _ => None,
+        }
+    }
+
+    pub(crate) fn decode(bytes: [u8; ANSWER_SIZE]) -> Self {
+        let raw = Raw::of(bytes);
+        match (raw.kind, PageSize::of(raw.high)) {
+            (ffi::PASSED, _) => Self::Passed(raw.low),
+            (ffi::TRANSLATED, Some(size)) => Self::Page(Page {
+                frame: raw.low,
+                size,
+                read: raw.one == 1,
+                write: raw.two == 1,
+            }),
+            (ffi::EMPTY, _) => Self::Empty,
+            (ffi::BLOCKED, _) => Self::Blocked(raw.fault()),
+            (ffi::REFUSED, _) => Self::Refused(Refusal::from(raw.one)),
+            _ => Self::Refused(Refusal::INTERFACE),
+        }
+    }
+}
+
+impl<'a> From<&'a TranslationAnswer> for Option<&'a Fault> {
+    fn from(answer: &'a TranslationAnswer) -> Self {
         answer.fault()
     }
 }

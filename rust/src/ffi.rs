@@ -21,6 +21,8 @@ pub(crate) const REFUSED: u8 = 2;
 pub(crate) const PASSED: u8 = 3;
 pub(crate) const REMAPPED: u8 = 4;
 pub(crate) const POSTED: u8 = 5;
+pub(crate) const TRANSLATED: u8 = 7;
+pub(crate) const EMPTY: u8 = 8;
 
 pub(crate) const OK: u32 = 0x00;
 pub(crate) const REFUSED_3: u32 = 0x03;
@@ -48,6 +50,19 @@ extern "C" {
         source: u16,
         address: u64,
         write: u8,
+        answer: *mut u8,
+        answer_len: usize,
+    ) -> u32;
+
+    fn galitzaf_translation_request(
+        registers: *const u8,
+        registers_len: usize,
+        windows: *const u64,
+        windows_len: usize,
+        image: *const u8,
+        image_len: usize,
+        source: u16,
+        address: u64,
         answer: *mut u8,
         answer_len: usize,
     ) -> u32;
@@ -147,6 +162,33 @@ pub(crate) fn memory_request(
             source,
             address,
             u8::from(write),
+            answer.as_mut_ptr(),
+            answer.len(),
+        )
+    };
+    (status == OK).then_some(answer)
+}
+
+/// The answer bytes, or none where the library called an argument malformed.
+pub(crate) fn translation_request(
+    registers: &[u8; REGISTERS_SIZE],
+    windows: &[Window],
+    image: &[u8],
+    source: u16,
+    address: u64,
+) -> Option<[u8; ANSWER_SIZE]> {
+    let mut answer = [0; ANSWER_SIZE];
+    // SAFETY: as for `memory_request`.
+    let status = unsafe {
+        galitzaf_translation_request(
+            registers.as_ptr(),
+            registers.len(),
+            windows.as_ptr().cast(),
+            numbers(windows),
+            image.as_ptr(),
+            image.len(),
+            source,
+            address,
             answer.as_mut_ptr(),
             answer.len(),
         )

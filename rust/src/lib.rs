@@ -74,14 +74,14 @@ mod source;
 mod unit;
 
 pub use answer::{
-    DeliveryMode, DestinationMode, InterruptAnswer, MemoryAnswer, Notification, Posted, Refusal,
-    Remapped, TakeAnswer, TriggerMode,
+    DeliveryMode, DestinationMode, InterruptAnswer, MemoryAnswer, Notification, Page, PageSize,
+    Posted, Refusal, Remapped, TakeAnswer, TranslationAnswer, TriggerMode,
 };
 pub use fault::{Fault, FaultRecord, Reason};
 pub use memory::{Memory, Window};
 pub use meters::{Gate, Meters, MetersError};
 pub use recorder::{Recorded, Recorder, RecorderState};
 pub use registers::{Levels, Registers};
-pub use request::{Access, InterruptRequest, MemoryRequest};
+pub use request::{Access, InterruptRequest, MemoryRequest, TranslationRequest};
 pub use source::SourceId;
 pub use unit::Unit;

@@ -49,6 +49,29 @@ impl MemoryRequest {
     }
 }
 
+/// A translation request without PASID: a device with a translation cache of its own asks for a page.
+///
+/// ```
+/// use galitzaf::{SourceId, TranslationRequest};
+///
+/// let request = TranslationRequest::new(SourceId::new(3, 0x10), 0x4020_1ABC);
+/// assert_eq!(request.address, 0x4020_1ABC);
+/// ```
+#[derive(Clone, Copy, Debug, PartialEq, Eq, Hash)]
+pub struct TranslationRequest {
+    /// Who asks.
+    pub source: SourceId,
+    /// The guest address asked for.
+    pub address: u64,
+}
+
+impl TranslationRequest {
+    /// A request for the page of an address.
+    pub const fn new(source: SourceId, address: u64) -> Self {
+        Self { source, address }
+    }
+}
+
 /// An interrupt message: a 32-bit write to FEE00000h to FEEFFFFFh.
 ///
 /// ```

@@ -2,7 +2,7 @@
 
 use crate::ffi::{self, REGISTERS_SIZE};
 use crate::{Access, InterruptAnswer, InterruptRequest, MemoryAnswer, MemoryRequest};
-use crate::{Memory, Refusal, Registers, TakeAnswer};
+use crate::{Memory, Refusal, Registers, TakeAnswer, TranslationAnswer, TranslationRequest};
 
 /// A remapping unit: its registers, ready to answer requests over any guest memory.
 ///
@@ -51,6 +51,50 @@ impl Unit {
         answer.map_or(
             MemoryAnswer::Refused(Refusal::INTERFACE),
             MemoryAnswer::decode,
+        )
+    }
+
+    /// The page that a device with a translation cache of its own asks for. Where it has a right, every
+    /// memory request of that kind and source in the page, outside FEE00000h to FEEFFFFFh, is granted.
+    ///
+    /// ```
+    /// use galitzaf::{Levels, Memory, PageSize, Registers, SourceId, TranslationRequest, Unit};
+    ///
+    /// let unit = Unit::new(&Registers {
+    ///     haw: 39,
+    ///     mgaw: 48,
+    ///     levels: Levels { three: true, ..Levels::NONE },
+    ///     root_table: 0x1000,
+    ///     te: true,
+    ///     ..Registers::default()
+    /// });
+    /// // The context's type is 1, and one page, 40201000h, is mapped for reads.
+    /// let mut image = vec![0; 0x8000];
+    /// for (address, word) in [
+    ///     (0x1030, 0x2001u64), (0x2100, 0x3005), (0x2108, 0x501),
+    ///     (0x3008, 0x4003), (0x4008, 0x5003), (0x5008, 0x1234_5001),
+    /// ] {
+    ///     image[address..address + 8].copy_from_slice(&word.to_le_bytes());
+    /// }
+    ///
+    /// let request = TranslationRequest::new(SourceId::new(0x03, 0x10), 0x4020_1ABC);
+    /// let answer = unit.translation(&Memory::flat(&image), request);
+    /// let page = answer.page().unwrap();
+    /// assert_eq!((page.frame, page.size), (0x1234_5000, PageSize::FourKiB));
+    /// assert_eq!((page.read, page.write), (true, false));
+    /// ```
+    pub fn translation<R: AsRef<[u8]>>(
+        &self,
+        memory: &Memory<R>,
+        request: TranslationRequest,
+    ) -> TranslationAnswer {
+        let TranslationRequest { source, address } = request;
+        let answer = memory.lend(|windows, run| {
+            ffi::translation_request(&self.registers, windows, run, source.into(), address)
+        });
+        answer.map_or(
+            TranslationAnswer::Refused(Refusal::INTERFACE),
+            TranslationAnswer::decode,
         )
     }
 

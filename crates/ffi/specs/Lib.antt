@@ -6,3 +6,4 @@ pub mod Recording
 pub mod Registers
 pub mod Status
 pub mod Takes
+pub mod Translations

@@ -47,7 +47,7 @@ clearOverflowCall records recorder =
 
 -- not 32 bytes, or of no kind that a request answers
 unfoldable pub badFault : List ℕ → Bool
-badFault answer = not (eqb (length answer) 32) || (eqb (byte answer 0) 0 || ltb 6 (byte answer 0))
+badFault answer = not (eqb (length answer) 32) || (eqb (byte answer 0) 0 || ltb 8 (byte answer 0))
 
 -- the record in bytes 23:8, by its two words
 abbrev pub recordIn : List ℕ → ℕ

@@ -24,7 +24,7 @@ pub const BLOCKED: u8 = 1;
 
 const REFUSED: u8 = 2;
 
-const PASSED: u8 = 3;
+pub const PASSED: u8 = 3;
 
 const REMAPPED: u8 = 4;
 
@@ -40,7 +40,7 @@ pub struct Packed {
 }
 
 // The kind, bytes 1, 2 and 3, and bytes 7:4.
-fn head(kind: u8, one: u8, two: u8, three: u8, four: u32) -> u64
+pub(crate) fn head(kind: u8, one: u8, two: u8, three: u8, four: u32) -> u64
     ensures { λ r. ⌜ bytesOf 8 r ≡ kind ∷ one ∷ two ∷ three ∷ bytesOf 4 four ⌝ }
 {
     kind as u64
@@ -57,7 +57,7 @@ pub(crate) fn flag(on: bool) -> u8
 }
 
 // An answer that names no byte from 8 up.
-fn short(head: u64) -> Packed
+pub(crate) fn short(head: u64) -> Packed
     ensures { λ r. ⌜ bytesOfPacked r ≡ bytesOf 8 head ++ bytesOf 16 0 ++ bytesOf 8 0 ⌝ }
 {
     Packed {
@@ -69,7 +69,7 @@ fn short(head: u64) -> Packed
 }
 
 // Byte 3 tells whether the last word is an entry's address.
-fn pack_fault(fault: Fault, entry: EntryAddress) -> Packed
+pub(crate) fn pack_fault(fault: Fault, entry: EntryAddress) -> Packed
     ensures { λ r. ⌜ bytesOfPacked r ≡ blockedBytes (faultOf fault) (placeOf entry) ⌝ }
 {
     let reason = fault.reason;
@@ -91,7 +91,7 @@ fn pack_fault(fault: Fault, entry: EntryAddress) -> Packed
     }
 }
 
-fn pack_refusal(number: u8) -> Packed
+pub(crate) fn pack_refusal(number: u8) -> Packed
     ensures { λ r. ⌜ bytesOfPacked r ≡ refusedBytes number ⌝ }
 {
     short(head(REFUSED, number, 0, 0, 0))

@@ -6,6 +6,7 @@ mod recorder;
 mod requests;
 mod status;
 mod taking;
+mod translating;
 mod unpack;
 
 pub use meters::galitzaf_reset_meters;
@@ -16,3 +17,4 @@ pub use recorder::galitzaf_record;
 pub use requests::galitzaf_interrupt_request;
 pub use requests::galitzaf_memory_request;
 pub use taking::galitzaf_take;
+pub use translating::galitzaf_translation_request;

@@ -85,7 +85,7 @@ fn bad_answer(answer: &[u8]) -> bool
     if answer.len() != 32 {
         return true;
     }
-    (answer[0] == 0) | (6 < answer[0])
+    (answer[0] == 0) | (8 < answer[0])
 }
 
 #[no_mangle]

@@ -9,6 +9,7 @@ mod memory;
 mod met;
 mod outcome;
 mod registers;
+mod translations;
 
 /// Cases of each kind.
 const CASES: usize = 100_000;

@@ -40,13 +40,19 @@ fn pages(
     top
 }
 
-/// An image with tables for this address.
-fn tables(random: &mut Random, registers: &Registers, source: SourceId, address: u64) -> Vec<u8> {
+/// An image with tables for this address, in a context of one of these types.
+pub fn tables(
+    random: &mut Random,
+    registers: &Registers,
+    source: SourceId,
+    address: u64,
+    types: &[u64],
+) -> Vec<u8> {
     let mut image = vec![0; (PAGES << 12) as usize];
     let levels = 3 + random.below(3);
     let top = pages(random, &mut image, registers, address, levels);
     let contexts = page(random);
-    let kind = random.pick(&[0, 0, 0, 0, 1, 1, 2, 3]) << 2;
+    let kind = random.pick(types) << 2;
     let fpd = u64::from(random.below(4) == 0) << 1;
     let present = u64::from(random.below(16) != 0);
     let domain = random.below(1 << 16) << 8;
@@ -59,6 +65,16 @@ fn tables(random: &mut Random, registers: &Registers, source: SourceId, address:
     image
 }
 
+/// Mostly one that fits some number of levels.
+pub fn address(random: &mut Random) -> u64 {
+    match random.below(20) {
+        0 => 0xFEE0_0000 + random.below(1 << 20),
+        1 => random.pick(&[0xFEDF_FFFF, 0xFEF0_0000, 0x1_FEE0_0000, u64::MAX]),
+        2 => random.word(),
+        _ => random.word() >> (64 - random.pick(&[39, 48, 57])),
+    }
+}
+
 #[test]
 fn memory_requests() {
     let mut random = Random(0x5EED);
@@ -66,13 +82,9 @@ fn memory_requests() {
     for _ in 0..CASES {
         let registers = registers::any(&mut random);
         let source = SourceId::from(random.word() as u16);
-        let address = match random.below(20) {
-            0 => 0xFEE0_0000 + random.below(1 << 20),
-            1 => random.pick(&[0xFEDF_FFFF, 0xFEF0_0000, 0x1_FEE0_0000, u64::MAX]),
-            2 => random.word(),
-            _ => random.word() >> (64 - random.pick(&[39, 48, 57])),
-        };
-        let mut image = tables(&mut random, &registers, source, address);
+        let address = address(&mut random);
+        let types = [0, 0, 0, 0, 1, 1, 2, 3];
+        let mut image = tables(&mut random, &registers, source, address, &types);
         image.truncate(length(&mut random));
         let write = random.coin();
         let request = if write {

@@ -1,15 +1,44 @@
 //! Galitzaf's answers in the reference's form.
 
-use galitzaf::{DestinationMode, Fault, InterruptAnswer, MemoryAnswer, TriggerMode};
-use reference::{Notice, Outcome};
+use galitzaf::{DestinationMode, Fault, InterruptAnswer, MemoryAnswer, Page, PageSize};
+use galitzaf::{TranslationAnswer, TriggerMode};
+use reference::{Notice, Outcome, Translation};
 
-fn of_fault(fault: &Fault) -> Outcome {
-    Outcome::Blocked(reference::Fault {
+fn fault_of(fault: &Fault) -> reference::Fault {
+    reference::Fault {
         reason: fault.reason().number(),
         recordable: fault.recordable(),
         record: fault.record().bytes(),
         entry: fault.entry(),
-    })
+    }
+}
+
+fn of_fault(fault: &Fault) -> Outcome {
+    Outcome::Blocked(fault_of(fault))
+}
+
+fn answered(frame: u64, size: Option<PageSize>, read: bool, write: bool) -> Translation {
+    Translation::Answered {
+        frame,
+        size: size.map_or(0, PageSize::bytes),
+        read,
+        write,
+    }
+}
+
+pub fn of_translation(answer: TranslationAnswer) -> Translation {
+    match answer {
+        TranslationAnswer::Passed(address) => Translation::Passed(address),
+        TranslationAnswer::Page(Page {
+            frame,
+            size,
+            read,
+            write,
+        }) => answered(frame, Some(size), read, write),
+        TranslationAnswer::Empty => answered(0, None, false, false),
+        TranslationAnswer::Blocked(fault) => Translation::Blocked(fault_of(&fault)),
+        TranslationAnswer::Refused(refusal) => Translation::Refused(refusal.number()),
+    }
 }
 
 pub fn of_memory(answer: MemoryAnswer) -> Outcome {

@@ -55,8 +55,8 @@ fn spoil_recorded(random: &mut Random, answer: &mut Vec<u8>) {
     if random.coin() {
         return resized(random, answer);
     }
-    // 0, or a number above 6.
-    answer[0] = 7u8.wrapping_add(random.below(250) as u8);
+    // 0, or a number above 8.
+    answer[0] = 9u8.wrapping_add(random.below(248) as u8);
 }
 
 /// Records or a state of another length, or a next slot above the last; the rest may be malformed
