@@ -2,7 +2,7 @@
 //! `galitzaf`.
 
 use interface::{ANSWER_SIZE, REGISTERS_SIZE};
-use reference::{Call, Outcome, Registers};
+use reference::{Call, Fault, Outcome, Registers};
 
 /// The packed registers.
 pub fn registers(r: &Registers) -> [u8; REGISTERS_SIZE] {
@@ -24,6 +24,18 @@ fn flags(bits: &[bool]) -> u8 {
     numbered.fold(0, |byte, (&bit, n)| byte | u8::from(bit) << n)
 }
 
+/// The answer of a request that a fault stopped.
+pub fn fault(fault: &Fault) -> [u8; ANSWER_SIZE] {
+    let mut bytes = [0; ANSWER_SIZE];
+    bytes[..3].copy_from_slice(&[1, fault.reason, u8::from(fault.recordable)]);
+    bytes[8..24].copy_from_slice(&fault.record);
+    if let Some(entry) = fault.entry {
+        bytes[3] = 1;
+        bytes[24..].copy_from_slice(&entry.to_le_bytes());
+    }
+    bytes
+}
+
 /// An answer.
 pub fn answer(outcome: &Outcome) -> [u8; ANSWER_SIZE] {
     let mut bytes = [0; ANSWER_SIZE];
@@ -32,14 +44,7 @@ pub fn answer(outcome: &Outcome) -> [u8; ANSWER_SIZE] {
             bytes[0] = 6;
             bytes[8..16].copy_from_slice(&address.to_le_bytes());
         }
-        Outcome::Blocked(fault) => {
-            bytes[..3].copy_from_slice(&[1, fault.reason, u8::from(fault.recordable)]);
-            bytes[8..24].copy_from_slice(&fault.record);
-            if let Some(entry) = fault.entry {
-                bytes[3] = 1;
-                bytes[24..].copy_from_slice(&entry.to_le_bytes());
-            }
-        }
+        Outcome::Blocked(blocked) => bytes = fault(blocked),
         Outcome::Refused(number) => bytes[..2].copy_from_slice(&[2, *number]),
         Outcome::Passed => bytes[0] = 3,
         Outcome::Remapped {

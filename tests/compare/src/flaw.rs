@@ -64,11 +64,17 @@ pub enum Flaw {
     UnsortedAccepted,
     /// Windows that overlap in the run aren't refused.
     RunOverlapAccepted,
+    /// A translation request is answered the rights of the leaf alone.
+    LeafRights,
+    /// A translation request without a right left is blocked with 05h.
+    EmptyDenied,
+    /// The record of a translation request has AT 0.
+    AddressTypeLost,
 }
 
 impl Flaw {
     /// Each of them.
-    pub const ALL: [Flaw; 31] = [
+    pub const ALL: [Flaw; 34] = [
         Flaw::Known(Slip::Index16),
         Flaw::Known(Slip::LastEntryRights),
         Flaw::Known(Slip::MaskLargeFrame),
@@ -100,6 +106,9 @@ impl Flaw {
         Flaw::FiveAccepted,
         Flaw::UnsortedAccepted,
         Flaw::RunOverlapAccepted,
+        Flaw::LeafRights,
+        Flaw::EmptyDenied,
+        Flaw::AddressTypeLost,
     ];
 
     /// Whether it can make a difference in a part.
@@ -137,6 +146,9 @@ impl Flaw {
                 | Flaw::RunOverlapAccepted,
                 part,
             ) => matches!(part, Part::Worlds(suite) if suite.name == "windows"),
+            (Flaw::LeafRights | Flaw::EmptyDenied | Flaw::AddressTypeLost, part) => {
+                matches!(part, Part::Translations)
+            }
             (_, part) => matches!(part, Part::Recorder),
         }
     }

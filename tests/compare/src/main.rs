@@ -25,6 +25,7 @@ mod recorder;
 mod runs;
 mod takes;
 mod tally;
+mod translations;
 mod wanted;
 mod windows;
 

@@ -12,7 +12,7 @@ use interface::{ANSWER_SIZE, RECORDER_SIZE, RECORDS_SIZE, REGISTERS_SIZE};
 pub const NAME: &str = "malformed";
 
 /// Calls.
-pub const CALLS: u64 = 16 * 500;
+pub const CALLS: u64 = 19 * 500;
 
 /// The arguments of any call.
 #[derive(Clone, PartialEq, Eq)]
@@ -93,12 +93,12 @@ fn spoil_windows(random: &mut Random, arguments: &mut Arguments) {
 /// What is called, and what is wrong with it.
 fn spoil(random: &mut Random, which: u64, arguments: &mut Arguments) -> (Call, u32) {
     match which {
-        0 | 1 | 12 => spoil_registers(random, &mut arguments.registers),
-        2 | 3 => resized(random, &mut arguments.answer),
+        0 | 1 | 12 | 16 => spoil_registers(random, &mut arguments.registers),
+        2 | 3 | 17 => resized(random, &mut arguments.answer),
         4 => arguments.write = 2 + random.below(254) as u8,
         5 => spoil_recorded(random, &mut arguments.answer),
         6..=8 => spoil_overflow(random, &mut arguments.recorder),
-        13..=15 => spoil_windows(random, arguments),
+        13..=15 | 18 => spoil_windows(random, arguments),
         _ => spoil_place(random, arguments),
     }
     match which {
@@ -117,7 +117,10 @@ fn spoil(random: &mut Random, which: u64, arguments: &mut Arguments) -> (Call, u
         12 => (Call::Take, 0x101),
         13 => (Call::Memory, 0x105),
         14 => (Call::Interrupt, 0x105),
-        _ => (Call::Take, 0x105),
+        15 => (Call::Take, 0x105),
+        16 => (Call::Translation, 0x101),
+        17 => (Call::Translation, 0x102),
+        _ => (Call::Translation, 0x105),
     }
 }
 
@@ -136,6 +139,10 @@ fn call(which: Call, arguments: &mut Arguments) -> u32 {
         Call::Memory => {
             let address = 0x4020_1ABC;
             interface::memory_request(registers, windows, image, source, address, *write, answer)
+        }
+        Call::Translation => {
+            let address = 0x4020_1ABC;
+            interface::translation_request(registers, windows, image, source, address, answer)
         }
         Call::Interrupt => {
             interface::interrupt_request(registers, windows, image, source, to, 0, answer)
@@ -162,7 +169,7 @@ pub fn run(number: u64, tally: Option<&mut Tally>) -> Result<(), String> {
         recorder: [0; RECORDER_SIZE].to_vec(),
     };
     debug_assert_eq!(before.registers.len(), REGISTERS_SIZE);
-    let (which, expected) = spoil(&mut random, number % 16, &mut before);
+    let (which, expected) = spoil(&mut random, number % 19, &mut before);
     let mut after = before.clone();
     let status = call(which, &mut after);
     if status != expected || after != before {

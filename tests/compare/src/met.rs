@@ -1,6 +1,7 @@
 //! What was met: each outcome that document 01 has, told apart further by how it came about.
 
 use crate::meters::Seen;
+use crate::translations;
 use crate::windows;
 use std::fmt;
 
@@ -81,6 +82,8 @@ pub enum Met {
     Meters(Seen),
     /// A call over windows.
     Windows(windows::Seen),
+    /// A translation request.
+    Translations(translations::Seen),
 }
 
 /// A call of the C interface.
@@ -88,6 +91,8 @@ pub enum Met {
 pub enum Call {
     /// `galitzaf_memory_request`.
     Memory,
+    /// `galitzaf_translation_request`.
+    Translation,
     /// `galitzaf_interrupt_request`.
     Interrupt,
     /// `galitzaf_take`.
@@ -204,6 +209,7 @@ impl fmt::Display for Met {
             Met::OneByteShort(kind) => write!(f, "one byte short: {kind}"),
             Met::Meters(seen) => write!(f, "meters: {seen}"),
             Met::Windows(seen) => write!(f, "windows: {seen}"),
+            Met::Translations(seen) => write!(f, "translation: {seen}"),
         }
     }
 }
@@ -221,7 +227,8 @@ fn size(leaf: u64) -> &'static str {
     ["4 KiB", "2 MiB", "1 GiB"][leaf as usize - 1]
 }
 
-fn recorded(recordable: bool) -> &'static str {
+/// Whether a fault may be recorded, in words.
+pub fn recorded(recordable: bool) -> &'static str {
     if recordable {
         "recordable"
     } else {
@@ -255,6 +262,7 @@ impl fmt::Display for Call {
     fn fmt(&self, f: &mut fmt::Formatter<'_>) -> fmt::Result {
         f.write_str(match self {
             Call::Memory => "memory request",
+            Call::Translation => "translation request",
             Call::Interrupt => "interrupt request",
             Call::Take => "take",
             Call::Record => "record",

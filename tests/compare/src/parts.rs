@@ -1,5 +1,5 @@
 //! The parts of a run: the suites of worlds, the recorder's sequences, runs of posts and takes, the
-//! malformed calls, the rows of meters.
+//! malformed calls, the rows of meters, the translation requests.
 
 use crate::flaw::Flaw;
 use crate::judge::Judge;
@@ -10,6 +10,7 @@ use crate::print::print_world;
 use crate::recorder::{self, Sequence};
 use crate::takes::{self, Run};
 use crate::tally::Tally;
+use crate::translations;
 use cases::{Suite, World, SUITES};
 
 /// A part, whose cases have numbers.
@@ -25,12 +26,20 @@ pub enum Part {
     Malformed,
     /// Calls on meters.
     Meters,
+    /// Translation requests.
+    Translations,
 }
 
 impl Part {
     /// Each of them.
     pub fn all() -> impl Iterator<Item = Part> {
-        let others = [Part::Recorder, Part::Takes, Part::Malformed, Part::Meters];
+        let others = [
+            Part::Recorder,
+            Part::Takes,
+            Part::Malformed,
+            Part::Meters,
+            Part::Translations,
+        ];
         SUITES.iter().map(Part::Worlds).chain(others)
     }
 
@@ -42,6 +51,7 @@ impl Part {
             Part::Takes => takes::NAME,
             Part::Malformed => malformed::NAME,
             Part::Meters => meters::NAME,
+            Part::Translations => translations::NAME,
         }
     }
 
@@ -53,6 +63,7 @@ impl Part {
             Part::Takes => takes::RUNS,
             Part::Malformed => malformed::CALLS,
             Part::Meters => meters::ROWS,
+            Part::Translations => translations::worlds(),
         }
     }
 }
@@ -92,6 +103,10 @@ impl Runner {
             Part::Takes => Run::build(number).run(self.flaw, tally),
             Part::Malformed => malformed::run(number, tally),
             Part::Meters => Row::build(number).run(self.flaw, tally),
+            Part::Translations => {
+                translations::build(number, &mut self.world);
+                translations::run(&self.world, self.flaw, tally)
+            }
         }
     }
 
@@ -106,6 +121,7 @@ impl Runner {
             Part::Takes => Run::build(number).print(),
             Part::Malformed => {}
             Part::Meters => Row::build(number).print(),
+            Part::Translations => translations::print(number, &mut self.world),
         }
     }
 }

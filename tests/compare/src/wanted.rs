@@ -3,6 +3,7 @@
 use crate::met::{Call, Kind, Met};
 use crate::meters::Seen;
 use crate::recorder::SLOTS;
+use crate::translations;
 use crate::windows;
 
 /// The fault reasons of memory requests that FPD silences.
@@ -92,6 +93,7 @@ fn takes(wanted: &mut Vec<Met>) {
 fn malformed(wanted: &mut Vec<Met>) {
     for (call, statuses) in [
         (Call::Memory, [0x101, 0x102, 0x103, 0x105].as_slice()),
+        (Call::Translation, &[0x101, 0x102, 0x105]),
         (Call::Interrupt, &[0x101, 0x102, 0x105]),
         (Call::Take, &[0x101, 0x105]),
         (Call::Record, &[0x03, 0x102, 0x104]),
@@ -151,5 +153,7 @@ pub fn all() -> Vec<Met> {
     entries(&mut wanted);
     wanted.extend(Seen::all().map(Met::Meters));
     wanted.extend(windows::Seen::all().into_iter().map(Met::Windows));
+    let translations = translations::Seen::all().into_iter();
+    wanted.extend(translations.map(Met::Translations));
     wanted
 }

@@ -37,6 +37,19 @@ extern "C" {
         answer_len: usize,
     ) -> u32;
 
+    fn galitzaf_translation_request(
+        registers: *const u8,
+        registers_len: usize,
+        windows: *const u64,
+        windows_len: usize,
+        image: *const u8,
+        image_len: usize,
+        source: u16,
+        address: u64,
+        answer: *mut u8,
+        answer_len: usize,
+    ) -> u32;
+
     fn galitzaf_interrupt_request(
         registers: *const u8,
         registers_len: usize,
@@ -130,6 +143,34 @@ pub fn memory_request(
             source,
             address,
             write,
+            answer.as_mut_ptr(),
+            answer.len(),
+        )
+    }
+}
+
+/// `galitzaf_translation_request`.
+#[inline(always)]
+pub fn translation_request(
+    registers: &[u8],
+    windows: &[u64],
+    image: &[u8],
+    source: u16,
+    address: u64,
+    answer: &mut [u8],
+) -> u32 {
+    // SAFETY: each pointer and length is that of a live slice. `answer`, which is written, is lent
+    // by `&mut`, so that it overlaps no other. None is kept after the call.
+    unsafe {
+        galitzaf_translation_request(
+            registers.as_ptr(),
+            registers.len(),
+            windows.as_ptr(),
+            windows.len(),
+            image.as_ptr(),
+            image.len(),
+            source,
+            address,
             answer.as_mut_ptr(),
             answer.len(),
         )
