@@ -1,0 +1,78 @@
+-- What is traced of the unit's requests and answers. A fault's record isn't: it follows from the request and the reason.
+use Prim.Native.Nat.{ℕ, _+_, _*_, _%_}
+use mathlib.Core.Bool.{Bool}
+use Rattle.image.specs.Choice.{if_then_else_}
+use Rattle.image.specs.Place.{Place, noEntry, entryAt}
+use Rattle.faults.specs.Record.{FaultAnswer}
+use Rattle.dma.specs.Requests as dma
+use Rattle.dma.specs.declared.MemoryRequest.{MemoryRequest}
+use Rattle.irte.specs.Irte.{Remapped}
+use Rattle.interrupts.specs.Descriptor.{Notice, silent, notice}
+use Rattle.interrupts.specs.Interrupts as interrupts
+use Rattle.interrupts.specs.declared.InterruptRequest.{InterruptRequest}
+use Rattle.traced.specs.declared.Traced.{Traced}
+
+-- a request of a kind, with an answer and its number, flags and value; no vector, no destination and nothing posted
+abbrev pub plain : (kind source address «data» : ℕ) (answer number flags value : ℕ) → Traced
+plain kind source address «data» answer number flags value =
+    record {
+      kind = kind;
+      answer = answer;
+      number = number;
+      flags = flags;
+      source = source;
+      vector = 0;
+      posted = 0;
+      address = address;
+      «data» = «data»;
+      destination = 0;
+      value = value;
+    }
+
+abbrev pub flagOf : Bool → ℕ
+flagOf on = if on then 1 else 0
+
+-- flag 0 that it may be recorded, flag 1 that the value is the address of the entry concerned
+abbrev pub faulted : (kind source address «data» : ℕ) → FaultAnswer → Place → Traced
+faulted kind source address «data» f noEntry = plain kind source address «data» 2 (f .reason) (flagOf (f .recordable)) 0
+faulted kind source address «data» f (entryAt at) = plain kind source address «data» 2 (f .reason) (flagOf (f .recordable) + 2) at
+
+abbrev pub kindOf : (write : Bool) → ℕ
+kindOf write = if write then 2 else 1
+
+unfoldable pub memoryTraced : MemoryRequest → dma.MemoryOutcome → Place → Traced
+memoryTraced q (dma.granted host) place = plain (kindOf (q .write)) (q .source .id) (q .address) 0 3 0 0 host
+memoryTraced q (dma.blocked f) place = faulted (kindOf (q .write)) (q .source .id) (q .address) 0 f place
+memoryTraced q (dma.refused number) place = plain (kindOf (q .write)) (q .source .id) (q .address) 0 1 number 0 0
+
+-- the parts of an interrupt that is remapped or posted
+abbrev pub raised : InterruptRequest → (answer flags vector posted destination value : ℕ) → Traced
+raised q answer flags vector posted destination value =
+    record {
+      kind = 3;
+      answer = answer;
+      number = 0;
+      flags = flags;
+      source = q .source .id;
+      vector = vector;
+      posted = posted;
+      address = q .address;
+      «data» = q .«data»;
+      destination = destination;
+      value = value;
+    }
+
+-- flag 0 destination mode, 1 redirection hint, 2 trigger mode, 5:3 delivery mode, which has three bits
+abbrev pub modesOf : Remapped → ℕ
+modesOf r = flagOf (r .destinationMode) + 2 * flagOf (r .redirectionHint) + 4 * flagOf (r .trigger) + 8 * (r .delivery % 8)
+
+abbrev pub postTraced : InterruptRequest → (descriptor posted : ℕ) → Notice → Traced
+postTraced q descriptor posted silent = raised q 6 0 0 posted 0 descriptor
+postTraced q descriptor posted (notice vector destination) = raised q 7 0 vector posted destination descriptor
+
+unfoldable pub interruptTraced : InterruptRequest → interrupts.InterruptOutcome → Place → Traced
+interruptTraced q interrupts.passed place = plain 3 (q .source .id) (q .address) (q .«data») 4 0 0 0
+interruptTraced q (interrupts.remapped r) place = raised q 5 (modesOf r) (r .vector) 0 (r .destination) 0
+interruptTraced q (interrupts.posted descriptor vector n) place = postTraced q descriptor vector n
+interruptTraced q (interrupts.blocked f) place = faulted 3 (q .source .id) (q .address) (q .«data») f place
+interruptTraced q (interrupts.refused number) place = plain 3 (q .source .id) (q .address) (q .«data») 1 number 0 0
