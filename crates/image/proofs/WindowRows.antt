@@ -345,3 +345,11 @@ pub none-bad : (numbers : List ℕ) (run : ℕ) → length numbers ≡ 0 → fal
 unfolding badWindows windowsOf badList
 none-bad [] run h = refl
 none-bad (x ∷ xs) run h = absurd (omega arith)
+
+-- one window is told by itself
+pub one-tells : (numbers : List ℕ) (run : ℕ) → length numbers ≡ 3 → badWindow (windowAt numbers 0) run ≡ badWindows numbers run
+one-tells numbers run h = row-last-at numbers 0 run (omega arith) ∙ go (badRow (windowsOf numbers) run) refl
+  where
+    go : (b : Bool) → badRow (windowsOf numbers) run ≡ b → b ≡ badWindows numbers run
+    go true is = row-tells numbers run (omega arith) (omega arith) is
+    go false is = one-shares numbers h ∙ sharing-tells numbers run (omega arith) (omega arith) is

@@ -118,16 +118,14 @@ fn load64(image: &[u8], from: usize) -> Entry64
     }
 }
 
-// The entry at an offset of a table's page. A page is mostly whole, and its offset then needs no test.
+// The entry at an offset of a table's page: one test of its last byte, which the compiler makes of the window's rest and not of the page.
 fn entry8_of(page: &[u8], table: u64, offset: u64) -> Found8
     requires { ⌜ (table % 4096 ≡ 0) × (offset + 8 ≤ 4096) ⌝ }
     ensures { λ r. ⌜ fetched8 r ≡ entry 1 (ofImage (now (page .entry))) offset ⌝ }
     ensures { λ r. ⌜ missed8 r (table + offset) ≡ table + offset ⌝ }
 {
-    if page.len() < 4096 {
-        if (page.len() as u64) < offset + 8 {
-            return Found8::Missing(table + offset);
-        }
+    if (page.len() as u64) <= offset + 7 {
+        return Found8::Missing(table + offset);
     }
     Found8::Entry(word(page, offset as usize))
 }
@@ -145,10 +143,8 @@ fn entry16_of(page: &[u8], table: u64, offset: u64) -> Found16
     ensures { λ r. ⌜ fetched16 r ≡ entry 2 (ofImage (now (page .entry))) offset ⌝ }
     ensures { λ r. ⌜ missed16 r (table + offset) ≡ table + offset ⌝ }
 {
-    if page.len() < 4096 {
-        if (page.len() as u64) < offset + 16 {
-            return Found16::Missing(table + offset);
-        }
+    if (page.len() as u64) <= offset + 15 {
+        return Found16::Missing(table + offset);
     }
     Found16::Entry(load16(page, offset as usize))
 }
