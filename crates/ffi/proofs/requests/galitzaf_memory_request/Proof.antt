@@ -26,7 +26,7 @@ unfolding memoryCall
 returns-4 c =
     let second = c .before .before in
     let first = second .before in
-    rw (← first .before .malformed .ensures, first .if1 .left, eq-eqb _ _ (second .if2 .left), eq-eqb _ _ (c .before .if3 .left), lt-ltb _ _ (c .if4 .taken))
+    rw (← first .before .malformed .ensures, first .if1 .left, eq-eqb _ _ (second .if2 .left), eq-eqb _ _ (c .before .if3 .left), lt-ltb 1 _ (c .if4 .taken))
 
 unpack-requires : tie.Need-unpack-requires
 unpack-requires c κs =
