@@ -25,6 +25,11 @@ static uint32_t memory(uint16_t source, uint64_t address, uint8_t write)
     return galitzaf_memory_request(registers, sizeof registers, GALITZAF_WINDOWS(windows, count), (uint8_t *)image, length, source, address, write, answer, sizeof answer);
 }
 
+static uint32_t translation(uint16_t source, uint64_t address)
+{
+    return galitzaf_translation_request(registers, sizeof registers, GALITZAF_WINDOWS(windows, count), (uint8_t *)image, length, source, address, answer, sizeof answer);
+}
+
 static uint32_t interrupt(uint16_t source, uint64_t address, uint32_t data)
 {
     return galitzaf_interrupt_request(registers, sizeof registers, GALITZAF_WINDOWS(windows, count), (uint8_t *)image, length, source, address, data, answer, sizeof answer);
@@ -139,6 +144,8 @@ static void print_answer(const char *kind, uint32_t status)
     case GALITZAF_REFUSED: printf("refused %d\n", answer[GALITZAF_REFUSAL]); break;
     case GALITZAF_PASSED: printf("passed\n"); break;
     case GALITZAF_REMAPPED: printf("remapped\n"); break;
+    case GALITZAF_TRANSLATED: printf("page\n"); break;
+    case GALITZAF_EMPTY: printf("empty\n"); break;
     case GALITZAF_POSTED: printf("posted, %s\n", answer[GALITZAF_NOTIFIES] ? "notification" : "no notification"); break;
     default: printf("status %03X\n", (unsigned)status);
     }
@@ -168,7 +175,13 @@ int main(int argc, char **argv)
         uint64_t place = ONE_OF(places), message = ONE_OF(messages), descriptor = ONE_OF(descriptors);
         uint32_t data = below(4) ? 0 : 0x10000;
         uint8_t write = (uint8_t)below(2);
-        switch (below(5)) {
+        switch (below(6)) {
+        case 5: /* mostly of a device whose translation requests aren't blocked */
+            if (below(4))
+                image[0x2100 / 8] |= 4;
+            begin(), status = translation(source, place), end();
+            print_answer("translation", status);
+            break;
         case 0: case 1:
             begin(), status = memory(source, place, write), end();
             print_answer(write ? "write" : "read", status);
