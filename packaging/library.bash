@@ -8,7 +8,7 @@ fi
 cd "$(dirname "${BASH_SOURCE[0]}")/.." || exit 2
 
 # The Rattle crate that exports the C interface, and the archive that `rt staticlib` writes for it.
-library=ffi
+library=galitzaf
 archive=${GALITZAF_LIB_DIR:-$PWD/target/staticlib}/lib$library.a
 # Whether it has to be made: there is none, or a source is newer.
 stale() {

@@ -7,21 +7,14 @@
 //! alone; other targets are refused.
 
 use std::env;
-use std::fs;
 use std::path::{Path, PathBuf};
 use std::process::Command;
 
-/// The Rattle crate that exports the C interface.
-const CRATE: &str = "ffi";
+/// The Rattle crate that exports the C interface, and the name it is linked under.
+const CRATE: &str = "galitzaf";
 
-/// The archive that `rt staticlib` writes for it.
-const ARCHIVE: &str = "libffi.a";
-
-/// The archive as `make install` names it.
-const INSTALLED: &str = "libgalitzaf.a";
-
-/// The name it is linked under. Linked under its own, `-lffi` could find the system's libffi.
-const LINK_NAME: &str = "galitzaf_ffi";
+/// The archive that `rt staticlib` writes for it and `make install` puts in place.
+const ARCHIVE: &str = "libgalitzaf.a";
 
 fn main() {
     println!("cargo:rerun-if-env-changed=GALITZAF_LIB_DIR");
@@ -45,20 +38,18 @@ fn hosted() -> Result<(), String> {
 }
 
 fn link() -> Result<(), String> {
-    println!("cargo:rustc-link-lib=static={LINK_NAME}");
+    println!("cargo:rustc-link-lib=static={CRATE}");
     let Some(archive) = find()? else {
         println!(
             "cargo:warning=no target/staticlib/{ARCHIVE} and no `rt` on PATH to make it: this can be checked and \
              documented, not linked. To link, install the Rattle kit, or set GALITZAF_LIB_DIR to a folder that has \
-             {INSTALLED}"
+             {ARCHIVE}"
         );
         return Ok(());
     };
     println!("cargo:rerun-if-changed={}", archive.display());
-    let out = PathBuf::from(env::var_os("OUT_DIR").ok_or("OUT_DIR is not set")?);
-    let copy = out.join(format!("lib{LINK_NAME}.a"));
-    fs::copy(&archive, &copy).map_err(|e| format!("{}: {e}", archive.display()))?;
-    println!("cargo:rustc-link-search=native={}", out.display());
+    let folder = archive.parent().ok_or("the archive stands at the root")?;
+    println!("cargo:rustc-link-search=native={}", folder.display());
     Ok(())
 }
 
@@ -97,17 +88,15 @@ fn named(dir: &Path) -> Result<PathBuf, String> {
     } else {
         PathBuf::new()
     };
-    let folder = from.join(dir);
-    [INSTALLED, ARCHIVE]
-        .map(|name| folder.join(name))
-        .into_iter()
-        .find(|archive| archive.is_file())
-        .ok_or_else(|| {
-            format!(
-                "GALITZAF_LIB_DIR has no {INSTALLED} and no {ARCHIVE}: {}",
-                folder.display()
-            )
-        })
+    let archive = from.join(dir).join(ARCHIVE);
+    if archive.is_file() {
+        Ok(archive)
+    } else {
+        Err(format!(
+            "GALITZAF_LIB_DIR has no {ARCHIVE}: {}",
+            from.join(dir).display()
+        ))
+    }
 }
 
 fn installed(program: &str) -> bool {

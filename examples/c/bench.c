@@ -1,8 +1,8 @@
 /* The bench image of document 01: its twelve cases, a round of the fault recorder and malformed calls, over
  * galitzaf.h. bench.stdout has what it prints.
  *
- *     rt staticlib ffi
- *     cc -std=c11 -Iinclude examples/c/bench.c target/staticlib/libffi.a -o bench
+ *     rt staticlib galitzaf
+ *     cc -std=c11 -Iinclude examples/c/bench.c target/staticlib/libgalitzaf.a -o bench
  */
 #include "galitzaf.h"
 

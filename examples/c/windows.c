@@ -1,8 +1,8 @@
 /* Guest memory with a hole, over galitzaf.h: root and context table at 4 GiB, page tables, interrupt table and a
  * posted descriptor below the hole. windows.stdout has what it prints.
  *
- *     rt staticlib ffi
- *     cc -std=c11 -Iinclude examples/c/windows.c target/staticlib/libffi.a -o windows
+ *     rt staticlib galitzaf
+ *     cc -std=c11 -Iinclude examples/c/windows.c target/staticlib/libgalitzaf.a -o windows
  */
 #include "galitzaf.h"
 

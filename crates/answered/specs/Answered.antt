@@ -7,7 +7,7 @@ use Rattle.faults.specs.Record.{FaultAnswer}
 use Rattle.dma.specs.Requests as dma
 use Rattle.dma.specs.declared.MemoryRequest.{MemoryRequest}
 use Rattle.irte.specs.Irte.{Remapped}
-use Rattle.interrupts.specs.Descriptor.{Notice, silent, notice}
+use Rattle.interrupts.specs.Descriptor.{Notification, silent, notification}
 use Rattle.interrupts.specs.Interrupts as interrupts
 use Rattle.interrupts.specs.declared.InterruptRequest.{InterruptRequest}
 use Rattle.traced.specs.declared.Traced.{Traced}
@@ -66,9 +66,9 @@ raised q answer flags vector posted destination value =
 abbrev pub modesOf : Remapped → ℕ
 modesOf r = flagOf (r .destinationMode) + 2 * flagOf (r .redirectionHint) + 4 * flagOf (r .trigger) + 8 * (r .delivery % 8)
 
-abbrev pub postTraced : InterruptRequest → (descriptor posted : ℕ) → Notice → Traced
+abbrev pub postTraced : InterruptRequest → (descriptor posted : ℕ) → Notification → Traced
 postTraced q descriptor posted silent = raised q 6 0 0 posted 0 descriptor
-postTraced q descriptor posted (notice vector destination) = raised q 7 0 vector posted destination descriptor
+postTraced q descriptor posted (notification vector destination) = raised q 7 0 vector posted destination descriptor
 
 unfoldable pub interruptTraced : InterruptRequest → interrupts.InterruptOutcome → Place → Traced
 interruptTraced q interrupts.passed place = plain 3 (q .source .id) (q .address) (q .«data») 4 0 0 0

@@ -2,11 +2,11 @@
 ghost use mathlib.Core.Path.{_≡_};
 ghost use Prim.Native.Nat.{_<_};
 ghost use Rattle.image.specs.Entries.{placeOf};
-ghost use Rattle.faults.specs.Fault.{faultOf};
+ghost use Rattle.faults.specs.Answers.{faultOf};
 ghost use Rattle.dma.specs.Answers.{outcomeOf, entryOf};
-ghost use Rattle.irte.specs.Checked.{remappedOf};
+ghost use Rattle.irte.specs.Answers.{remappedOf};
 ghost use Rattle.interrupts.specs.Answers as interrupts;
-ghost use Rattle.interrupts.specs.Checked.{dueOf};
+ghost use Rattle.interrupts.specs.Answers.{dueOf};
 ghost use Rattle.answered.specs.Answered.{plain, faulted, flagOf, kindOf, memoryTraced, raised, modesOf, postTraced, interruptTraced};
 use dma::MemoryAnswer;
 use dma::MemoryRequest;
@@ -14,7 +14,7 @@ use faults::Fault;
 use image::EntryAddress;
 use interrupts::InterruptAnswer;
 use interrupts::InterruptRequest;
-use interrupts::Notice;
+use interrupts::Notification;
 use interrupts::Posted;
 use interrupts::Remapped;
 use traced::Traced;
@@ -31,7 +31,7 @@ const REMAPPED: u8 = 5;
 
 const POSTED: u8 = 6;
 
-const NOTICED: u8 = 7;
+const NOTIFIED: u8 = 7;
 
 // A request with nothing but its answer's number.
 fn asked(kind: u8, source: u16, address: u64, data: u32) -> Traced
@@ -140,22 +140,22 @@ fn remapped(request: InterruptRequest, r: Remapped) -> Traced
 }
 
 fn posted(request: InterruptRequest, p: Posted) -> Traced
-    ensures { λ r. ⌜ r ≡ postTraced request (p .descriptor) (p .vector) (dueOf (p .notice)) ⌝ }
+    ensures { λ r. ⌜ r ≡ postTraced request (p .descriptor) (p .vector) (dueOf (p .notification)) ⌝ }
 {
     let e = message(request);
-    let due = p.notice;
+    let due = p.notification;
     match due {
-        Notice::Silent => Traced {
+        Notification::Silent => Traced {
             answer: POSTED,
             posted: p.vector,
             value: p.descriptor,
             ..e
         },
-        Notice::Due {
+        Notification::Due {
             vector,
             destination,
         } => Traced {
-            answer: NOTICED,
+            answer: NOTIFIED,
             vector,
             posted: p.vector,
             destination,

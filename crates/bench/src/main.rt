@@ -5,7 +5,7 @@ use unit::InterruptAnswer;
 use unit::InterruptRequest;
 use unit::MemoryAnswer;
 use unit::MemoryRequest;
-use unit::Notice;
+use unit::Notification;
 use unit::Posted;
 use unit::Registers;
 use unit::Remapped;
@@ -125,21 +125,21 @@ fn print_remapped(remapped: Remapped) {
 }
 
 fn print_posted(posted: Posted) {
-    let notice = posted.notice;
+    let notification = posted.notification;
     text(b"posted ");
     hex(posted.vector as u64);
-    match notice {
-        Notice::Due {
+    match notification {
+        Notification::Due {
             vector,
             destination,
         } => {
-            text(b", notice ");
+            text(b", notification ");
             hex(vector as u64);
             text(b" to ");
             hex(destination as u64);
             text(b"\n");
         }
-        Notice::Silent => text(b", no notice\n"),
+        Notification::Silent => text(b", no notification\n"),
     }
 }
 

@@ -28,7 +28,7 @@ use Rattle.dma.specs.Root.{rootReserved, rootCheck}
 use Rattle.dma.specs.Translation.{widthRules}
 use Rattle.dma.specs.Walk.{walkRules}
 use Rattle.interrupts.specs.Claims.{outcome, namedWords, AccessFault}
-use Rattle.interrupts.specs.Descriptor.{notice, descriptorCheck}
+use Rattle.interrupts.specs.Descriptor.{notification, descriptorCheck}
 use Rattle.interrupts.specs.Interrupts.{posted, descriptorRules, indexRules, requestRules, interruptRules}
 use Rattle.irte.specs.Irte.{reservedIrte, irteCheck}
 use Rattle.interrupts.specs.Request.{requestCheck}
@@ -157,7 +157,7 @@ interrupt-answered : AccessFault (outcome benchRegisters remaps (ofImage bench))
 unfolding bench layout bytesOf littleEndian bits wordAt ofImage entry run mapRules admission registersBad indexRules requestRules interruptRules reservedIrte irteCheck requestCheck sourceAllowed
 interrupt-answered fault = fault
 
-post-answered : outcome benchRegisters posts (ofImage (take 0x6440 bench)) ≡ posted 0x6400 0x31 (notice 0xF2 7)
+post-answered : outcome benchRegisters posts (ofImage (take 0x6440 bench)) ≡ posted 0x6400 0x31 (notification 0xF2 7)
 unfolding bench layout bytesOf littleEndian bits wordAt ofImage entry run mapRules admission registersBad descriptorRules indexRules requestRules interruptRules reservedIrte irteCheck requestCheck sourceAllowed descriptorCheck
 post-answered = refl
 

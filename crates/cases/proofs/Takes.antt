@@ -17,7 +17,7 @@ use Rattle.registers.specs.Admission.{admission}
 use Rattle.registers.specs.Registers.{registersBad}
 use Rattle.irte.specs.Irte.{reservedIrte, irteCheck}
 use Rattle.irte.specs.Source.{sourceAllowed}
-use Rattle.interrupts.specs.Descriptor.{notice, descriptorCheck}
+use Rattle.interrupts.specs.Descriptor.{notification, descriptorCheck}
 use Rattle.interrupts.specs.Interrupts.{posted, interruptAnswer, descriptorRules, indexRules, requestRules, interruptRules}
 use Rattle.interrupts.specs.Post.{setBit}
 use Rattle.interrupts.specs.Request.{requestCheck}
@@ -46,7 +46,7 @@ unfolding small withRequests bytesOf
 full-bytes = below full refl
 
 -- both post to the descriptor at 64, behind the entries
-posts-to-64 : (interruptAnswer registers posts31 window empty ≡ posted 64 0x31 (notice 0 0)) × (interruptAnswer registers postsF0 window empty ≡ posted 64 0xF0 (notice 0 0))
+posts-to-64 : (interruptAnswer registers posts31 window empty ≡ posted 64 0x31 (notification 0 0)) × (interruptAnswer registers postsF0 window empty ≡ posted 64 0xF0 (notification 0 0))
 unfolding withRequests bytesOf littleEndian bits windowsOf spotIn entryIn ofWindows byteAt badWithAny badList badWindows flat entry run mapRules admission registersBad descriptorRules indexRules requestRules interruptRules reservedIrte irteCheck requestCheck sourceAllowed descriptorCheck
 posts-to-64 = (refl, refl)
 
@@ -81,7 +81,7 @@ takes-met =
       still-stands = refl;
       apart = apart;
       apart-back = apart-back;
-      one-notice = refl;
+      one-notification = refl;
       its-post = refl;
       its-entry = refl;
       its-svt = refl;

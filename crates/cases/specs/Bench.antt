@@ -12,7 +12,7 @@ use Rattle.registers.specs.declared.Registers.{Registers}
 use Rattle.faults.specs.Record.{FaultAnswer}
 use Rattle.dma.specs.Requests.{MemoryOutcome, granted, blocked, refused, memoryAnswer, memoryAnswerPlace}
 use Rattle.dma.specs.declared.MemoryRequest.{MemoryRequest}
-use Rattle.interrupts.specs.Descriptor.{silent, notice}
+use Rattle.interrupts.specs.Descriptor.{silent, notification}
 use Rattle.interrupts.specs.Interrupts as interrupts
 use Rattle.interrupts.specs.Post.{written}
 use Rattle.interrupts.specs.declared.InterruptRequest.{InterruptRequest}
@@ -174,12 +174,12 @@ rows image =
     ∷ row 11 image 0x0310 (interrupt 0xFEEFFFFC 3) (stopped 0x21 0xFFFF000000000000 0x8000002100000310 noEntry)
     -- its second row: again, over what the first left
     ∷ row 12 image 0x0310 (interrupt 0xFEE00090 0)
-    (becomes (interrupts.posted 0x6400 0x31 (notice 0xF2 7)) ((0x6406, 2) ∷ (0x6420, 1) ∷ []))
+    (becomes (interrupts.posted 0x6400 0x31 (notification 0xF2 7)) ((0x6406, 2) ∷ (0x6420, 1) ∷ []))
     ∷ row 12 (changed ((0x6406, 2) ∷ (0x6420, 1) ∷ []) image) 0x0310 (interrupt 0xFEE00090 0)
     (becomes (interrupts.posted 0x6400 0x31 silent) [])
     -- document 02, Ask 2: the entry's URG with SN set; with ON already set; SN set without URG
     ∷ row 12 (changed ((0x6041, 0xC0) ∷ (0x6420, 2) ∷ []) image) 0x0310 (interrupt 0xFEE00090 0)
-    (becomes (interrupts.posted 0x6400 0x31 (notice 0xF2 7)) ((0x6406, 2) ∷ (0x6420, 3) ∷ []))
+    (becomes (interrupts.posted 0x6400 0x31 (notification 0xF2 7)) ((0x6406, 2) ∷ (0x6420, 3) ∷ []))
     ∷ row 12 (changed ((0x6041, 0xC0) ∷ (0x6420, 1) ∷ []) image) 0x0310 (interrupt 0xFEE00090 0)
     (becomes (interrupts.posted 0x6400 0x31 silent) ((0x6406, 2) ∷ []))
     ∷ row 12 (changed ((0x6420, 2) ∷ []) image) 0x0310 (interrupt 0xFEE00090 0)

@@ -11,7 +11,7 @@ use Rattle.dma.specs.Isolation.{answerOver, accessFault, walkedByAny, Apart, Sw
 use Rattle.dma.specs.Requests.{granted, memoryRules}
 use Rattle.dma.specs.declared.MemoryRequest.{MemoryRequest}
 use Rattle.interrupts.specs.Claims.{outcome, namedWords, AccessFault}
-use Rattle.interrupts.specs.Descriptor.{notice}
+use Rattle.interrupts.specs.Descriptor.{notification}
 use Rattle.interrupts.specs.Interrupts.{posted}
 use Rattle.interrupts.specs.declared.InterruptRequest.{InterruptRequest}
 use Rattle.cases.specs.Bench.{bench, benchRegisters, memoryRequest, interruptRequest}
@@ -42,10 +42,10 @@ pub record PremisesMet : Type 0 where
   -- 1, memory requests: an image that ends behind the last word that the read names
   pub memory-answered : accessFault (answerOver benchRegisters reads (ofImage bench)) ≡ false
   pub memory-alike : SameIn (named (memoryRules benchRegisters reads) (ofImage bench)) (ofImage bench) (ofImage (take 0x5010 bench))
-  -- 1, interrupts: one that ends behind the entry; and, with a notice among the answer's parts, one that goes on behind the descriptor
+  -- 1, interrupts: one that ends behind the entry; and, with a notification among the answer's parts, one that goes on behind the descriptor
   pub interrupt-answered : AccessFault (outcome benchRegisters remaps (ofImage bench)) → ⊥
   pub interrupt-alike : SameWords bench (take 0x6030 bench) (namedWords benchRegisters remaps (ofImage bench))
-  pub post-answered : outcome benchRegisters posts (ofImage (take 0x6440 bench)) ≡ posted 0x6400 0x31 (notice 0xF2 7)
+  pub post-answered : outcome benchRegisters posts (ofImage (take 0x6440 bench)) ≡ posted 0x6400 0x31 (notification 0xF2 7)
   pub post-alike : SameWords (take 0x6440 bench) bench (namedWords benchRegisters posts (ofImage (take 0x6440 bench)))
   -- 2: write switched on in the read's leaf and in an entry of the walker that ended in an access fault
   pub walker-faulted : accessFault (answerOver benchRegisters beyond (ofImage readable)) ≡ true

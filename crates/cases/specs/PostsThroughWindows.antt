@@ -9,7 +9,7 @@ use Rattle.image.specs.Bytes.{bytesOf}
 use Rattle.image.specs.Place.{entryAt}
 use Rattle.image.specs.Windows.{badWindows}
 use Rattle.registers.specs.declared.Registers.{Registers}
-use Rattle.interrupts.specs.Descriptor.{notice}
+use Rattle.interrupts.specs.Descriptor.{notification}
 use Rattle.interrupts.specs.Interrupts as interrupts
 use Rattle.takes.specs.Runs.{request, take, left}
 use Rattle.takes.specs.Take as takes
@@ -44,7 +44,7 @@ posted = set (set run 6 2) 32 1
 
 pub record PostsThroughWindows : Type 0 where
   pub fine : badWindows two (length run) ≡ false
-  pub answered : interrupts.interruptAnswer registers posts31 two run ≡ interrupts.posted 0x5000 0x31 (notice 0 0)
+  pub answered : interrupts.interruptAnswer registers posts31 two run ≡ interrupts.posted 0x5000 0x31 (notification 0 0)
   pub written : left two (request registers posts31 ∷ []) run ≡ posted
   pub handed : takes.takeAnswer registers 0x5000 two posted ≡ takes.handed 0x31
   pub taken : left two (request registers posts31 ∷ take registers 0x5000 ∷ []) run ≡ run

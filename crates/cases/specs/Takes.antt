@@ -10,11 +10,11 @@ use Rattle.image.specs.Memory.{found, entry}
 use Rattle.image.specs.Windows.{ofWindows, flat}
 use Rattle.registers.specs.declared.Registers.{Registers}
 use Rattle.interrupts.specs.Claims.{entryAt}
-use Rattle.interrupts.specs.Descriptor.{notice}
+use Rattle.interrupts.specs.Descriptor.{notification}
 use Rattle.interrupts.specs.Interrupts.{posted, interruptAnswer}
 use Rattle.interrupts.specs.declared.InterruptRequest.{InterruptRequest}
 use Rattle.takes.specs.Claims.{Apart}
-use Rattle.takes.specs.Runs.{Operation, request, take, left, count, stands, standingFrom, takesAt, handsOut, postsAt, postsClear, notices}
+use Rattle.takes.specs.Runs.{Operation, request, take, left, count, stands, standingFrom, takesAt, handsOut, postsAt, postsClear, notifications}
 use Rattle.takes.specs.Take as rules
 use Rattle.takes.specs.Take.{takeAnswer}
 use Rattle.cases.specs.Bench.{interruptRequest}
@@ -96,12 +96,12 @@ pub record TakesMet : Type 0 where
   pub found-clear : count window (postsClear window 64 0x31) (request registers posts31 ∷ take registers 64 ∷ request registers posts31 ∷ request registers posts31 ∷ []) one ≡ 1
   pub handed-once : count window (handsOut window 64 0x31) (request registers posts31 ∷ take registers 64 ∷ request registers posts31 ∷ request registers posts31 ∷ []) one ≡ 1
   pub still-stands : stands window 64 (left window (request registers posts31 ∷ take registers 64 ∷ request registers posts31 ∷ request registers posts31 ∷ []) one) 0x31 ≡ true
-  -- two posts to one descriptor: neither's entry shares a byte with it, and there is one notice
+  -- two posts to one descriptor: neither's entry shares a byte with it, and there is one notification
   pub apart : Apart registers posts31 postsF0 window empty
   pub apart-back : Apart registers postsF0 posts31 window empty
-  pub one-notice : count window (notices window) (request registers posts31 ∷ request registers postsF0 ∷ []) empty ≡ 1
+  pub one-notification : count window (notifications window) (request registers posts31 ∷ request registers postsF0 ∷ []) empty ≡ 1
   -- the first entry is for source 0310h alone: SVT 1, SQ 0
-  pub its-post : interruptAnswer registers posts31 window empty ≡ posted 64 0x31 (notice 0 0)
+  pub its-post : interruptAnswer registers posts31 window empty ≡ posted 64 0x31 (notification 0 0)
   pub its-entry : entry 2 (ofWindows window empty) (entryAt registers posts31) ≡ found (0x40310 * 2 ^ 64 + 0x4000318001)
   pub its-svt : bits (0x40310 * 2 ^ 64 + 0x4000318001) 83 82 ≡ 1
   pub its-sq : bits (0x40310 * 2 ^ 64 + 0x4000318001) 81 80 ≡ 0

@@ -21,7 +21,7 @@ use Rattle.translation.proofs.Types.{only-type-1}
 use Rattle.interrupts.proofs.Exact.{sets-exactly, leaves-all, stays-inside}
 use Rattle.interrupts.proofs.Isolation.{isolated, same-bits}
 use Rattle.interrupts.proofs.Named.{index-bound, entry-of-index, no-wrap, at-most-ten, none-before-table}
-use Rattle.interrupts.proofs.Notices.{notice-exactly}
+use Rattle.interrupts.proofs.Notifications.{notification-exactly}
 use Rattle.interrupts.proofs.Unfetched.{interrupt-access-means-unfetched}
 use Rattle.interrupts.proofs.RaisedBy.{remapped-by-entry, posted-by-entry, one-source, exact-source}
 use Rattle.takes.proofs.Conserved.{conserved, none-invented}
@@ -50,7 +50,7 @@ everything =
       one-source = one-source;
       exact-source = exact-source;
       sets-exactly = sets-exactly;
-      notice-exactly = notice-exactly;
+      notification-exactly = notification-exactly;
       stays-inside = stays-inside;
       index-bound = index-bound;
       entry-of-index = entry-of-index;

@@ -9,7 +9,7 @@ use trace::append;
 use trace::close;
 use trace::is_damaged;
 
-// A read that is granted, a fault with its entry's address, a remapped interrupt, a post with a notice.
+// A read that is granted, a fault with its entry's address, a remapped interrupt, a post with a notification.
 fn entry(i: u8) -> Traced {
     let none = Traced {
         kind: 1,

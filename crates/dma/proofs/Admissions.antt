@@ -8,14 +8,14 @@ use Rattle.image.specs.Rules.{run}
 use Rattle.image.proofs.Places.{tried-map}
 use Rattle.image.proofs.Trees.{run-map}
 use Rattle.registers.proofs.Good.{taken-good}
-use Rattle.registers.specs.Admission.{Admitted, refusal, pass, take, admission, inInterruptRange}
+use Rattle.registers.specs.Admission.{Admitted, refusal, pass, takenUp, admission, inInterruptRange}
 use Rattle.registers.specs.declared.Registers.{Registers}
 use Rattle.dma.specs.Requests.{MemoryOutcome, granted, refused, memoryOutcome, memoryRules}
 use Rattle.dma.specs.Translation.{translationRules}
 use Rattle.dma.specs.declared.MemoryRequest.{MemoryRequest}
 
 -- registers under which a request is taken up have a root table that begins a page
-pub taken-root : (registers : Registers) (wrong on : Bool) → take ≡ admission registers wrong on → registers .«root_table» % 4096 ≡ 0
+pub taken-root : (registers : Registers) (wrong on : Bool) → takenUp ≡ admission registers wrong on → registers .«root_table» % 4096 ≡ 0
 taken-root registers wrong on h = taken-good registers wrong on h .root .aligned
 
 module _ (registers : Registers) (request : MemoryRequest) (m : Memory) where
@@ -32,12 +32,12 @@ module _ (registers : Registers) (request : MemoryRequest) (m : Memory) where
     unfolding memoryRules run
     passes h = rw (← kind, ← h)
 
-    pub takes : take ≡ admitted wrong
+    pub takes : takenUp ≡ admitted wrong
         → memoryOutcome request (run (translationRules registers (request .address) (request .write) (request .source .id)) m) ≡ run (memoryRules registers request) m
     unfolding memoryRules
     takes h = rw (← kind, ← h) (sym (run-map (memoryOutcome request) (translationRules registers (request .address) (request .write) (request .source .id)) m))
 
-    pub takes-at : take ≡ admitted wrong
+    pub takes-at : takenUp ≡ admitted wrong
         → stoppedAt (translationRules registers (request .address) (request .write) (request .source .id)) m ≡ stoppedAt (memoryRules registers request) m
     unfolding memoryRules
     takes-at h =

@@ -9,7 +9,7 @@ use Rattle.image.specs.EntryKind.{EntryKind}
 use Rattle.image.specs.Memory.{Memory}
 use Rattle.image.specs.Rules.{Rules, run, mapRules}
 use Rattle.image.proofs.Forks.{Every, every-answer, every-more, every-run, every-map, every-weaken}
-use Rattle.registers.specs.Admission.{Admitted, refusal, pass, take, admission, onAdmission, inInterruptRange}
+use Rattle.registers.specs.Admission.{Admitted, refusal, pass, takenUp, admission, onAdmission, inInterruptRange}
 use Rattle.registers.specs.declared.Registers.{Registers}
 use Rattle.faults.specs.Record.{memoryFault}
 use Rattle.dma.specs.Context.{faultProcessingDisabled}
@@ -128,7 +128,7 @@ module _ (registers : Registers) (request : MemoryRequest) where
           → Every Fork Ends 9 (onAdmission k refused (granted (request .address)) (mapRules (memoryOutcome request) rules))
       on (refusal n) h = every-answer Fork Ends 9 (refused n) (λ is. let z : _≡_ {A = ℕ} 0 1 = cc in omega arith)
       on pass h = every-answer Fork Ends 9 (granted (request .address)) (no-grant (request .address))
-      on take taken =
+      on takenUp taken =
           every-map (memoryOutcome request) Fork Ends 9 rules
           (every-weaken Asks Asks Says (λ t. Ends (memoryOutcome request t)) (λ kind at t h. h) (λ t h. h .1) 9 rules
           (translation-forks (taken-root registers _ (registers .te) taken)))

@@ -3,7 +3,7 @@ use Prim.Native.Nat.{ℕ, _^_, _<_}
 use mathlib.Core.Path.{_≡_, refl, ap, ap₂}
 use native.Mathlib.Omega.{arith}
 use Rattle.image.proofs.Places.{placeOf-injective}
-use Rattle.faults.specs.Fault.{faultOf}
+use Rattle.faults.specs.Answers.{faultOf}
 use Rattle.faults.proofs.Contents.{faultOf-injective}
 use Rattle.dma.specs.Answers.{outcomeOf, entryOf}
 use Rattle.dma.specs.Requests.{MemoryOutcome, granted, blocked, refused}

@@ -5,7 +5,7 @@ use mathlib.Core.Path.{_≡_, refl, ap, sym, _∙_}
 use mathlib.Core.List.{List, [], _∷_, _++_}
 use Rattle.image.specs.Rules.{mapRules, named}
 use Rattle.image.proofs.Forks.{every-named}
-use Rattle.registers.specs.Admission.{Admitted, refusal, pass, take, admission, onAdmission, inInterruptRange}
+use Rattle.registers.specs.Admission.{Admitted, refusal, pass, takenUp, admission, onAdmission, inInterruptRange}
 use Rattle.registers.specs.declared.Registers.{Registers}
 use Rattle.dma.specs.Named.{AtMostNine, NoneUntaken}
 use Rattle.dma.specs.Requests.{MemoryOutcome, granted, refused, memoryOutcome, memoryRules}
@@ -22,8 +22,8 @@ unfolding memoryRules named
 none-untaken registers request m = on (admission registers (inInterruptRange (request .address)) (registers .te)) refl
   where
     on : (k : Admitted) → k ≡ admission registers (inInterruptRange (request .address)) (registers .te)
-        → (take ≡ admission registers (inInterruptRange (request .address)) (registers .te) → ⊥)
+        → (takenUp ≡ admission registers (inInterruptRange (request .address)) (registers .te) → ⊥)
         → named (onAdmission k refused (granted (request .address)) (mapRules (memoryOutcome request) (translationRules registers (request .address) (request .write) (request .source .id)))) m ≡ []
     on (refusal n) h not = refl
     on pass h not = refl
-    on take h not = absurd (not h)
+    on takenUp h not = absurd (not h)

@@ -9,7 +9,7 @@ use lib.Dec.{leb, ltb}
 use Rattle.image.specs.Choice.{if_then_else_}
 use Rattle.image.specs.Memory.{Memory}
 use Rattle.image.specs.Rules.{Rules, run}
-use Rattle.registers.specs.Admission.{Admitted, refusal, pass, take, admission, inInterruptRange}
+use Rattle.registers.specs.Admission.{Admitted, refusal, pass, takenUp, admission, inInterruptRange}
 use Rattle.registers.specs.Registers.{registersBad}
 use Rattle.registers.specs.declared.Registers.{Registers}
 use Rattle.dma.specs.InterruptRange.{meetsInterruptRange, spanAt}
@@ -75,7 +75,7 @@ module _ (registers : Registers) (request : MemoryRequest) (m : Memory) (host : 
   unfolding admission
   admitted-outside = by (registersBad registers) (inInterruptRange (request .address)) (registers .te)
     where
-      by : (bad wrong on : Bool) → ((n : ℕ) → refusal n ≡ (if bad then refusal 1 else if wrong then refusal 2 else if on then take else pass) → ⊥)
+      by : (bad wrong on : Bool) → ((n : ℕ) → refusal n ≡ (if bad then refusal 1 else if wrong then refusal 2 else if on then takenUp else pass) → ⊥)
           → wrong ≡ false
       by true wrong on not = absurd (not 1 refl)
       by false true on not = absurd (not 2 refl)
@@ -100,7 +100,7 @@ module _ (registers : Registers) (request : MemoryRequest) (m : Memory) (host : 
       let is : granted (request .address) ≡ granted host = passes registers request m refl h ∙ was in
       let same : host ≡ request .address = cc in
       rw same (admitted-outside (λ n other. let z : _≡_ {A = ℕ} 0 1 = cc in omega arith))
-  admitted take h was =
+  admitted takenUp h was =
       translated (admitted-outside (λ n other. let z : _≡_ {A = ℕ} 0 1 = cc in omega arith)) (run rules m)
       (takes registers request m refl h ∙ was)
 

@@ -5,7 +5,7 @@ use native.Mathlib.Omega.{arith}
 use Rattle.image.specs.Place.{Place, noEntry, entryAt, stoppedAt}
 use Rattle.image.specs.Rules.{Rules, run, mapRules}
 use Rattle.image.proofs.Places.{Some, some-fetch, tried-map}
-use Rattle.registers.specs.Admission.{Admitted, refusal, pass, take, admission, onAdmission, inInterruptRange}
+use Rattle.registers.specs.Admission.{Admitted, refusal, pass, takenUp, admission, onAdmission, inInterruptRange}
 use Rattle.registers.specs.declared.Registers.{Registers}
 use Rattle.dma.specs.Isolation.{AlwaysAnEntry}
 use Rattle.dma.specs.Lookup.{rootRules}
@@ -27,7 +27,7 @@ always-an-entry registers request m f ended none = on (admission registers (inIn
         → concerned (run (tree a) m) (stoppedAt (tree a) m) ≡ noEntry → ⊥
     on (refusal n) ended none = let z : _≡_ {A = ℕ} 0 1 = cc in omega arith
     on pass ended none = let z : _≡_ {A = ℕ} 0 1 = cc in omega arith
-    on take ended none =
-        let there : stoppedAt (tree take) m ≡ noEntry = rw ended at none in
+    on takenUp ended none =
+        let there : stoppedAt (tree takenUp) m ≡ noEntry = rw ended at none in
         subst Some (sym (tried-map (memoryOutcome request) noEntry rules m) ∙ there)
         (some-fetch _ _ _ _ m)

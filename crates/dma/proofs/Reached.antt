@@ -17,7 +17,7 @@ use Rattle.image.specs.Rules.{Rules, answer, fetch, run, entriesOf}
 use Rattle.image.proofs.Forks.{every-run}
 use Rattle.image.proofs.Same.{one-word}
 use Rattle.image.proofs.Trees.{entries-map}
-use Rattle.registers.specs.Admission.{Admitted, refusal, pass, take, admission, inInterruptRange}
+use Rattle.registers.specs.Admission.{Admitted, refusal, pass, takenUp, admission, inInterruptRange}
 use Rattle.registers.specs.Registers.{registersBad}
 use Rattle.registers.specs.Source.{busOf, devfnOf}
 use Rattle.registers.specs.declared.Registers.{Registers}
@@ -282,7 +282,7 @@ module _ (registers : Registers) (request : MemoryRequest) (m : Memory) where
   abbrev rules : Rules Translation
   rules = translationRules registers (request .address) (request .write) (request .source .id)
 
-  walked-pages : take ≡ admission registers (inInterruptRange (request .address)) (registers .te)
+  walked-pages : takenUp ≡ admission registers (inInterruptRange (request .address)) (registers .te)
       → walked registers request m ≡ entriesOf isPage rules m
   unfolding memoryRules
   walked-pages taken = rw (← taken) (entries-map (memoryOutcome request) isPage rules m)
@@ -296,7 +296,7 @@ module _ (registers : Registers) (request : MemoryRequest) (m : Memory) where
   unfolding admission
   switched-off = by (registersBad registers) (inInterruptRange (request .address)) (registers .te)
     where
-      by : (bad wrong on : Bool) → pass ≡ (if bad then refusal 1 else if wrong then refusal 2 else if on then take else pass) → on ≡ false
+      by : (bad wrong on : Bool) → pass ≡ (if bad then refusal 1 else if wrong then refusal 2 else if on then takenUp else pass) → on ≡ false
       by true wrong on h = let z : _≡_ {A = ℕ} 0 1 = cc in absurd (omega arith)
       by false true on h = let z : _≡_ {A = ℕ} 0 1 = cc in absurd (omega arith)
       by false false true h = let z : _≡_ {A = ℕ} 0 1 = cc in absurd (omega arith)
@@ -311,7 +311,7 @@ module _ (registers : Registers) (request : MemoryRequest) (m : Memory) where
   admitted host pass h was =
       let is : granted (request .address) ≡ granted host = passes registers request m refl h ∙ was in
       inl (record { no-walk = no-pages h; address = cc; reason = inl (switched-off h) })
-  admitted host take h was =
+  admitted host takenUp h was =
       let width = widthRules registers (request .address) (request .write) in
       after-lookup host (run (lookupRules registers (request .source .id)) m) refl
       (walked-pages h ∙ pages-looked-up registers fault width m (request .source .id))

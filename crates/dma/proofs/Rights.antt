@@ -12,7 +12,7 @@ use Rattle.image.specs.EntryKind.{isRootOrContext}
 use Rattle.image.specs.Memory.{Memory, Fetched, missing, found, join, entry}
 use Rattle.image.specs.Rules.{Rules, run, entriesOf, mapRules}
 use Rattle.image.proofs.Trees.{entries-map}
-use Rattle.registers.specs.Admission.{Admitted, refusal, pass, take, admission, inInterruptRange}
+use Rattle.registers.specs.Admission.{Admitted, refusal, pass, takenUp, admission, inInterruptRange}
 use Rattle.registers.specs.Registers.{registersBad}
 use Rattle.registers.proofs.Good.{good}
 use Rattle.registers.specs.declared.Registers.{Registers}
@@ -76,7 +76,7 @@ still-missing R (found w) (found w′) missing missing first second none = refl
 still-missing R (found w) (found w′) missing (found x′) first second none = absurd second
 still-missing R (found w) (found w′) (found x) g′ first second none = let z : _≡_ {A = ℕ} 0 1 = cc in absurd (omega arith)
 
-module _ (registers : Registers) (request : MemoryRequest) (taken : take ≡ admission registers (inInterruptRange (request .address)) (registers .te)) where
+module _ (registers : Registers) (request : MemoryRequest) (taken : takenUp ≡ admission registers (inInterruptRange (request .address)) (registers .te)) where
   abbrev rules : Rules Translation
   rules = translationRules registers (request .address) (request .write) (request .source .id)
 
@@ -129,11 +129,11 @@ module _ (registers : Registers) (request : MemoryRequest) (taken : take ≡ adm
         }
 
 -- registers that are taken up are good, so HAW is far above the two bits
-taken-haw : (registers : Registers) (wrong on : Bool) → take ≡ admission registers wrong on → 2 ≤ registers .haw
+taken-haw : (registers : Registers) (wrong on : Bool) → takenUp ≡ admission registers wrong on → 2 ≤ registers .haw
 unfolding admission
 taken-haw registers wrong on h = omega (arith, good registers (go (registersBad registers) h) .haw .least)
   where
-    go : (bad : Bool) → take ≡ (if bad then refusal 1 else if wrong then refusal 2 else if on then take else pass) → bad ≡ false
+    go : (bad : Bool) → takenUp ≡ (if bad then refusal 1 else if wrong then refusal 2 else if on then takenUp else pass) → bad ≡ false
     go true h = let z : _≡_ {A = ℕ} 0 1 = cc in absurd (omega arith)
     go false h = refl
 
@@ -144,7 +144,7 @@ granted-at request (fault reason fpd) h = let z : _≡_ {A = ℕ} 0 1 = cc in ab
 
 -- granted over one memory, granted over another with the same tables and raised page entries
 carried : (registers : Registers) (request : MemoryRequest) (m m′ : Memory)
-    → ((taken : take ≡ admission registers (inInterruptRange (request .address)) (registers .te)) → SameTables registers request m m′)
+    → ((taken : takenUp ≡ admission registers (inInterruptRange (request .address)) (registers .te)) → SameTables registers request m m′)
     → ((a : ℕ) → a % 8 ≡ 0 → RaisedFetch (m a) (m′ a))
     → (host : ℕ) → answerOver registers request m ≡ granted host → answerOver registers request m′ ≡ granted host
 carried registers request m m′ same raised host = go (admission registers (inInterruptRange (request .address)) (registers .te)) refl
@@ -153,7 +153,7 @@ carried registers request m m′ same raised host = go (admission registers (inI
         → answerOver registers request m ≡ granted host → answerOver registers request m′ ≡ granted host
     go (refusal n) h was = sym (refuses registers request m′ refl h) ∙ refuses registers request m refl h ∙ was
     go pass h was = sym (passes registers request m′ refl h) ∙ passes registers request m refl h ∙ was
-    go take h was =
+    go takenUp h was =
         let now = run (translationRules registers (request .address) (request .write) (request .source .id)) m in
         let grants : memoryOutcome request now ≡ granted host = takes registers request m refl h ∙ was in
         sym (takes registers request m′ refl h)

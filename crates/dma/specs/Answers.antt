@@ -16,7 +16,7 @@ use Rattle.dma.specs.declared.translation.Translation.{Translation as Tr
 use Rattle.dma.specs.declared.translation.Translation.the-variants as translation
 use Rattle.dma.specs.declared.page.Step.{Step as StepCode}
 use Rattle.dma.specs.declared.page.Step.the-variants as step
-use Rattle.faults.specs.Fault.{faultOf}
+use Rattle.faults.specs.Answers.{faultOf}
 use Rattle.dma.specs.Requests.{MemoryOutcome, granted, blocked, refused}
 use Rattle.dma.specs.declared.MemoryAnswer.{MemoryAnswer}
 use Rattle.dma.specs.declared.MemoryAnswer.the-variants.{Granted, Blocked, Refused}

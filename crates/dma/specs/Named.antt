@@ -5,7 +5,7 @@ use mathlib.Core.List.{[]}
 use lib.ListN.{length}
 use Rattle.image.specs.Memory.{Memory}
 use Rattle.image.specs.Rules.{named}
-use Rattle.registers.specs.Admission.{take, admission, inInterruptRange}
+use Rattle.registers.specs.Admission.{takenUp, admission, inInterruptRange}
 use Rattle.registers.specs.declared.Registers.{Registers}
 use Rattle.dma.specs.Requests.{memoryRules}
 use Rattle.dma.specs.declared.MemoryRequest.{MemoryRequest}
@@ -20,5 +20,5 @@ AtMostNine =
 abbrev pub NoneUntaken : Type 0
 NoneUntaken =
     (registers : Registers) (request : MemoryRequest) (m : Memory)
-    → (take ≡ admission registers (inInterruptRange (request .address)) (registers .te) → ⊥)
+    → (takenUp ≡ admission registers (inInterruptRange (request .address)) (registers .te) → ⊥)
     → named (memoryRules registers request) m ≡ []

@@ -8,7 +8,7 @@ use native.Mathlib.Omega.{arith}
 use Rattle.image.specs.Bits.{bits, inPlace}
 use Rattle.image.specs.Entries.{spell}
 use Rattle.faults.specs.declared.fault.Fault.{Fault}
-use Rattle.faults.specs.Fault.{faultOf, highWord}
+use Rattle.faults.specs.Answers.{faultOf, highWord}
 use Rattle.faults.proofs.Numbers.{numberOf-injective}
 use Rattle.faults.specs.Record.{FaultAnswer, fromBit64, recordable, silenced, memoryRecord, memoryFault, translationRecord, translationFault, indexField, interruptRecord, interruptFault}
 

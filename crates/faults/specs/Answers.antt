@@ -1,6 +1,12 @@
--- What the recorder's calls answer and leave, as the code holds it.
-use Prim.Native.Nat.{ℕ}
-use mathlib.Core.List.{List}
+-- What the code's faults and the recorder's answers say, in document 01's numbers.
+use Prim.Native.Nat.{ℕ, _+_, _*_, _^_}
+use mathlib.Core.Bool.{Bool}
+use mathlib.Core.List.{List, [], _∷_}
+use Rattle.image.specs.Choice.{if_then_else_}
+use Rattle.image.specs.Entries.{spell}
+use Rattle.faults.specs.declared.fault.Fault.{Fault}
+use Rattle.faults.specs.Reason.{numberOf}
+use Rattle.faults.specs.Record.{FaultAnswer}
 use Rattle.faults.specs.declared.recorder.Recorder.{Recorder}
 use Rattle.faults.specs.declared.recorder.RecorderAnswer.{RecorderAnswer}
 use Rattle.faults.specs.declared.recorder.RecorderAnswer.the-variants.{
@@ -28,6 +34,18 @@ use Rattle.faults.specs.Recorder.{
   overflowClear,
   overflowCleared,
 }
+
+abbrev pub faultOf : Fault → FaultAnswer
+faultOf f =
+    record {
+      reason = numberOf (f .reason);
+      recordable = f .recordable;
+      contents = spell (f .low ∷ f .high ∷ []);
+    }
+
+-- bits 127:64 of a record, as a word
+abbrev pub highWord : ℕ → ℕ → Bool → ℕ
+highWord source reason read = source + reason * 2 ^ 32 + (if read then 2 ^ 62 else 0) + 2 ^ 63
 
 abbrev pub answerOf : RecorderAnswer → ℕ
 answerOf Refused = refused

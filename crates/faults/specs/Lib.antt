@@ -1,5 +1,4 @@
 pub mod Answers
-pub mod Fault
 pub mod Reason
 pub mod Record
 pub mod Recorder

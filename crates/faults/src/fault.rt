@@ -2,7 +2,7 @@
 ghost use mathlib.Core.Path.{_≡_};
 ghost use Prim.Native.Nat.{_^_, _<_};
 ghost use Rattle.image.specs.Bytes.{bytesOf};
-ghost use Rattle.faults.specs.Fault.{faultOf, highWord};
+ghost use Rattle.faults.specs.Answers.{faultOf, highWord};
 ghost use Rattle.faults.specs.Reason.{numberOf};
 ghost use Rattle.faults.specs.Record.{within, silenced, recordable, indexField, memoryFault, translationFault, interruptFault};
 use crate::reason::Reason;

@@ -4,7 +4,7 @@ ghost use Prim.Native.Nat.{_%_, _+_, _^_, _<_, _≤_};
 ghost use mathlib.Core.List.{[], _∷_};
 ghost use Rattle.image.specs.Entries.{spell};
 ghost use Rattle.faults.specs.Answers.{afterOf, answerOf};
-ghost use Rattle.faults.specs.Fault.{faultOf};
+ghost use Rattle.faults.specs.Answers.{faultOf};
 ghost use Rattle.faults.specs.Recorder.{recording, clearing, clearingOverflow};
 ghost use Rattle.faults.specs.Slots.{slotsOf, slotsIn};
 use crate::fault::Fault;

@@ -8,7 +8,7 @@ use Rattle.image.specs.Place.{noEntry, lastTried, stoppedAt}
 use Rattle.image.specs.Rules.{run}
 use Rattle.image.proofs.Places.{tried-map}
 use Rattle.image.proofs.Trees.{run-map}
-use Rattle.registers.specs.Admission.{refusal, pass, take, admission, inInterruptRange}
+use Rattle.registers.specs.Admission.{refusal, pass, takenUp, admission, inInterruptRange}
 use Rattle.registers.specs.declared.Registers.{Registers}
 use Rattle.registers.proofs.Good.{taken-good, below-most}
 use Rattle.faults.specs.Record.{interruptFault}
@@ -17,7 +17,7 @@ use Rattle.interrupts.specs.Interrupts.{Delivery, indexRules, passed, bl
 use Rattle.interrupts.specs.declared.InterruptRequest.{InterruptRequest}
 
 -- so that no entry leaves its page, and no address of an entry wraps
-pub table-placed : (registers : Registers) (wrong on : Bool) → take ≡ admission registers wrong on
+pub table-placed : (registers : Registers) (wrong on : Bool) → takenUp ≡ admission registers wrong on
     → (registers .«interrupt_table» % 4096 ≡ 0) × (registers .«interrupt_table» < 2 ^ 52)
 table-placed registers wrong on h =
     let g = taken-good registers wrong on h in
@@ -34,12 +34,12 @@ module _ (registers : Registers) (request : InterruptRequest) (m : Memory) where
     unfolding interruptRules run
     passes h = rw (← kind, ← h)
 
-    pub takes : take ≡ admission registers (not inside) (registers .ire)
+    pub takes : takenUp ≡ admission registers (not inside) (registers .ire)
         → run (requestRules registers request) m ≡ run (interruptRules registers request) m
     unfolding interruptRules
     takes h = rw (← kind, ← h)
 
-    pub takes-at : take ≡ admission registers (not inside) (registers .ire)
+    pub takes-at : takenUp ≡ admission registers (not inside) (registers .ire)
         → stoppedAt (requestRules registers request) m ≡ stoppedAt (interruptRules registers request) m
     unfolding interruptRules
     takes-at h = rw (← kind, ← h)

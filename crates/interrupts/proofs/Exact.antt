@@ -17,7 +17,7 @@ use Rattle.image.specs.Windows.{windowsOf, Spot, nowhere, here, onSpot, spotIn,
 use Rattle.image.proofs.Choices.{or-false, or-assoc}
 use Rattle.image.proofs.WindowBytes.{byte-spot}
 use Rattle.interrupts.specs.Claims.{bitAt, due, sets, Shows, SetsExactly, LeavesAll, StaysInside}
-use Rattle.interrupts.specs.Descriptor.{Notice, silent, notice}
+use Rattle.interrupts.specs.Descriptor.{Notification, silent, notification}
 use Rattle.interrupts.specs.Interrupts.{InterruptOutcome, passed, remapped, posted, blocked, refused, interruptAnswer}
 use Rattle.interrupts.specs.Post.{withBit, setBit, notified, written}
 use Rattle.interrupts.proofs.Hosts.{spot-inside, store-at}
@@ -83,14 +83,14 @@ unfolding setBit
 host-at = store-at (λ a b. a || b) or-false withBit bit-with
 
 module _ (windows bytes : List ℕ) (descriptor vector : ℕ) (s : Stands windows bytes descriptor vector) where
-  post-at : (m : Notice) (n : ℕ)
+  post-at : (m : Notification) (n : ℕ)
       → bitAt windows (notified (s .place) m (setBit (s .place) vector bytes)) n
       ≡ (bitAt windows bytes n || (eqb n (8 * descriptor + vector) || due m && eqb n (8 * descriptor + 256)))
   post-at silent n =
       let h = s .small in
       host-at windows bytes (s .good) descriptor (s .there) vector (omega arith) n
       ∙ ap (λ (t : Bool). bitAt windows bytes n || t) (sym (or-false (eqb n (8 * descriptor + vector))))
-  post-at (notice v d) n =
+  post-at (notification v d) n =
       let h = s .small in
       let still : badWindows windows (length (setBit (s .place) vector bytes)) ≡ false = rw (length-setBit bytes (s .place) vector) (s .good) in
       host-at windows (setBit (s .place) vector bytes) still descriptor (s .there) 256 (omega arith) n
@@ -98,7 +98,7 @@ module _ (windows bytes : List ℕ) (descriptor vector : ℕ) (s : Stands window
       ∙ or-assoc (bitAt windows bytes n) (eqb n (8 * descriptor + vector)) (eqb n (8 * descriptor + 256))
 
 -- what a post writes, at the place where its descriptor stands
-pub written-there : (windows bytes : List ℕ) (descriptor vector : ℕ) (m : Notice) {k left : ℕ}
+pub written-there : (windows bytes : List ℕ) (descriptor vector : ℕ) (m : Notification) {k left : ℕ}
     → spotIn (windowsOf windows) 64 descriptor ≡ here k left
     → written windows (posted descriptor vector m) bytes ≡ notified k m (setBit k vector bytes)
 written-there windows bytes descriptor vector m there = rw there
@@ -112,7 +112,7 @@ module _ (windows bytes : List ℕ) (descriptor : ℕ) {at k left : ℕ} (found-
   pub at-inside : badWindows windows (length bytes) ≡ false → at + 64 ≤ length bytes
   at-inside good = rw at-place (spot-inside windows bytes good 64 descriptor there)
 
-  pub written-at : (vector : ℕ) (m : Notice) → notified at m (setBit at vector bytes) ≡ written windows (posted descriptor vector m) bytes
+  pub written-at : (vector : ℕ) (m : Notification) → notified at m (setBit at vector bytes) ≡ written windows (posted descriptor vector m) bytes
   written-at vector m = rw at-place (sym (written-there windows bytes descriptor vector m there))
 
 pub outcome-at : (windows bytes : List ℕ) (o : InterruptOutcome) → Within windows bytes o → (n : ℕ)
@@ -128,9 +128,9 @@ pub sets-exactly : SetsExactly
 sets-exactly registers request windows bytes =
     outcome-at windows bytes (interruptAnswer registers request windows bytes) (within registers request windows bytes)
 
-length-notified : (at : ℕ) (m : Notice) (bytes : List ℕ) → length (notified at m bytes) ≡ length bytes
+length-notified : (at : ℕ) (m : Notification) (bytes : List ℕ) → length (notified at m bytes) ≡ length bytes
 length-notified at silent bytes = refl
-length-notified at (notice v d) bytes = length-setBit bytes at 256
+length-notified at (notification v d) bytes = length-setBit bytes at 256
 
 pub length-written : (windows bytes : List ℕ) (o : InterruptOutcome) → length (written windows o bytes) ≡ length bytes
 length-written windows bytes (posted descriptor vector m) = by (spotIn (windowsOf windows) 64 descriptor)
@@ -148,10 +148,10 @@ pub other-byte : (bytes : List ℕ) (at place k : ℕ) → (k ≡ at + place / 8
 unfolding setBit
 other-byte bytes at place k other = getD-set-other bytes (at + place / 8) k _ 0 other
 
-pub other-bytes : (bytes : List ℕ) (at vector : ℕ) (m : Notice) (k : ℕ) → vector < 256 → ((i : ℕ) → i < 64 → k ≡ at + i → ⊥)
+pub other-bytes : (bytes : List ℕ) (at vector : ℕ) (m : Notification) (k : ℕ) → vector < 256 → ((i : ℕ) → i < 64 → k ≡ at + i → ⊥)
     → getD (notified at m (setBit at vector bytes)) k 0 ≡ getD bytes k 0
 other-bytes bytes at vector silent k small off = other-byte bytes at vector k (off (vector / 8) (omega arith))
-other-bytes bytes at vector (notice v d) k small off =
+other-bytes bytes at vector (notification v d) k small off =
     other-byte (setBit at vector bytes) at 256 k (off 32 (omega arith)) ∙ other-byte bytes at vector k (off (vector / 8) (omega arith))
 
 -- the bits that a post sets
@@ -200,7 +200,7 @@ stays-inside registers request windows bytes =
     let w = within registers request windows bytes in
     (length-written windows bytes o, set-inside windows bytes o w, unshown windows bytes o w)
 
-unposted : (windows bytes : List ℕ) (o : InterruptOutcome) → ((descriptor vector : ℕ) (m : Notice) → o ≡ posted descriptor vector m → ⊥)
+unposted : (windows bytes : List ℕ) (o : InterruptOutcome) → ((descriptor vector : ℕ) (m : Notification) → o ≡ posted descriptor vector m → ⊥)
     → written windows o bytes ≡ bytes
 unposted windows bytes (posted descriptor vector m) h = absurd (h descriptor vector m refl)
 unposted windows bytes passed h = refl

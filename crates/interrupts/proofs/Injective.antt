@@ -5,18 +5,18 @@ use native.Mathlib.Omega.{arith}
 use Rattle.image.specs.declared.EntryAddress.{EntryAddress}
 use Rattle.image.specs.Entries.{placeOf}
 use Rattle.image.proofs.Places.{placeOf-injective}
-use Rattle.faults.specs.Fault.{faultOf}
+use Rattle.faults.specs.Answers.{faultOf}
 use Rattle.faults.specs.declared.fault.Fault.{Fault}
 use Rattle.faults.proofs.Contents.{faultOf-injective}
 use Rattle.interrupts.specs.Answers.{outcomeOf, entryOf}
-use Rattle.interrupts.specs.Checked.{dueOf}
+use Rattle.interrupts.specs.Answers.{dueOf}
 use Rattle.interrupts.specs.Descriptor as descriptor
 use Rattle.interrupts.specs.Interrupts as rules
 use Rattle.interrupts.specs.declared.answer.InterruptAnswer.{InterruptAnswer}
 use Rattle.interrupts.specs.declared.answer.InterruptAnswer.the-variants.{Passed, Remapped, Posted, Blocked, Refused}
 use Rattle.interrupts.specs.declared.answer.Posted as post
-use Rattle.interrupts.specs.declared.descriptor.Notice.{Notice}
-use Rattle.interrupts.specs.declared.descriptor.Notice.the-variants.{Silent, Due}
+use Rattle.interrupts.specs.declared.descriptor.Notification.{Notification}
+use Rattle.interrupts.specs.declared.descriptor.Notification.the-variants.{Silent, Due}
 
 -- a fault's words are words
 abbrev pub Sized : InterruptAnswer → Type 0
@@ -26,13 +26,13 @@ Sized (Remapped r) = Unit {0}
 Sized (Posted p) = Unit {0}
 Sized (Refused n) = Unit {0}
 
-abbrev noticeBack : descriptor.Notice → Notice
-noticeBack descriptor.silent = Silent
-noticeBack (descriptor.notice vector destination) = Due vector destination
+abbrev notificationBack : descriptor.Notification → Notification
+notificationBack descriptor.silent = Silent
+notificationBack (descriptor.notification vector destination) = Due vector destination
 
-notice-back : (n : Notice) → noticeBack (dueOf n) ≡ n
-notice-back Silent = refl
-notice-back (Due vector destination) = refl
+notification-back : (n : Notification) → notificationBack (dueOf n) ≡ n
+notification-back Silent = refl
+notification-back (Due vector destination) = refl
 
 -- the answer of an outcome; for a fault, this one
 abbrev answerBack : InterruptAnswer → rules.InterruptOutcome → InterruptAnswer
@@ -47,13 +47,13 @@ answerBack fault (rules.remapped r) =
       vector = r .vector;
       destination = r .destination;
     })
-answerBack fault (rules.posted at vector n) = Posted (record { descriptor = at; vector = vector; notice = noticeBack n })
+answerBack fault (rules.posted at vector n) = Posted (record { descriptor = at; vector = vector; notification = notificationBack n })
 answerBack fault (rules.blocked f) = fault
 answerBack fault (rules.refused number) = Refused number
 
 post-back : (fault : InterruptAnswer) (p : post.Posted) → answerBack fault (outcomeOf (Posted p)) ≡ Posted p
 post-back fault p =
-    ap (λ (n : Notice). Posted (record { descriptor = p .descriptor; vector = p .vector; notice = n })) (notice-back (p .notice))
+    ap (λ (n : Notification). Posted (record { descriptor = p .descriptor; vector = p .vector; notification = n })) (notification-back (p .notification))
 
 back : (r : InterruptAnswer) → answerBack r (outcomeOf r) ≡ r
 back Passed = refl

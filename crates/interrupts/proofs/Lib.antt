@@ -5,7 +5,7 @@ pub mod Hosts
 pub mod Injective
 pub mod Isolation
 pub mod Named
-pub mod Notices
+pub mod Notifications
 pub mod Posts
 pub mod Raised
 pub mod RaisedBy

@@ -19,7 +19,7 @@ use Rattle.faults.specs.Record.{interruptFault}
 use Rattle.irte.specs.Irte.{Irte, remaps, posts, reservedIrte, irteCheck, faultProcessingDisabled}
 use Rattle.irte.specs.Source.{sourceAllowed}
 use Rattle.interrupts.specs.Claims.{wholeIndex, entryAt, beforeTable, IndexBound, EntryOfIndex, NoWrap, AtMostTen, NoneBeforeTable}
-use Rattle.interrupts.specs.Descriptor.{Notice, reservedDescriptor, descriptorCheck}
+use Rattle.interrupts.specs.Descriptor.{Notification, reservedDescriptor, descriptorCheck}
 use Rattle.interrupts.specs.Interrupts.{Delivery, fault, remap, post, onIrte, descriptorRules, indexRules, InterruptOutcome, passed, refused, delivered, interruptRules}
 use Rattle.interrupts.specs.declared.InterruptRequest.{InterruptRequest}
 use Rattle.interrupts.proofs.Requests.{early, request-cases}
@@ -59,10 +59,10 @@ module _ (m : Memory) where
   unfolding descriptorRules run named wordsFrom
   descriptor-words eime urgent fpd vector at = by (entry 8 m at)
     where
-      after : Check Notice → Rules Delivery
+      after : Check Notification → Rules Delivery
       after k = onCheck k (λ reason. answer (fault reason fpd)) (λ n. answer (post at vector n))
 
-      checked : (k : Check Notice) → Late k → Follows (wordsFrom 8 at ++ named (after k) m) × (earlyD (run (after k) m) ≡ false)
+      checked : (k : Check Notification) → Late k → Follows (wordsFrom 8 at ++ named (after k) m) × (earlyD (run (after k) m) ≡ false)
       checked (stop reason) h = (descriptor at, h)
       checked (go n) h = (descriptor at, refl)
 

@@ -23,7 +23,7 @@ use Rattle.registers.specs.declared.Registers.{Registers}
 use Rattle.irte.specs.Irte.{Irte, asks, stops, asked, remaps, posts, remappedBy, descriptorAddress, reservedIrte, irteOf, irteCheck, urgentOf, faultProcessingDisabled}
 use Rattle.irte.specs.Source.{sourceAllowed}
 use Rattle.interrupts.specs.Claims.{wholeIndex, entryAt, beforeTable, outcome}
-use Rattle.interrupts.specs.Descriptor.{Notice, descriptorCheck}
+use Rattle.interrupts.specs.Descriptor.{Notification, descriptorCheck}
 use Rattle.interrupts.specs.Interrupts.{Delivery, fault, post, descriptorRules, onIrte, indexRules, InterruptOutcome, passed, remapped, posted, blocked, refused, delivered, interruptRules, interruptAnswer}
 use Rattle.interrupts.specs.declared.InterruptRequest.{InterruptRequest}
 use Rattle.interrupts.proofs.Requests.{request-cases}
@@ -36,8 +36,8 @@ module _ (registers : Registers) (request : InterruptRequest) (m : Memory) where
     pub fetched : entry 2 m (entryAt registers request) ≡ found e
     pub checked : irteCheck registers (request .source .id) e ≡ go i
 
-  -- it asks for a post to a descriptor that can be fetched, and whose check gives the notice
-  pub record Posting (descriptor vector : ℕ) (n : Notice) : Type 0 where
+  -- it asks for a post to a descriptor that can be fetched, and whose check gives the notification
+  pub record Posting (descriptor vector : ℕ) (n : Notification) : Type 0 where
     pub urgent : Bool
     pub fpd : Bool
     pub told : Told (posts descriptor vector urgent fpd)
@@ -117,7 +117,7 @@ asked-aligned registers source e {d} {v} {urgent} {fpd} h = by (irteCheck regist
         let same : posts d v urgent fpd ≡ i = cc in
         posted-fields (registers .eime) e (asked-for registers source e told ∙ sym same) .0
 
-module _ (registers : Registers) (request : InterruptRequest) (m : Memory) {descriptor vector : ℕ} {n : Notice} where
+module _ (registers : Registers) (request : InterruptRequest) (m : Memory) {descriptor vector : ℕ} {n : Notification} where
   pub fields-of : (p : Posting registers request m descriptor vector n) → (descriptor % 64 ≡ 0) × (vector < 256) × (p .urgent ≡ urgentOf (p .told .e))
   fields-of p =
       posted-fields (registers .eime) (p .told .e) (asked-for registers (request .source .id) (p .told .e) (p .told .checked))
@@ -159,7 +159,7 @@ within registers request windows bytes =
     by good (refused number) p = tt
 
 -- a post's windows aren't refused, so that the rules gave it
-pub posted-over : (registers : Registers) (request : InterruptRequest) (windows bytes : List ℕ) {descriptor vector : ℕ} {n : Notice}
+pub posted-over : (registers : Registers) (request : InterruptRequest) (windows bytes : List ℕ) {descriptor vector : ℕ} {n : Notification}
     → interruptAnswer registers request windows bytes ≡ posted descriptor vector n
     → (badWindows windows (length bytes) ≡ false) × (outcome registers request (ofWindows windows bytes) ≡ posted descriptor vector n)
 posted-over registers request windows bytes {descriptor} {vector} {n} e = by (badWindows windows (length bytes)) e

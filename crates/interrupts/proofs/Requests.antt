@@ -10,7 +10,7 @@ use Rattle.image.specs.Bits.{bit, anySet}
 use Rattle.image.specs.Check.{Check, stop, go, onCheck}
 use Rattle.image.specs.Rules.{Rules, answer, mapRules}
 use Rattle.image.proofs.Choices.{chosen}
-use Rattle.registers.specs.Admission.{Admitted, refusal, pass, take, admission, onAdmission, inInterruptRange}
+use Rattle.registers.specs.Admission.{Admitted, refusal, pass, takenUp, admission, onAdmission, inInterruptRange}
 use Rattle.registers.specs.declared.Registers.{Registers}
 use Rattle.faults.specs.Record.{interruptFault}
 use Rattle.interrupts.specs.Claims.{wholeIndex, beforeTable}
@@ -66,4 +66,4 @@ module _ (registers : Registers) (request : InterruptRequest) (P : Rules Interru
       admitted : (k : Admitted) → P (onAdmission k refused passed (requestRules registers request))
       admitted (refusal n) = before (refused n) refl
       admitted pass = before passed refl
-      admitted take = formatted (requestCheck registers (request .address) (request .«data»)) (formed registers request)
+      admitted takenUp = formatted (requestCheck registers (request .address) (request .«data»)) (formed registers request)

@@ -12,7 +12,7 @@ use Rattle.image.proofs.Places.{unfetched-at, checked-at, only-at}
 use Rattle.image.proofs.Stages.{unfetched, checked, only}
 use Rattle.registers.specs.declared.Registers.{Registers}
 use Rattle.irte.specs.Irte.{Irte, Asked, asks, stops, asked, irteCheck, faultProcessingDisabled}
-use Rattle.interrupts.specs.Descriptor.{Notice, descriptorCheck}
+use Rattle.interrupts.specs.Descriptor.{Notification, descriptorCheck}
 use Rattle.interrupts.specs.Interrupts.{Delivery, fault, post, descriptorRules, onIrte, indexRules}
 
 module _ (m : Memory) (eime urgent fpd : Bool) (vector at : ℕ) where
@@ -20,13 +20,13 @@ module _ (m : Memory) (eime urgent fpd : Bool) (vector at : ℕ) where
   unfolding descriptorRules
   no-descriptor = unfetched postedDescriptor at (fault 0x27 fpd) (descriptorCheck eime urgent) (λ d reason. fault reason fpd) (λ n. answer (post at vector n)) m
 
-  pub descriptor-checked : {d : ℕ} {k : Check Notice} → found d ≡ entry 8 m at → k ≡ descriptorCheck eime urgent d
+  pub descriptor-checked : {d : ℕ} {k : Check Notification} → found d ≡ entry 8 m at → k ≡ descriptorCheck eime urgent d
       → onCheck k (λ reason. fault reason fpd) (post at vector) ≡ run (descriptorRules eime urgent fpd at vector) m
   unfolding descriptorRules
   descriptor-checked {d} {k} h told =
       only m k (λ reason. fault reason fpd) (post at vector)
       ∙ checked postedDescriptor at (fault 0x27 fpd) (descriptorCheck eime urgent) (λ d reason. fault reason fpd) (λ n. answer (post at vector n)) m h
-      (ap (λ (k : Check Notice). onCheck k (λ reason. answer (fault reason fpd)) (λ n. answer (post at vector n))) told)
+      (ap (λ (k : Check Notification). onCheck k (λ reason. answer (fault reason fpd)) (λ n. answer (post at vector n))) told)
 
   -- the rules of a descriptor stop at it
   pub descriptor-place : (before : Place) → entryAt at ≡ lastTried before (descriptorRules eime urgent fpd at vector) m

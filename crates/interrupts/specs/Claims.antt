@@ -1,6 +1,6 @@
 -- What holds of every interrupt request, whatever the registers, the request and the memory. What is answered is settled by any memory;
 -- what is written is told by host address, over windows and a run of bytes. Each claim is proved under its name
--- in proofs/: Exact, Notices, Named, Isolation, Unfetched.
+-- in proofs/: Exact, Notifications, Named, Isolation, Unfetched.
 use Prim.Native.Nat.{ℕ, _+_, _*_, _/_, _%_, _≤_, _<_}
 use mathlib.Core.Bool.{Bool, true, false, not, _&&_, _||_}
 use mathlib.Core.List.{List, [], _∷_}
@@ -14,7 +14,7 @@ use Rattle.image.specs.Rules.{run, named, SameIn}
 use Rattle.image.specs.Unfetched.{EndsUnfetched}
 use Rattle.image.specs.Windows.{windowsOf, here, spotIn, ofWindows, byteAt, badWindows}
 use Rattle.registers.specs.declared.Registers.{Registers}
-use Rattle.interrupts.specs.Descriptor.{Notice, silent, notice}
+use Rattle.interrupts.specs.Descriptor.{Notification, silent, notification}
 use Rattle.interrupts.specs.Interrupts.{InterruptOutcome, passed, remapped, posted, blocked, refused, interruptRules, interruptPlace, interruptAnswer}
 use Rattle.interrupts.specs.Post.{written}
 use Rattle.interrupts.specs.Request.{handleOf}
@@ -30,11 +30,11 @@ namedWords registers request m = named (interruptRules registers request) m
 abbrev pub bitAt : (windows bytes : List ℕ) → ℕ → Bool
 bitAt windows bytes n = bit (byteAt windows bytes (n / 8)) (n % 8)
 
-abbrev pub due : Notice → Bool
+abbrev pub due : Notification → Bool
 due silent = false
-due (notice vector destination) = true
+due (notification vector destination) = true
 
--- whether an outcome sets a bit: a post sets the vector's request bit and, exactly with a notice, ON
+-- whether an outcome sets a bit: a post sets the vector's request bit and, exactly with a notification, ON
 abbrev pub sets : InterruptOutcome → (n : ℕ) → Bool
 sets (posted descriptor vector m) n = eqb n (8 * descriptor + vector) || due m && eqb n (8 * descriptor + 256)
 sets passed n = false
@@ -57,11 +57,11 @@ wholeIndex request =
 abbrev pub entryAt : Registers → InterruptRequest → ℕ
 entryAt registers request = registers .«interrupt_table» + 16 * wholeIndex request
 
--- a post answers a notice exactly where ON was clear and either the entry's URG was set or SN was clear, so with SetsExactly ON goes
--- from 0 to 1 exactly with a notice; the premise says that the run is made of bytes
-abbrev pub NoticeExactly : Type 0
-NoticeExactly = (registers : Registers) (request : InterruptRequest) (windows bytes : List ℕ) → ((n : ℕ) → getD bytes n 0 < 256) →
-    (descriptor vector : ℕ) (m : Notice) → interruptAnswer registers request windows bytes ≡ posted descriptor vector m →
+-- a post answers a notification exactly where ON was clear and either the entry's URG was set or SN was clear, so with SetsExactly ON goes
+-- from 0 to 1 exactly with a notification; the premise says that the run is made of bytes
+abbrev pub NotificationExactly : Type 0
+NotificationExactly = (registers : Registers) (request : InterruptRequest) (windows bytes : List ℕ) → ((n : ℕ) → getD bytes n 0 < 256) →
+    (descriptor vector : ℕ) (m : Notification) → interruptAnswer registers request windows bytes ≡ posted descriptor vector m →
     due m ≡ (not (bitAt windows bytes (8 * descriptor + 256))
     && (bitAt windows bytes (8 * entryAt registers request + 14) || not (bitAt windows bytes (8 * descriptor + 257))))
 
@@ -69,7 +69,7 @@ NoticeExactly = (registers : Registers) (request : InterruptRequest) (windows by
 abbrev pub LeavesAll : Type 0
 LeavesAll = (registers : Registers) (request : InterruptRequest) (windows bytes : List ℕ) →
     let o = interruptAnswer registers request windows bytes in
-    ((descriptor vector : ℕ) (m : Notice) → o ≡ posted descriptor vector m → ⊥) → written windows o bytes ≡ bytes
+    ((descriptor vector : ℕ) (m : Notification) → o ≡ posted descriptor vector m → ⊥) → written windows o bytes ≡ bytes
 
 -- a window shows a place of the run at a host address
 abbrev pub Shows : (windows : List ℕ) (at place : ℕ) → Type 0

@@ -19,14 +19,14 @@ use Rattle.faults.specs.Record.{FaultAnswer, interruptFault}
 use Rattle.interrupts.specs.declared.InterruptRequest.{InterruptRequest}
 use Rattle.interrupts.specs.Request.{Format, compatibility, remappable, requestCheck}
 use Rattle.irte.specs.Irte.{Remapped, Irte, remaps, posts, irteCheck, faultProcessingDisabled}
-use Rattle.interrupts.specs.Descriptor.{Notice, descriptorCheck}
+use Rattle.interrupts.specs.Descriptor.{Notification, descriptorCheck}
 
 -- what the table makes of a request: a fault with FPD as it was read by then, the remapped answer, or a post of a vector to the
 -- descriptor at an address
 pub data Delivery : Type 0 where
   fault : (reason : ℕ) (fpd : Bool) → Delivery
   remap : Remapped → Delivery
-  post : (descriptor vector : ℕ) → Notice → Delivery
+  post : (descriptor vector : ℕ) → Notification → Delivery
 
 unfoldable pub descriptorRules : (eime urgent fpd : Bool) (at vector : ℕ) → Rules Delivery
 descriptorRules eime urgent fpd at vector =
@@ -48,7 +48,7 @@ pub data InterruptOutcome : Type 0 where
   passed : InterruptOutcome
   remapped : Remapped → InterruptOutcome
   -- a vector was posted to the descriptor at an address
-  posted : (descriptor vector : ℕ) → Notice → InterruptOutcome
+  posted : (descriptor vector : ℕ) → Notification → InterruptOutcome
   blocked : FaultAnswer → InterruptOutcome
   refused : (number : ℕ) → InterruptOutcome
 

@@ -1,5 +1,4 @@
 pub mod Answers
-pub mod Checked
 pub mod Claims
 pub mod Descriptor
 pub mod Interrupts

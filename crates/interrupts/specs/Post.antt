@@ -5,7 +5,7 @@ use lib.ListN.{getD, set}
 use Rattle.image.specs.Bits.{bit}
 use Rattle.image.specs.Choice.{if_then_else_}
 use Rattle.image.specs.Windows.{windowsOf, onSpot, spotIn}
-use Rattle.interrupts.specs.Descriptor.{Notice, silent, notice}
+use Rattle.interrupts.specs.Descriptor.{Notification, silent, notification}
 use Rattle.interrupts.specs.Interrupts.{InterruptOutcome, passed, remapped, posted, blocked, refused}
 
 -- a byte with one of its bits set
@@ -16,10 +16,10 @@ withBit place byte = if bit byte place then byte else byte + 2 ^ place
 unfoldable pub setBit : (at place : ℕ) → List ℕ → List ℕ
 setBit at place bytes = set bytes (at + place / 8) (withBit (place % 8) (getD bytes (at + place / 8) 0))
 
--- with a notice ON, bit 256, is set too
-abbrev pub notified : (at : ℕ) → Notice → List ℕ → List ℕ
+-- with a notification ON, bit 256, is set too
+abbrev pub notified : (at : ℕ) → Notification → List ℕ → List ℕ
 notified at silent bytes = bytes
-notified at (notice vector destination) bytes = setBit at 256 bytes
+notified at (notification vector destination) bytes = setBit at 256 bytes
 
 -- a post sets the vector's request bit, in the descriptor that stands whole in a single window; any other outcome leaves the run as it came
 abbrev pub written : (windows : List ℕ) → InterruptOutcome → List ℕ → List ℕ

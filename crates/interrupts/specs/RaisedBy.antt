@@ -10,7 +10,7 @@ use Rattle.registers.specs.declared.Registers.{Registers}
 use Rattle.irte.specs.Irte.{Remapped, remappedBy, descriptorAddress, reservedIrte}
 use Rattle.irte.specs.Source.{sourceAllowed}
 use Rattle.interrupts.specs.Claims.{outcome, wholeIndex, entryAt}
-use Rattle.interrupts.specs.Descriptor.{Notice}
+use Rattle.interrupts.specs.Descriptor.{Notification}
 use Rattle.interrupts.specs.Interrupts.{remapped, posted}
 use Rattle.interrupts.specs.declared.InterruptRequest.{InterruptRequest}
 
@@ -30,7 +30,7 @@ RemappedByEntry = (registers : Registers) (request : InterruptRequest) (m : Memo
 
 -- a post's descriptor and vector are that entry's
 abbrev pub PostedByEntry : Type 0
-PostedByEntry = (registers : Registers) (request : InterruptRequest) (m : Memory) (descriptor vector : ℕ) (n : Notice) →
+PostedByEntry = (registers : Registers) (request : InterruptRequest) (m : Memory) (descriptor vector : ℕ) (n : Notification) →
     outcome registers request m ≡ posted descriptor vector n →
     (e : ℕ) × ItsEntry registers request m e × (bit e 15 ≡ true)
     × (descriptor ≡ descriptorAddress e) × (vector ≡ bits e 23 16)
@@ -38,7 +38,7 @@ PostedByEntry = (registers : Registers) (request : InterruptRequest) (m : Memory
 -- a request raises an interrupt: it is remapped or posted
 pub data Raises (registers : Registers) (request : InterruptRequest) (m : Memory) : Type 0 where
   remapping : {r : Remapped} → outcome registers request m ≡ remapped r → Raises registers request m
-  posting : {descriptor vector : ℕ} {n : Notice} → outcome registers request m ≡ posted descriptor vector n →
+  posting : {descriptor vector : ℕ} {n : Notification} → outcome registers request m ≡ posted descriptor vector n →
       Raises registers request m
 
 -- an entry whose source check admits one source alone raises no interrupt for a request of another, whatever its handle and subhandle

@@ -3,7 +3,7 @@ ghost use mathlib.Core.Path.{_≡_};
 ghost use Rattle.image.specs.Place.{Place};
 ghost use Rattle.interrupts.specs.Answers.{deliveryOf, outcomeOf, entryOf, DeliveryNames};
 ghost use Rattle.interrupts.specs.Interrupts.{delivered, concerned};
-use crate::descriptor::Notice;
+use crate::descriptor::Notification;
 use faults::Fault;
 use faults::Reason;
 use faults::interrupt_fault;
@@ -11,10 +11,10 @@ pub use image::EntryAddress;
 use irte::Remapped;
 use registers::SourceId;
 
-// Whether a notice is due, and the vector posted to the descriptor at an address. In this order no word
+// Whether a notification is due, and the vector posted to the descriptor at an address. In this order no word
 // that is moved with the answer holds parts of two fields.
 pub struct Posted {
-    pub notice: Notice,
+    pub notification: Notification,
     pub vector: u8,
     pub descriptor: u64,
 }

@@ -2,20 +2,20 @@
 ghost use mathlib.Core.Path.{_≡_};
 ghost use Rattle.image.specs.Bits.{anySet};
 ghost use Rattle.image.specs.Entries.{number64};
-ghost use Rattle.interrupts.specs.Descriptor.{reservedDescriptor, noticeDestination, noticeDue, noticeOf, descriptorCheck};
+ghost use Rattle.interrupts.specs.Descriptor.{reservedDescriptor, notificationDestination, notificationDue, notificationOf, descriptorCheck};
 ghost use Rattle.image.specs.Place.{entryAt};
-ghost use Rattle.interrupts.specs.Checked.{dueOf, descriptorChecked, descriptorPlace};
+ghost use Rattle.interrupts.specs.Answers.{dueOf, descriptorChecked, descriptorPlace};
 use image::Entry64;
 use image::any_set64;
 use image::bits64;
 
-pub enum Notice {
+pub enum Notification {
     Silent,
     Due { vector: u8, destination: u32 },
 }
 
 pub enum DescriptorCheck {
-    Valid(Notice),
+    Valid(Notification),
     // With the descriptor's host address.
     Reserved(u64),
 }
@@ -36,8 +36,8 @@ fn reserved_descriptor(eime: bool, d: Entry64) -> bool
         | (!eime & (any_set64(d, 295, 288) | any_set64(d, 319, 304)))
 }
 
-fn notice_destination(eime: bool, d: Entry64) -> u32
-    ensures { λ r. ⌜ r ≡ noticeDestination eime (number64 d) ⌝ }
+fn notification_destination(eime: bool, d: Entry64) -> u32
+    ensures { λ r. ⌜ r ≡ notificationDestination eime (number64 d) ⌝ }
 {
     if eime {
         return bits64(d, 319, 288) as u32;
@@ -45,22 +45,22 @@ fn notice_destination(eime: bool, d: Entry64) -> u32
     bits64(d, 303, 296) as u32
 }
 
-// ON holds the notice back, and so does SN, but not that of an urgent post.
-fn notice_due(urgent: bool, d: Entry64) -> bool
-    ensures { λ r. ⌜ r ≡ noticeDue urgent (number64 d) ⌝ }
+// ON holds the notification back, and so does SN, but not that of an urgent post.
+fn notification_due(urgent: bool, d: Entry64) -> bool
+    ensures { λ r. ⌜ r ≡ notificationDue urgent (number64 d) ⌝ }
 {
     (bits64(d, 256, 256) != 1) & (urgent | (bits64(d, 257, 257) != 1))
 }
 
-fn notice_of(eime: bool, urgent: bool, d: Entry64) -> Notice
-    ensures { λ r. ⌜ dueOf r ≡ noticeOf eime urgent (number64 d) ⌝ }
+fn notification_of(eime: bool, urgent: bool, d: Entry64) -> Notification
+    ensures { λ r. ⌜ dueOf r ≡ notificationOf eime urgent (number64 d) ⌝ }
 {
-    if !notice_due(urgent, d) {
-        return Notice::Silent;
+    if !notification_due(urgent, d) {
+        return Notification::Silent;
     }
     let vector = bits64(d, 279, 272) as u8;
-    let destination = notice_destination(eime, d);
-    Notice::Due {
+    let destination = notification_destination(eime, d);
+    Notification::Due {
         vector,
         destination,
     }
@@ -73,5 +73,5 @@ pub(crate) fn descriptor_check(eime: bool, urgent: bool, at: u64, d: Entry64) ->
     if reserved_descriptor(eime, d) {
         return DescriptorCheck::Reserved(at);
     }
-    DescriptorCheck::Valid(notice_of(eime, urgent, d))
+    DescriptorCheck::Valid(notification_of(eime, urgent, d))
 }

@@ -20,7 +20,7 @@ pub use answer::EntryAddress;
 pub use answer::InterruptAnswer;
 pub use answer::Posted;
 use answer::answer_of;
-pub use descriptor::Notice;
+pub use descriptor::Notification;
 use faults::interrupt_fault;
 use image::bad_windows;
 pub use irte::Remapped;

@@ -4,11 +4,11 @@ ghost use mathlib.Core.Path.{_≡_};
 ghost use Prim.Native.Nat.{ℕ, _+_, _/_, _<_};
 ghost use lib.ListN.{length};
 ghost use Rattle.image.specs.Windows.{windowsOf, here, spotIn, badWindows};
-ghost use Rattle.interrupts.specs.Checked.{dueOf};
+ghost use Rattle.interrupts.specs.Answers.{dueOf};
 ghost use Rattle.interrupts.specs.Interrupts as rules;
 ghost use Rattle.interrupts.specs.Post.{setBit, written};
 use crate::answer::Posted;
-use crate::descriptor::Notice;
+use crate::descriptor::Notification;
 use image::place64;
 
 // ON's bit number in a descriptor.
@@ -26,12 +26,12 @@ fn set_bit(image: &mut [u8], at: usize, place: usize)
 pub(crate) fn write_post(windows: &[u64], image: &mut [u8], posted: Posted)
     requires { ⌜ (badWindows (now windows) (length (now image)) ≡ false)
         × ((place : ℕ) × (left : ℕ) × (spotIn (windowsOf (now windows)) 64 (posted .descriptor) ≡ here place left)) ⌝ }
-    ensures { λ _. ⌜ now (image .exit) ≡ written (now (windows .entry)) (rules.posted (posted .descriptor) (posted .vector) (dueOf (posted .notice))) (now (image .entry)) ⌝ }
+    ensures { λ _. ⌜ now (image .exit) ≡ written (now (windows .entry)) (rules.posted (posted .descriptor) (posted .vector) (dueOf (posted .notification))) (now (image .entry)) ⌝ }
 {
-    let notice = posted.notice;
+    let notification = posted.notification;
     let at = place64(windows, image.len(), posted.descriptor);
     set_bit(image, at, posted.vector as usize);
-    if let Notice::Due { .. } = notice {
+    if let Notification::Due { .. } = notification {
         set_bit(image, at, ON);
     }
 }

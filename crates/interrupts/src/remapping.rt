@@ -40,13 +40,13 @@ fn follow_descriptor(
     let Found64::Entry(d) = fetch64(windows, image, at) else {
         return Delivery::Fault(Reason::DescriptorAccess, fpd, EntryAddress::At(at));
     };
-    let DescriptorCheck::Valid(notice) = descriptor_check(eime, urgent, at, d) else {
+    let DescriptorCheck::Valid(notification) = descriptor_check(eime, urgent, at, d) else {
         return Delivery::Fault(Reason::DescriptorReserved, fpd, EntryAddress::At(at));
     };
     Delivery::Post(Posted {
         descriptor: at,
         vector,
-        notice,
+        notification,
     })
 }
 

@@ -2,7 +2,7 @@
 ghost use mathlib.Core.Path.{_≡_};
 ghost use Prim.Native.Nat.{_^_, _<_};
 ghost use Rattle.interrupts.specs.Request.{handleOf, requestCheck};
-ghost use Rattle.interrupts.specs.Checked.{requestChecked};
+ghost use Rattle.interrupts.specs.Answers.{requestChecked};
 use faults::Reason;
 use image::field;
 use registers::Registers;

@@ -1,3 +1,3 @@
-pub mod Checked
+pub mod Answers
 pub mod Irte
 pub mod Source

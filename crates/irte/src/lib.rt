@@ -2,7 +2,7 @@
 ghost use mathlib.Core.Path.{_≡_};
 ghost use Rattle.image.specs.Entries.{number16};
 ghost use Rattle.image.specs.Place.{Place, entryAt};
-ghost use Rattle.irte.specs.Checked.{remappedOf, askedOf, IrteNames};
+ghost use Rattle.irte.specs.Answers.{remappedOf, askedOf, IrteNames};
 ghost use Rattle.irte.specs.Irte.{destinationOf, remappedBy, irteOf, asks, asked};
 
 mod reserved;

@@ -9,7 +9,7 @@ use lib.Dec.{leb, ltb, eqb}
 use lib.Pow.{pow-mono}
 use Rattle.registers.specs.declared.Registers.{Registers}
 use Rattle.image.specs.Choice.{if_then_else_}
-use Rattle.registers.specs.Admission.{refusal, pass, take, admission}
+use Rattle.registers.specs.Admission.{refusal, pass, takenUp, admission}
 use Rattle.registers.specs.Registers.{outside, badTable, registersBad}
 
 -- from low to high, ends included
@@ -66,11 +66,11 @@ pub below-most : {r : Registers} {a : ℕ} → Good r → a < 2 ^ (r .haw) → a
 below-most g h = lt-of-lt-of-le h (pow-mono (g .haw .most))
 
 -- registers under which a request is taken up are good
-pub taken-good : (r : Registers) (wrong on : Bool) → take ≡ admission r wrong on → Good r
+pub taken-good : (r : Registers) (wrong on : Bool) → takenUp ≡ admission r wrong on → Good r
 unfolding admission
 taken-good r wrong on h = go (registersBad r) refl h
   where
     go : (t : Bool) → registersBad r ≡ t
-        → take ≡ (if t then refusal 1 else if wrong then refusal 2 else if on then take else pass) → Good r
+        → takenUp ≡ (if t then refusal 1 else if wrong then refusal 2 else if on then takenUp else pass) → Good r
     go true e h = let z : _≡_ {A = ℕ} 0 1 = cc in absurd (omega arith)
     go false e h = good r e

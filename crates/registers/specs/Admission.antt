@@ -16,17 +16,17 @@ inInterruptRange address = leb 0xFEE0_0000 address && leb address 0xFEEF_FFFF
 pub data Admitted : Type 0 where
   refusal : ℕ → Admitted
   pass : Admitted
-  take : Admitted
+  takenUp : Admitted
 
 unfoldable pub admission : Registers → (wrongKind on : Bool) → Admitted
 admission registers wrongKind on =
     if registersBad registers then refusal 1
     else if wrongKind then refusal 2
-    else if on then take
+    else if on then takenUp
     else pass
 
 -- the rules of a request so admitted: how a refusal is answered, what a passed request is answered, and the rules of one taken up
 abbrev pub onAdmission : {A : Type 0} → Admitted → (ℕ → A) → A → Rules A → Rules A
 onAdmission (refusal n) refused passed rules = answer (refused n)
 onAdmission pass refused passed rules = answer passed
-onAdmission take refused passed rules = rules
+onAdmission takenUp refused passed rules = rules

@@ -1,4 +1,4 @@
 pub mod Admission
-pub mod Admitted
+pub mod Answers
 pub mod Registers
 pub mod Source

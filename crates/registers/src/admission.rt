@@ -1,7 +1,7 @@
 // Whether a request is taken up at all: refusals 1 and 2, then the switch of its kind.
 ghost use mathlib.Core.Path.{_≡_};
 ghost use Rattle.registers.specs.Admission.{admission, inInterruptRange};
-ghost use Rattle.registers.specs.Admitted.{admittedOf};
+ghost use Rattle.registers.specs.Answers.{admittedOf};
 use crate::Registers;
 
 pub enum Admission {

@@ -13,7 +13,7 @@ use Rattle.image.specs.Bits.{bit}
 use Rattle.image.specs.Choice.{if_then_else_}
 use Rattle.image.proofs.Choices.{or-false}
 use Rattle.interrupts.specs.Claims.{due}
-use Rattle.interrupts.specs.Descriptor.{Notice, silent, notice}
+use Rattle.interrupts.specs.Descriptor.{Notification, silent, notification}
 use Rattle.interrupts.specs.Post.{withBit, setBit, notified}
 use Rattle.interrupts.proofs.Exact.{bit-with}
 use Rattle.takes.specs.Runs.{one-if}
@@ -91,9 +91,9 @@ set-bits x p y q image =
 abbrev pub mark : Bool → (descriptor : ℕ) → List ℕ → List ℕ
 mark test descriptor image = if test then setBit descriptor 256 image else image
 
-pub marked : (descriptor : ℕ) (m : Notice) (image : List ℕ) → notified descriptor m image ≡ mark (due m) descriptor image
+pub marked : (descriptor : ℕ) (m : Notification) (image : List ℕ) → notified descriptor m image ≡ mark (due m) descriptor image
 marked descriptor silent image = refl
-marked descriptor (notice v d) image = refl
+marked descriptor (notification v d) image = refl
 
 mark-set : (t : Bool) (d x p : ℕ) (image : List ℕ) → mark t d (setBit x p image) ≡ setBit x p (mark t d image)
 mark-set true d x p image = set-bits d 256 x p image
@@ -103,7 +103,7 @@ mark-mark : (s t : Bool) (d e : ℕ) (image : List ℕ) → mark s d (mark t e i
 mark-mark true t d e image = sym (mark-set t e d 256 image)
 mark-mark false t d e image = refl
 
--- the writes of two posts, with the notices that each has after the other
+-- the writes of two posts, with the notifications that each has after the other
 module _ (d u e w : ℕ) (image : List ℕ) where
   abbrev both : List ℕ
   both = setBit e w (setBit d u image)
@@ -114,12 +114,12 @@ module _ (d u e w : ℕ) (image : List ℕ) where
   gathered′ : (s t : Bool) → mark s d (setBit d u (mark t e (setBit e w image))) ≡ mark s d (mark t e both)
   gathered′ s t = ap (mark s d) (sym (mark-set t e d u (setBit e w image)) ∙ ap (mark t e) (set-bits d u e w image))
 
-  -- where the descriptors are two, each notice is as it would be first
+  -- where the descriptors are two, each notification is as it would be first
   pub two-descriptors : (s t : Bool)
       → mark t e (setBit e w (mark s d (setBit d u image))) ≡ mark s d (setBit d u (mark t e (setBit e w image)))
   two-descriptors s t = gathered s t ∙ mark-mark t s e d both ∙ sym (gathered′ s t)
 
-  -- where they are one, there is one notice, of the one that comes first
+  -- where they are one, there is one notification, of the one that comes first
   module _ (same : d ≡ e) (on x y : Bool) where
     one-mark : (x y : Bool) (image : List ℕ) → mark (not (on || (not on && x)) && y) d (mark (not on && x) d image) ≡ mark (not on && (x || y)) d image
     one-mark x y image = go on x y
@@ -141,12 +141,12 @@ module _ (d u e w : ℕ) (image : List ℕ) where
         ∙ ap (λ (n : ℕ). mark (not (on || (not on && y)) && x) d (mark (not on && y) n both)) same
         ∙ sym (gathered′ (not (on || (not on && y)) && x) (not on && y))
 
--- and as many notices in either order
-pub one-notice : (on x y : Bool)
+-- and as many notifications in either order
+pub one-notification : (on x y : Bool)
     → one-if (not on && x) + (one-if (not (on || (not on && x)) && y) + 0)
     ≡ one-if (not on && y) + (one-if (not (on || (not on && y)) && x) + 0)
-one-notice true x y = refl
-one-notice false true true = refl
-one-notice false true false = refl
-one-notice false false true = refl
-one-notice false false false = refl
+one-notification true x y = refl
+one-notification false true true = refl
+one-notification false true false = refl
+one-notification false false true = refl
+one-notification false false false = refl

@@ -10,7 +10,7 @@ use borrow.Author.Tests.{eq-eqb, eqb-true, eqb-false}
 use lib.Dec.{eqb, leb}
 use Rattle.image.proofs.Bytes.{AreBytes}
 use Rattle.interrupts.specs.Claims.{bitAt, due, sets}
-use Rattle.interrupts.specs.Descriptor.{Notice}
+use Rattle.interrupts.specs.Descriptor.{Notification}
 use Rattle.interrupts.specs.Interrupts.{InterruptOutcome, passed, remapped, posted, blocked, refused, interruptAnswer}
 use Rattle.interrupts.specs.Post.{written}
 use Rattle.interrupts.proofs.Exact.{sets-exactly}
@@ -45,7 +45,7 @@ module _ (windows : List ℕ) (D : ℕ) (aligned : D % 64 ≡ 0) where
     same-image image here = record { still = here; fell = omega arith }
 
     module _ (image : List ℕ) (here : stands windows D image v ≡ true) where
-      post-kept : (d u : ℕ) (m : Notice) → d % 64 ≡ 0 → u < 256
+      post-kept : (d u : ℕ) (m : Notification) → d % 64 ≡ 0 → u < 256
           → ((n : ℕ) → bitAt windows (written windows (posted d u m) image) n ≡ (bitAt windows image n || sets (posted d u m) n))
           → Kept image (written windows (posted d u m) image) false (postsFrom D v (posted d u m))
       post-kept d u m a h bits-after =

@@ -1,4 +1,4 @@
--- Two requests in either order leave the same image, and give as many notices.
+-- Two requests in either order leave the same image, and give as many notifications.
 use Prim.Native.Nat.{ℕ, _+_, _-_, _*_, _/_, _%_, _≤_, _<_}
 use mathlib.Core.Bool.{Bool, true, false, not, _&&_, _||_}
 use mathlib.Core.List.{List}
@@ -16,18 +16,18 @@ use Rattle.image.proofs.Bytes.{AreBytes}
 use Rattle.image.proofs.WindowBytes.{one-address, byte-spot}
 use Rattle.registers.specs.declared.Registers.{Registers}
 use Rattle.interrupts.specs.Claims.{bitAt, due, sets, entryAt}
-use Rattle.interrupts.specs.Descriptor.{Notice, notice}
+use Rattle.interrupts.specs.Descriptor.{Notification, notification}
 use Rattle.interrupts.specs.Interrupts.{InterruptOutcome, passed, remapped, posted, blocked, refused, interruptAnswer}
 use Rattle.interrupts.specs.Post.{setBit, notified, written}
 use Rattle.interrupts.specs.declared.InterruptRequest.{InterruptRequest}
 use Rattle.interrupts.proofs.Exact.{outcome-at, length-written, written-there, other-bytes}
 use Rattle.interrupts.proofs.Raised.{Stands, Within, within}
 use Rattle.interrupts.proofs.EntryBits.{entry-bit}
-use Rattle.interrupts.proofs.Notices.{notice-exactly}
+use Rattle.interrupts.proofs.Notifications.{notification-exactly}
 use Rattle.takes.specs.Claims.{Apart, EitherOrder}
-use Rattle.takes.specs.Runs.{after, left, count, one-if, noticed}
+use Rattle.takes.specs.Runs.{after, left, count, one-if, hasNotification}
 use Rattle.takes.proofs.Bools.{and-true, or-and-false}
-use Rattle.takes.proofs.Commute.{mark, marked, two-descriptors, one-descriptor, one-notice}
+use Rattle.takes.proofs.Commute.{mark, marked, two-descriptors, one-descriptor, one-notification}
 use Rattle.takes.proofs.Memories.{Shape, neither, both, same-shape, same-entry}
 use Rattle.takes.proofs.Stable.{Alike, same, reposted, Descriptors, none-there, reserved-there, alike}
 use Rattle.takes.proofs.Stores.{bytes-written}
@@ -51,17 +51,17 @@ alike-quiet : {o o′ : InterruptOutcome} → isPosted o ≡ false → Alike o o
 alike-quiet q same = refl
 alike-quiet q (reposted m n) = let z : _≡_ {A = ℕ} 0 1 = cc in absurd (omega arith)
 
-alike-post : {d u : ℕ} {m : Notice} {o : InterruptOutcome} → Alike (posted d u m) o → (n : Notice) × (o ≡ posted d u n)
+alike-post : {d u : ℕ} {m : Notification} {o : InterruptOutcome} → Alike (posted d u m) o → (n : Notification) × (o ≡ posted d u n)
 alike-post {m = m} same = (m, refl)
 alike-post (reposted m n) = (n, refl)
 
 -- what a post is known by
-post-known : (registers : Registers) (a : InterruptRequest) (windows image : List ℕ) {d u : ℕ} {m : Notice}
+post-known : (registers : Registers) (a : InterruptRequest) (windows image : List ℕ) {d u : ℕ} {m : Notification}
     → interruptAnswer registers a windows image ≡ posted d u m → Stands windows image d u
 post-known registers a windows image {d} {u} {m} e = let w : Within windows image (posted d u m) = rw e at (within registers a windows image) in w
 
 -- a byte at a host address outside a post's descriptor
-module _ (windows image : List ℕ) (bytes : AreBytes image) (d u : ℕ) (m : Notice) (post : Stands windows image d u) where
+module _ (windows image : List ℕ) (bytes : AreBytes image) (d u : ℕ) (m : Notification) (post : Stands windows image d u) where
   abbrev next : List ℕ
   next = written windows (posted d u m) image
 
@@ -109,7 +109,7 @@ module _ (windows image : List ℕ) (bytes : AreBytes image) (d u : ℕ) (m : No
               by-equal (no less) e = omega arith
           by (no high) e = omega arith
 
-  -- ON of a descriptor is set by a post with a notice to it
+  -- ON of a descriptor is set by a post with a notification to it
   on-next : (at : ℕ) → at % 64 ≡ 0 → bitAt windows next (8 * at + 256) ≡ (bitAt windows image (8 * at + 256) || due m && eqb at d)
   on-next at aligned =
       bit-next (8 * at + 256)
@@ -160,16 +160,16 @@ module _ (windows image : List ℕ) (bytes : AreBytes image) (d u : ℕ) (m : No
           entry-bit windows next still (bytes-written windows image bytes (posted d u m)) 8 at k there′ (omega arith)
           ∙ above-kept at k aligned (omega arith) to ∙ sym (entry-bit windows image (post .good) bytes 8 at k there (omega arith)))
 
--- whether nothing but ON holds a request's notice back: the request's entry is urgent or SN is clear. This, due-by and free-kept
+-- whether nothing but ON holds a request's notification back: the request's entry is urgent or SN is clear. This, due-by and free-kept
 -- are all that the rest knows of it
 abbrev free : Registers → InterruptRequest → (windows image : List ℕ) → (d : ℕ) → Bool
 free registers q windows image d = bitAt windows image (8 * entryAt registers q + 14) || not (bitAt windows image (8 * d + 257))
 
-due-by : (registers : Registers) (q : InterruptRequest) (windows image : List ℕ) → AreBytes image → {d u : ℕ} {m : Notice}
+due-by : (registers : Registers) (q : InterruptRequest) (windows image : List ℕ) → AreBytes image → {d u : ℕ} {m : Notification}
     → interruptAnswer registers q windows image ≡ posted d u m → due m ≡ (not (bitAt windows image (8 * d + 256)) && free registers q windows image d)
-due-by registers q windows image bytes {d} {u} {m} e = notice-exactly registers q windows image bytes d u m e
+due-by registers q windows image bytes {d} {u} {m} e = notification-exactly registers q windows image bytes d u m e
 
-free-kept : (registers : Registers) (q : InterruptRequest) (windows image : List ℕ) (bytes : AreBytes image) (d u : ℕ) (m : Notice) (post : Stands windows image d u)
+free-kept : (registers : Registers) (q : InterruptRequest) (windows image : List ℕ) (bytes : AreBytes image) (d u : ℕ) (m : Notification) (post : Stands windows image d u)
     → (d + 64 ≤ entryAt registers q) ⊎ (entryAt registers q + 16 ≤ d) → (at : ℕ) → at % 64 ≡ 0
     → free registers q windows (written windows (posted d u m) image) at ≡ free registers q windows image at
 free-kept registers q windows image bytes d u m post away at aligned =
@@ -194,8 +194,8 @@ module _ (registers : Registers) (windows image : List ℕ) (bytes : AreBytes im
   abbrev Same : (a b : InterruptRequest) → (o p : InterruptOutcome) → Type 0
   Same a b o p =
       (written windows (interruptAnswer registers b windows (written windows o image)) (written windows o image) ≡ written windows (interruptAnswer registers a windows (written windows p image)) (written windows p image))
-      × (one-if (noticed o) + (one-if (noticed (interruptAnswer registers b windows (written windows o image))) + 0)
-      ≡ one-if (noticed p) + (one-if (noticed (interruptAnswer registers a windows (written windows p image))) + 0))
+      × (one-if (hasNotification o) + (one-if (hasNotification (interruptAnswer registers b windows (written windows o image))) + 0)
+      ≡ one-if (hasNotification p) + (one-if (hasNotification (interruptAnswer registers a windows (written windows p image))) + 0))
 
   -- the second request's answer on what the first left windows
   after-other : (a b : InterruptRequest) (p : InterruptOutcome) → interruptAnswer registers b windows image ≡ p → Apart registers b a windows image
@@ -217,7 +217,7 @@ module _ (registers : Registers) (windows image : List ℕ) (bytes : AreBytes im
   swapped : (a b : InterruptRequest) (o p : InterruptOutcome) → Same a b o p → Same b a p o
   swapped a b o p s = (sym (s .0), sym (s .1))
 
-  module _ (a b : InterruptRequest) (d u e w : ℕ) (m n : Notice)
+  module _ (a b : InterruptRequest) (d u e w : ℕ) (m n : Notification)
       (ea : interruptAnswer registers a windows image ≡ posted d u m) (eb : interruptAnswer registers b windows image ≡ posted e w n) where
     both-posts : Apart registers a b windows image → Apart registers b a windows image → Same a b (posted d u m) (posted e w n)
     both-posts ab ba =
@@ -235,10 +235,10 @@ module _ (registers : Registers) (windows image : List ℕ) (bytes : AreBytes im
         ib : List ℕ
         ib = written windows (posted e w n) image
 
-        ob : (n′ : Notice) × (interruptAnswer registers b windows ia ≡ posted e w n′)
+        ob : (n′ : Notification) × (interruptAnswer registers b windows ia ≡ posted e w n′)
         ob = alike-post (rw eb at (after-other b a (posted d u m) ea ab))
 
-        oa : (m′ : Notice) × (interruptAnswer registers a windows ib ≡ posted d u m′)
+        oa : (m′ : Notification) × (interruptAnswer registers a windows ib ≡ posted d u m′)
         oa = alike-post (rw ea at (after-other a b (posted e w n) eb ba))
 
         on : ℕ → Bool
@@ -268,7 +268,7 @@ module _ (registers : Registers) (windows image : List ℕ) (bytes : AreBytes im
             ∙ ap (λ (t : Bool). not t && free registers a windows ib d) (on-next windows image bytes e w n pb d (pa .aligned))
             ∙ ap (λ (t : Bool). not (on d || due n && eqb d e) && t) (free-kept registers a windows image bytes e w n pb (ba e w n eb) d (pa .aligned))
 
-        -- each notice, where the descriptors are two and where they are one
+        -- each notification, where the descriptors are two and where they are one
         apart-n : eqb e d ≡ false → due (ob .0) ≡ due n
         apart-n h = dn′ ∙ ap (λ (t : Bool). not (on e || due m && t) && fb) h ∙ ap (λ (t : Bool). not t && fb) (or-and-false (on e) (due m)) ∙ sym dn
 
@@ -323,7 +323,7 @@ module _ (registers : Registers) (windows image : List ℕ) (bytes : AreBytes im
         numbered : (t : Bool) → eqb e d ≡ t → one-if (due m) + (one-if (due (ob .0)) + 0) ≡ one-if (due n) + (one-if (due (oa .0)) + 0)
         numbered true h =
             let one : d ≡ e = sym (eqb-true e d h) in
-            rw (joint-n′ one, joint-m′ one, joint-n one, dm) (one-notice (on d) fa fb)
+            rw (joint-n′ one, joint-m′ one, joint-n one, dm) (one-notification (on d) fa fb)
         numbered false h =
             let two : eqb d e ≡ false = ne-eqb d e (λ z. eqb-false e d h (sym z)) in
             rw (apart-n h, apart-m two) (omega arith)

@@ -1,5 +1,5 @@
 -- A request over a memory that a post has changed: where the post's descriptor shares no byte with the request's interrupt entry,
--- the answer is the same but for a post's notice.
+-- the answer is the same but for a post's notification.
 use Prim.Native.Nat.{ℕ, _+_, _%_, _^_, _≤_, _<_}
 use mathlib.Core.Bool.{Bool, true, false, not}
 use mathlib.Core.Path.{_≡_, ap}
@@ -17,7 +17,7 @@ use Rattle.image.proofs.Trees.{run-map}
 use Rattle.registers.specs.declared.Registers.{Registers}
 use Rattle.irte.specs.Irte.{Irte, remaps, posts, irteCheck, descriptorAddress, faultProcessingDisabled}
 use Rattle.interrupts.specs.Claims.{outcome, wholeIndex, entryAt, beforeTable}
-use Rattle.interrupts.specs.Descriptor.{Notice, reservedDescriptor, noticeOf, descriptorCheck}
+use Rattle.interrupts.specs.Descriptor.{Notification, reservedDescriptor, notificationOf, descriptorCheck}
 use Rattle.interrupts.specs.Interrupts.{Delivery, fault, post, descriptorRules, onIrte, indexRules, InterruptOutcome, posted, delivered}
 use Rattle.interrupts.specs.declared.InterruptRequest.{InterruptRequest}
 use Rattle.interrupts.proofs.Raised.{asked-for}
@@ -27,7 +27,7 @@ use Rattle.takes.proofs.Bitwise.{field-same}
 
 pub data Alike : InterruptOutcome → InterruptOutcome → Type 0 where
   same : {o : InterruptOutcome} → Alike o o
-  reposted : {d u : ℕ} (m n : Notice) → Alike (posted d u m) (posted d u n)
+  reposted : {d u : ℕ} (m n : Notification) → Alike (posted d u m) (posted d u n)
 
 -- the reserved bits lie above ON and SN
 reserved-same : (eime : Bool) (d d′ : ℕ) → ((k : ℕ) → 258 ≤ k → k < 512 → bit d′ k ≡ bit d k)
@@ -59,10 +59,10 @@ module _ (registers : Registers) (request : InterruptRequest) (m m′ : Memory)
       next : ℕ → Rules Delivery
       next = after postedDescriptor at (fault 0x27 fpd) (descriptorCheck (registers .eime) urgent) (λ d reason. fault reason fpd) (λ n. answer (post at vector n))
 
-      rules : Bool → Notice → Rules Delivery
+      rules : Bool → Notification → Rules Delivery
       rules t n = onCheck (if t then stop 0x28 else go n) (λ reason. answer (fault reason fpd)) (λ n. answer (post at vector n))
 
-      checked : (t t′ : Bool) → t′ ≡ t → (n n′ : Notice) → AlikeD (run (rules t n) m) (run (rules t′ n′) m′)
+      checked : (t t′ : Bool) → t′ ≡ t → (n n′ : Notification) → AlikeD (run (rules t n) m) (run (rules t′ n′) m′)
       checked true true h n n′ = same
       checked false false h n n′ = reposted n n′
       checked true false h n n′ = let z : _≡_ {A = ℕ} 0 1 = cc in absurd (omega arith)
@@ -73,7 +73,7 @@ module _ (registers : Registers) (request : InterruptRequest) (m m′ : Memory)
       by missing missing none-there = same
       by (found d) (found d′) (reserved-there h) =
           checked (reservedDescriptor (registers .eime) d) (reservedDescriptor (registers .eime) d′) (reserved-same (registers .eime) d d′ h)
-          (noticeOf (registers .eime) urgent d) (noticeOf (registers .eime) urgent d′)
+          (notificationOf (registers .eime) urgent d) (notificationOf (registers .eime) urgent d′)
 
   irte-alike : (e : ℕ) (i : Irte) → irteCheck registers (request .source .id) e ≡ go i → Both (onIrte (registers .eime) i)
   unfolding run

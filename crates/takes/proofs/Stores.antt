@@ -19,7 +19,7 @@ use Rattle.image.proofs.Bytes.{AreBytes}
 use Rattle.image.proofs.Choices.{or-false}
 use Rattle.image.specs.Windows.{windowsOf, Spot, nowhere, here, onSpot, spotIn, badWindows}
 use Rattle.interrupts.specs.Claims.{bitAt}
-use Rattle.interrupts.specs.Descriptor.{Notice, silent, notice}
+use Rattle.interrupts.specs.Descriptor.{Notification, silent, notification}
 use Rattle.interrupts.specs.Interrupts.{InterruptOutcome, passed, remapped, posted, blocked, refused}
 use Rattle.interrupts.specs.Post.{withBit, setBit, notified, written}
 use Rattle.interrupts.proofs.Exact.{bit-with}
@@ -101,10 +101,10 @@ module _ (image : List ℕ) (bytes : AreBytes image) (descriptor place : ℕ) wh
 pub bytes-written : (windows image : List ℕ) → AreBytes image → (o : InterruptOutcome) → AreBytes (written windows o image)
 bytes-written windows image bytes (posted d u m) = by m (spotIn (windowsOf windows) 64 d)
   where
-    by : (m : Notice) (s : Spot) → AreBytes (onSpot s image (λ at left. notified at m (setBit at u image)))
+    by : (m : Notification) (s : Spot) → AreBytes (onSpot s image (λ at left. notified at m (setBit at u image)))
     by m nowhere = bytes
     by silent (here at left) = bytes-setBit image bytes at u
-    by (notice v t) (here at left) = bytes-setBit (setBit at u image) (bytes-setBit image bytes at u) at 256
+    by (notification v t) (here at left) = bytes-setBit (setBit at u image) (bytes-setBit image bytes at u) at 256
 bytes-written windows image bytes passed = bytes
 bytes-written windows image bytes (remapped r) = bytes
 bytes-written windows image bytes (blocked f) = bytes

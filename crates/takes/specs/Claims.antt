@@ -10,10 +10,10 @@ use lib.Dec.{eqb}
 use lib.ListN.{length, getD}
 use Rattle.registers.specs.declared.Registers.{Registers}
 use Rattle.interrupts.specs.Claims.{bitAt, entryAt, Shows}
-use Rattle.interrupts.specs.Descriptor.{Notice}
+use Rattle.interrupts.specs.Descriptor.{Notification}
 use Rattle.interrupts.specs.Interrupts.{posted, interruptAnswer}
 use Rattle.interrupts.specs.declared.InterruptRequest.{InterruptRequest}
-use Rattle.takes.specs.Runs.{Operation, request, left, count, one-if, stands, standingFrom, takesAt, handsOut, postsAt, postsClear, notices}
+use Rattle.takes.specs.Runs.{Operation, request, left, count, one-if, stands, standingFrom, takesAt, handsOut, postsAt, postsClear, notifications}
 use Rattle.takes.specs.Take as rules
 use Rattle.takes.specs.Take.{TakeOutcome, taken, takeAnswer}
 
@@ -88,14 +88,14 @@ NoneInvented = (windows : List ℕ) (descriptor vector : ℕ) (bytes : List ℕ)
 
 -- where one request posts, the descriptor shares no byte with the interrupt entry of the other
 abbrev pub Apart : Registers → (one other : InterruptRequest) → (windows bytes : List ℕ) → Type 0
-Apart registers one other windows bytes = (descriptor vector : ℕ) (n : Notice) →
+Apart registers one other windows bytes = (descriptor vector : ℕ) (n : Notification) →
     interruptAnswer registers one windows bytes ≡ posted descriptor vector n →
     (descriptor + 64 ≤ entryAt registers other) ⊎ (entryAt registers other + 16 ≤ descriptor)
 
--- two requests, posts or not, in either order: the same bytes, and as many notices
+-- two requests, posts or not, in either order: the same bytes, and as many notifications
 abbrev pub EitherOrder : Type 0
 EitherOrder = (registers : Registers) (a b : InterruptRequest) (windows bytes : List ℕ) → ((n : ℕ) → getD bytes n 0 < 256) →
     Apart registers a b windows bytes → Apart registers b a windows bytes →
     (left windows (request registers a ∷ request registers b ∷ []) bytes ≡ left windows (request registers b ∷ request registers a ∷ []) bytes)
-    × (count windows (notices windows) (request registers a ∷ request registers b ∷ []) bytes
-    ≡ count windows (notices windows) (request registers b ∷ request registers a ∷ []) bytes)
+    × (count windows (notifications windows) (request registers a ∷ request registers b ∷ []) bytes
+    ≡ count windows (notifications windows) (request registers b ∷ request registers a ∷ []) bytes)

@@ -37,7 +37,7 @@ hands vector (rules.handed v) = eqb v vector
 hands vector rules.none = false
 hands vector (rules.refused number) = false
 
--- by its answer, a request posted to this descriptor at or above this vector; it has a notice
+-- by its answer, a request posted to this descriptor at or above this vector; it has a notification
 abbrev pub postsFrom : (descriptor vector : ℕ) → InterruptOutcome → Bool
 postsFrom descriptor vector (posted d v n) = eqb d descriptor && leb vector v
 postsFrom descriptor vector passed = false
@@ -53,12 +53,12 @@ postsVector descriptor vector (remapped r) = false
 postsVector descriptor vector (blocked f) = false
 postsVector descriptor vector (refused number) = false
 
-abbrev pub noticed : InterruptOutcome → Bool
-noticed (posted d v n) = due n
-noticed passed = false
-noticed (remapped r) = false
-noticed (blocked f) = false
-noticed (refused number) = false
+abbrev pub hasNotification : InterruptOutcome → Bool
+hasNotification (posted d v n) = due n
+hasNotification passed = false
+hasNotification (remapped r) = false
+hasNotification (blocked f) = false
+hasNotification (refused number) = false
 
 module _ (windows : List ℕ) where
   unfoldable pub after : Operation → List ℕ → List ℕ
@@ -84,7 +84,7 @@ module _ (windows : List ℕ) where
   standingFrom descriptor vector bytes = countFrom vector 256 (stands descriptor bytes)
 
   -- the kinds that the claims count: an unrefused take at a descriptor, one that hands out the vector, a post to the descriptor
-  -- at or above the vector, and a post with a notice
+  -- at or above the vector, and a post with a notification
   abbrev pub takesAt : (descriptor : ℕ) → Operation → List ℕ → Bool
   takesAt descriptor (request registers r) bytes = false
   takesAt descriptor (take registers d) bytes = eqb d descriptor && unrefused (takeAnswer registers d windows bytes)
@@ -103,6 +103,6 @@ module _ (windows : List ℕ) where
       postsVector descriptor vector (interruptAnswer registers r windows bytes) && not (stands descriptor bytes vector)
   postsClear descriptor vector (take registers d) bytes = false
 
-  abbrev pub notices : Operation → List ℕ → Bool
-  notices (request registers r) bytes = noticed (interruptAnswer registers r windows bytes)
-  notices (take registers d) bytes = false
+  abbrev pub notifications : Operation → List ℕ → Bool
+  notifications (request registers r) bytes = hasNotification (interruptAnswer registers r windows bytes)
+  notifications (take registers d) bytes = false

@@ -17,12 +17,12 @@ module _ (e : Traced) where
   abbrev pub wellAsked : Bool
   wellAsked = leb 1 (e .kind) && leb (e .kind) 4 && (isInterrupt || eqb (e .«data») 0)
 
-  -- neither a vector nor a destination, of an interrupt or a notice; nothing posted
-  abbrev pub noNotice : Bool
-  noNotice = eqb (e .vector) 0 && eqb (e .destination) 0
+  -- neither a vector nor a destination, of an interrupt or a notification; nothing posted
+  abbrev pub noNotification : Bool
+  noNotification = eqb (e .vector) 0 && eqb (e .destination) 0
 
   abbrev pub bare : Bool
-  bare = noNotice && eqb (e .posted) 0
+  bare = noNotification && eqb (e .posted) 0
 
   -- the number and the flags aren't used
   abbrev pub noNumber : Bool
@@ -56,13 +56,13 @@ module _ (e : Traced) where
   abbrev pub wellRemapped : Bool
   wellRemapped = isInterrupt && eqb (e .number) 0 && leb (e .flags) 63 && eqb (e .posted) 0 && eqb (e .value) 0
 
-  -- answer 6, posted without a notice: the posted vector, and the descriptor's address
+  -- answer 6, posted without a notification: the posted vector, and the descriptor's address
   abbrev pub wellPosted : Bool
-  wellPosted = isInterrupt && noNumber && noNotice
+  wellPosted = isInterrupt && noNumber && noNotification
 
-  -- answer 7, posted with a notice: the same, with the notice's vector and destination
-  abbrev pub wellNoticed : Bool
-  wellNoticed = isInterrupt && noNumber
+  -- answer 7, posted with a notification: the same, with the notification's vector and destination
+  abbrev pub wellNotified : Bool
+  wellNotified = isInterrupt && noNumber
 
   -- answer 8, a page: its frame; the number says its size, 12 for 4 KiB, 21 for 2 MiB, 30 for 1 GiB; flag 0 read, flag 1 write. The
   -- empty answer has size, frame and flags 0
@@ -80,7 +80,7 @@ module _ (e : Traced) where
       || eqb (e .answer) 4 && wellPassed
       || eqb (e .answer) 5 && wellRemapped
       || eqb (e .answer) 6 && wellPosted
-      || eqb (e .answer) 7 && wellNoticed
+      || eqb (e .answer) 7 && wellNotified
       || eqb (e .answer) 8 && wellPage
 
   unfoldable pub wellTraced : Bool

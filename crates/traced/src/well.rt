@@ -1,6 +1,6 @@
 // Which entries are laid out well, answer by answer.
 ghost use mathlib.Core.Path.{_≡_};
-ghost use Rattle.traced.specs.Well.{wellAsked, bare, noNumber, noNotice, wellRefused, wellReason, wellFault, wellGranted, wellPassed, wellRemapped, wellPosted, wellNoticed, wellSize, wellPage, wellAnswered, wellTraced};
+ghost use Rattle.traced.specs.Well.{wellAsked, bare, noNumber, noNotification, wellRefused, wellReason, wellFault, wellGranted, wellPassed, wellRemapped, wellPosted, wellNotified, wellSize, wellPage, wellAnswered, wellTraced};
 use crate::Traced;
 
 fn asked(e: Traced) -> bool
@@ -9,8 +9,8 @@ fn asked(e: Traced) -> bool
     (1 <= e.kind) & (e.kind <= 4) & ((e.kind == 3) | (e.data == 0))
 }
 
-fn without_notice(e: Traced) -> bool
-    ensures { λ r. ⌜ r ≡ noNotice e ⌝ }
+fn without_notification(e: Traced) -> bool
+    ensures { λ r. ⌜ r ≡ noNotification e ⌝ }
 {
     (e.vector == 0) & (e.destination == 0)
 }
@@ -18,7 +18,7 @@ fn without_notice(e: Traced) -> bool
 fn is_bare(e: Traced) -> bool
     ensures { λ r. ⌜ r ≡ bare e ⌝ }
 {
-    without_notice(e) & (e.posted == 0)
+    without_notification(e) & (e.posted == 0)
 }
 
 fn without_number(e: Traced) -> bool
@@ -71,11 +71,11 @@ fn remapped(e: Traced) -> bool
 fn posted(e: Traced) -> bool
     ensures { λ r. ⌜ r ≡ wellPosted e ⌝ }
 {
-    (e.kind == 3) & without_number(e) & without_notice(e)
+    (e.kind == 3) & without_number(e) & without_notification(e)
 }
 
-fn noticed(e: Traced) -> bool
-    ensures { λ r. ⌜ r ≡ wellNoticed e ⌝ }
+fn notified(e: Traced) -> bool
+    ensures { λ r. ⌜ r ≡ wellNotified e ⌝ }
 {
     (e.kind == 3) & without_number(e)
 }
@@ -99,7 +99,7 @@ fn answered(e: Traced) -> bool
         | ((e.answer == 4) & passed(e))
         | ((e.answer == 5) & remapped(e))
         | ((e.answer == 6) & posted(e))
-        | ((e.answer == 7) & noticed(e))
+        | ((e.answer == 7) & notified(e))
         | ((e.answer == 8) & page(e))
 }
 

@@ -7,7 +7,7 @@ use Rattle.image.specs.Place.{noEntry, stoppedAt}
 use Rattle.image.specs.Rules.{run}
 use Rattle.image.proofs.Places.{tried-map}
 use Rattle.image.proofs.Trees.{run-map}
-use Rattle.registers.specs.Admission.{Admitted, refusal, pass, take, admission, inInterruptRange}
+use Rattle.registers.specs.Admission.{Admitted, refusal, pass, takenUp, admission, inInterruptRange}
 use Rattle.registers.specs.declared.Registers.{Registers}
 use Rattle.translation.specs.Completion.{completionRules}
 use Rattle.translation.specs.Requests.{passed, refused, translationOutcome, requestRules}
@@ -27,12 +27,12 @@ module _ (registers : Registers) (request : TranslationRequest) (m : Memory) whe
     unfolding requestRules run
     passes h = rw (← kind, ← h)
 
-    pub takes : take ≡ admitted wrong
+    pub takes : takenUp ≡ admitted wrong
         → translationOutcome request (run (completionRules registers (request .address) (request .source .id)) m) ≡ run (requestRules registers request) m
     unfolding requestRules
     takes h = rw (← kind, ← h) (sym (run-map (translationOutcome request) (completionRules registers (request .address) (request .source .id)) m))
 
-    pub takes-at : take ≡ admitted wrong
+    pub takes-at : takenUp ≡ admitted wrong
         → stoppedAt (completionRules registers (request .address) (request .source .id)) m ≡ stoppedAt (requestRules registers request) m
     unfolding requestRules
     takes-at h =

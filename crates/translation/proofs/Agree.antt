@@ -9,7 +9,7 @@ use Rattle.image.specs.Choice.{if_then_else_}
 use Rattle.image.specs.Memory.{Memory}
 use Rattle.image.specs.Rules.{Rules, answer, run, mapRules}
 use Rattle.image.proofs.Trees.{run-map}
-use Rattle.registers.specs.Admission.{Admitted, refusal, pass, take, admission, onAdmission, inInterruptRange}
+use Rattle.registers.specs.Admission.{Admitted, refusal, pass, takenUp, admission, onAdmission, inInterruptRange}
 use Rattle.registers.specs.Registers.{registersBad}
 use Rattle.registers.specs.declared.Registers.{Registers}
 use Rattle.registers.proofs.Good.{taken-good}
@@ -114,13 +114,13 @@ module _ (registers : Registers) (own address : ℕ) (write : Bool) (m : Memory)
         by-type false false is near = by-width (plain.overflows registers (c .levels) own) refl is near
 
 -- past the registers and the switch, an address outside the interrupt range is taken up
-still-taken : (registers : Registers) (wrong on : Bool) → take ≡ admission registers wrong on → take ≡ admission registers false on
+still-taken : (registers : Registers) (wrong on : Bool) → takenUp ≡ admission registers wrong on → takenUp ≡ admission registers false on
 unfolding admission
 still-taken registers wrong on = by (registersBad registers) wrong
   where
     by : (bad wrong : Bool)
-        → take ≡ (if bad then refusal 1 else if wrong then refusal 2 else if on then take else pass)
-        → take ≡ (if bad then refusal 1 else if false then refusal 2 else if on then take else pass)
+        → takenUp ≡ (if bad then refusal 1 else if wrong then refusal 2 else if on then takenUp else pass)
+        → takenUp ≡ (if bad then refusal 1 else if false then refusal 2 else if on then takenUp else pass)
     by true wrong h = h
     by false true h = let z : _≡_ {A = ℕ} 0 1 = cc in absurd (omega arith)
     by false false h = h
@@ -189,7 +189,7 @@ module _ (registers : Registers) (request : TranslationRequest) (m : Memory) (fr
       (in-context registers (request .address) address write m c wide)
   looked-up-fate wide (noContext reason fpd) e = let z : _≡_ {A = ℕ} 0 1 = cc in absurd (omega arith)
 
-  agrees : inInterruptRange address ≡ false → take ≡ admission registers (inInterruptRange (request .address)) (registers .te)
+  agrees : inInterruptRange address ≡ false → takenUp ≡ admission registers (inInterruptRange (request .address)) (registers .te)
       → translationOutcome request (run (completionRules registers (request .address) (request .source .id)) m) ≡ translated frame size rights
       → Agrees registers request m frame size rights address write
   agrees outside taken e =
@@ -214,5 +214,5 @@ engines-agree registers request m frame size rights answered address write in-pa
         → Agrees registers request m frame size rights address write
     on (refusal n) h e = let z : _≡_ {A = ℕ} 0 1 = cc in absurd (omega arith)
     on pass h e = let z : _≡_ {A = ℕ} 0 1 = cc in absurd (omega arith)
-    on take h e =
+    on takenUp h e =
         agrees registers request m frame size rights address write in-page outside h (sym (run-map (translationOutcome request) rules m) ∙ e)

@@ -13,7 +13,7 @@ use Rattle.image.specs.Rules.{Rules, answer, run, mapRules}
 use Rattle.image.proofs.Choices.{either}
 use Rattle.image.proofs.Fields.{in-place-lt}
 use Rattle.image.proofs.Forks.{Every, every-answer, every-more, every-run, every-map, every-weaken}
-use Rattle.registers.specs.Admission.{Admitted, refusal, pass, take, admission, onAdmission, inInterruptRange}
+use Rattle.registers.specs.Admission.{Admitted, refusal, pass, takenUp, admission, onAdmission, inInterruptRange}
 use Rattle.registers.specs.declared.Registers.{Registers}
 use Rattle.faults.specs.Record.{translationFault}
 use Rattle.dma.specs.Context.{faultProcessingDisabled}
@@ -147,7 +147,7 @@ module _ (registers : Registers) (request : TranslationRequest) where
           → Every Fork Ends 9 (onAdmission k refused (passed (request .address)) (mapRules (translationOutcome request) rules))
       on (refusal n) h = every-answer Fork Ends 9 (refused n) (λ is. let z : _≡_ {A = ℕ} 0 1 = cc in omega arith)
       on pass h = every-answer Fork Ends 9 (passed (request .address)) (λ is. let z : _≡_ {A = ℕ} 0 1 = cc in omega arith)
-      on take taken =
+      on takenUp taken =
           every-map (translationOutcome request) Fork Ends 9 rules
           (every-weaken Asks Asks Says (λ c. Ends (translationOutcome request c)) (λ kind at c h. h) (λ c h. h .1) 9 rules
           (completion-forks (taken-root registers _ (registers .te) taken)))

@@ -11,7 +11,7 @@ use Rattle.image.proofs.Local.{local}
 use Rattle.image.proofs.Places.{local-place, Some, some-fetch, tried-map}
 use Rattle.image.proofs.Trees.{met}
 use Rattle.image.proofs.Unfetched.{every-inside, ends-unfetched}
-use Rattle.registers.specs.Admission.{Admitted, refusal, pass, take, admission, onAdmission, inInterruptRange}
+use Rattle.registers.specs.Admission.{Admitted, refusal, pass, takenUp, admission, onAdmission, inInterruptRange}
 use Rattle.registers.specs.declared.Registers.{Registers}
 use Rattle.dma.specs.Lookup.{rootRules}
 use Rattle.translation.specs.Claims.{accessFault, TranslationLocality, TranslationAtMostNine, TranslationNoneUntaken, TranslationReadsWords, TranslationAccessMeansUnfetched, TranslationAlwaysAnEntry}
@@ -59,11 +59,11 @@ unfolding requestRules named
 translation-none-untaken registers request m = on (admission registers (inInterruptRange (request .address)) (registers .te)) refl
   where
     on : (k : Admitted) → k ≡ admission registers (inInterruptRange (request .address)) (registers .te)
-        → (take ≡ admission registers (inInterruptRange (request .address)) (registers .te) → ⊥)
+        → (takenUp ≡ admission registers (inInterruptRange (request .address)) (registers .te) → ⊥)
         → named (tree registers request k) m ≡ []
     on (refusal n) h not = refl
     on pass h not = refl
-    on take h not = absurd (not h)
+    on takenUp h not = absurd (not h)
 
 pub translation-always-an-entry : TranslationAlwaysAnEntry
 unfolding requestRules run rootRules
@@ -73,7 +73,7 @@ translation-always-an-entry registers request m f ended none = on (admission reg
         → concerned (run (tree registers request a) m) (stoppedAt (tree registers request a) m) ≡ noEntry → ⊥
     on (refusal n) ended none = let z : _≡_ {A = ℕ} 0 1 = cc in omega arith
     on pass ended none = let z : _≡_ {A = ℕ} 0 1 = cc in omega arith
-    on take ended none =
-        let there : stoppedAt (tree registers request take) m ≡ noEntry = rw ended at none in
+    on takenUp ended none =
+        let there : stoppedAt (tree registers request takenUp) m ≡ noEntry = rw ended at none in
         subst Some (sym (tried-map (translationOutcome request) noEntry (rules registers request) m) ∙ there)
         (some-fetch _ _ _ _ m)

@@ -11,7 +11,7 @@ use Rattle.image.specs.Memory.{Memory, Fetched, missing, found, entry, onFetch}
 use Rattle.image.specs.Rules.{Rules, answer, run, mapRules}
 use Rattle.image.proofs.Fields.{fits}
 use Rattle.image.proofs.Trees.{run-map}
-use Rattle.registers.specs.Admission.{Admitted, refusal, pass, take, admission, onAdmission, inInterruptRange}
+use Rattle.registers.specs.Admission.{Admitted, refusal, pass, takenUp, admission, onAdmission, inInterruptRange}
 use Rattle.registers.specs.Source.{busOf, devfnOf}
 use Rattle.registers.specs.declared.Registers.{Registers}
 use Rattle.dma.specs.Context.{contextCheck, contextInvalid, contextOf, faultProcessingDisabled, translationType, widthSupported, addressWidth}
@@ -121,7 +121,7 @@ only-type-1 registers request m frame size rights answered =
         → OfType1 registers request m
     on (refusal n) e = let z : _≡_ {A = ℕ} 0 1 = cc in absurd (omega arith)
     on pass e = let z : _≡_ {A = ℕ} 0 1 = cc in absurd (omega arith)
-    on take e =
+    on takenUp e =
         by-lookup registers request m frame size rights (run (lookupRules registers (request .source .id)) m) refl
         (below-three registers (request .source .id) m)
         (rw (looked-up registers fault (typeRules registers (request .address)) m (request .source .id)) at

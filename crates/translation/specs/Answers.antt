@@ -3,7 +3,7 @@ use Prim.Native.Nat.{ℕ}
 use mathlib.Core.Path.{_≡_}
 use Rattle.image.specs.Entries.{placeOf}
 use Rattle.image.specs.Place.{Place, noEntry, entryAt}
-use Rattle.faults.specs.Fault.{faultOf}
+use Rattle.faults.specs.Answers.{faultOf}
 use Rattle.faults.specs.Reason.{numberOf}
 use Rattle.dma.specs.Walk.{Step, done, down}
 use Rattle.translation.specs.Completion.{Completion, page, empty, fault}

@@ -9,7 +9,7 @@ use Rattle.image.specs.Memory.{Memory}
 use Rattle.image.specs.Place.{noEntry}
 use Rattle.image.specs.Rules.{run, named, entriesOf, SameIn}
 use Rattle.image.specs.Unfetched.{EndsUnfetched}
-use Rattle.registers.specs.Admission.{take, admission, inInterruptRange}
+use Rattle.registers.specs.Admission.{takenUp, admission, inInterruptRange}
 use Rattle.registers.specs.declared.Registers.{Registers}
 use Rattle.faults.specs.Record.{FaultAnswer}
 use Rattle.dma.specs.Isolation.{accessReason}
@@ -57,7 +57,7 @@ TranslationAtMostNine =
 abbrev pub TranslationNoneUntaken : Type 0
 TranslationNoneUntaken =
     (registers : Registers) (request : TranslationRequest) (m : Memory)
-    → (take ≡ admission registers (inInterruptRange (request .address)) (registers .te) → ⊥)
+    → (takenUp ≡ admission registers (inInterruptRange (request .address)) (registers .te) → ⊥)
     → named (requestRules registers request) m ≡ []
 
 -- every entry that it reads is at a multiple of 8

@@ -104,7 +104,7 @@ pub record Isolation : Type 0 where
   pub memory : MemoryAlike
   -- so does a translation request; the claims on rights keep to memory requests
   pub translations : TranslationsAlike
-  -- so does an interrupt that doesn't end in 23h or 27h, record bytes, entry concerned and notice among its parts; and the same bits are set
+  -- so does an interrupt that doesn't end in 23h or 27h, record bytes, entry concerned and notification among its parts; and the same bits are set
   pub interrupts : InterruptsAlike
   -- whichever of the page entries that any memory request walked have read, write or both switched on, a granted request stays
   -- granted, with the same host address; where none of them shares a byte with its root or context entry

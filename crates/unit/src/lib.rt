@@ -7,7 +7,7 @@ pub use faults::Reason;
 pub use image::EntryAddress;
 pub use interrupts::InterruptAnswer;
 pub use interrupts::InterruptRequest;
-pub use interrupts::Notice;
+pub use interrupts::Notification;
 pub use interrupts::Posted;
 pub use interrupts::Remapped;
 pub use interrupts::interrupt_request;

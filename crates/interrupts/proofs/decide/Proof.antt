@@ -4,7 +4,7 @@ use borrow.Author.Needs.{needs}
 use Rattle.image.specs.Place.{stoppedAt}
 use Rattle.image.specs.Windows.{ofWindows}
 use Rattle.interrupts.specs.Interrupts.{concerned, interruptRules}
-use Rattle.registers.specs.Admitted.{admittedOf}
+use Rattle.registers.specs.Answers.{admittedOf}
 use Rattle.interrupts.proofs.Admissions.{table-placed, refuses, passes, takes, takes-at}
 use Rattle.interrupts.proofs.decide.Statement.{statement}
 use Rattle.interrupts.proofs.decide.Tie as tie

@@ -4,7 +4,7 @@ use borrow.Author.Needs.{needs}
 use Rattle.image.specs.Place.{Place}
 use Rattle.image.specs.Windows.{ofWindows}
 use Rattle.interrupts.specs.Answers.{DeliveryNames}
-use Rattle.interrupts.specs.Checked.{requestChecked}
+use Rattle.interrupts.specs.Answers.{requestChecked}
 use Rattle.interrupts.specs.Interrupts.{blocked}
 use Rattle.interrupts.proofs.Admissions.{stops, stops-at, compatible, indexed, indexed-at}
 use Rattle.interrupts.proofs.decide_taken.Statement.{statement}

@@ -12,8 +12,8 @@ returns : tie.Need-returns
 unfolding descriptorCheck
 returns c = (rw (← c .before .reserved-descriptor .ensures, c .if1 .taken), refl)
 
-notice-of-requires : tie.Need-notice-of-requires
-notice-of-requires c κs = search needs
+notification-of-requires : tie.Need-notification-of-requires
+notification-of-requires c κs = search needs
 
 returns-2 : tie.Need-returns-2
 unfolding descriptorCheck
@@ -21,4 +21,4 @@ returns-2 c = (rw (← c .before .before .reserved-descriptor .ensures, c .befor
 
 pub descriptor-check-spec : {M : Type 1} → statement M
 descriptor-check-spec =
-    tie.close (tie.spec reserved-descriptor-requires returns notice-of-requires returns-2)
+    tie.close (tie.spec reserved-descriptor-requires returns notification-of-requires returns-2)

@@ -1,10 +1,10 @@
--- One bit, and with a notice a second, at the place where the descriptor stands.
+-- One bit, and with a notification a second, at the place where the descriptor stands.
 use Prim.Native.Nat.{_+_, _≤_}
 use mathlib.Core.Path.{ap, sym, _∙_}
 use native.Mathlib.Omega.{arith}
 use borrow.Author.Needs.{needs}
 use lib.ListN.{length}
-use Rattle.interrupts.specs.Checked.{dueOf}
+use Rattle.interrupts.specs.Answers.{dueOf}
 use Rattle.interrupts.specs.Post.{setBit, notified}
 use Rattle.interrupts.proofs.Exact.{length-setBit, at-inside, written-at}
 use Rattle.interrupts.proofs.post.write_post.Statement.{statement}
@@ -54,7 +54,7 @@ returns c =
     let a = start .args in
     s .set-bit2 .ensures ∙ ap (setBit (p .place64 .result) 256) (first .set-bit .ensures)
     ∙ sym (ap (λ n. notified (p .place64 .result) (dueOf n) (setBit (p .place64 .result) (a .posted .vector) (a .image .now))) (told .enum-told .given .1))
-    ∙ written-at (a .windows .now) (a .image .now) (a .posted .descriptor) (p .place64 .ensures) (start .pre .1 .2) (a .posted .vector) (dueOf (a .posted .notice))
+    ∙ written-at (a .windows .now) (a .image .now) (a .posted .descriptor) (p .place64 .ensures) (start .pre .1 .2) (a .posted .vector) (dueOf (a .posted .notification))
 
 same-length-2 : tie.Need-same-length-2
 same-length-2 c = search needs
@@ -67,7 +67,7 @@ returns-2 c =
     let a = start .args in
     first .set-bit .ensures
     ∙ sym (ap (λ n. notified (p .place64 .result) (dueOf n) (setBit (p .place64 .result) (a .posted .vector) (a .image .now))) (c .enum-told2 .given .1))
-    ∙ written-at (a .windows .now) (a .image .now) (a .posted .descriptor) (p .place64 .ensures) (start .pre .1 .2) (a .posted .vector) (dueOf (a .posted .notice))
+    ∙ written-at (a .windows .now) (a .image .now) (a .posted .descriptor) (p .place64 .ensures) (start .pre .1 .2) (a .posted .vector) (dueOf (a .posted .notification))
 
 pub write-post-spec : {M : Type 1} → statement M
 write-post-spec =

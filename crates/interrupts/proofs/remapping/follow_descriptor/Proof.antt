@@ -3,7 +3,7 @@ use mathlib.Core.Path.{refl, ap, sym, _∙_}
 use borrow.Author.Needs.{needs}
 use Rattle.image.specs.Windows.{ofWindows}
 use Rattle.image.specs.Entries.{fetched64}
-use Rattle.interrupts.specs.Checked.{descriptorChecked}
+use Rattle.interrupts.specs.Answers.{descriptorChecked}
 use Rattle.interrupts.proofs.Stages.{no-descriptor, descriptor-checked}
 use Rattle.interrupts.proofs.remapping.follow_descriptor.Statement.{statement}
 use Rattle.interrupts.proofs.remapping.follow_descriptor.Tie as tie
@@ -29,8 +29,8 @@ returns c =
 descriptor-check-requires : tie.Need-descriptor-check-requires
 descriptor-check-requires c κs = search needs
 
-enum-known-notice : tie.Need-enum-known-notice
-enum-known-notice c = search needs
+enum-known-notification : tie.Need-enum-known-notification
+enum-known-notification c = search needs
 
 enum-told-2 : tie.Need-enum-told-2
 enum-told-2 c = search needs
@@ -55,7 +55,7 @@ returns-3 c =
     let a = f .before .before .before .args in (
       descriptor-checked (ofWindows (a .windows .now) (a .image .now)) (a .eime) (a .urgent) (a .fpd) (a .vector) (a .at)
           (sym (ap fetched64 (found .d .given .1)) ∙ f .fetch64 .ensures .0)
-          (sym (ap descriptorChecked (c .before .notice .given .1)) ∙ k .descriptor-check .ensures .0),
+          (sym (ap descriptorChecked (c .before .notification .given .1)) ∙ k .descriptor-check .ensures .0),
       refl,
     )
 
@@ -68,7 +68,7 @@ follow-descriptor-spec =
     enum-told
     returns
     descriptor-check-requires
-    enum-known-notice
+    enum-known-notification
     enum-told-2
     returns-2
     returns-3)

@@ -6,7 +6,7 @@ use Rattle.image.specs.Windows.{ofWindows}
 use Rattle.image.specs.Entries.{fetched16}
 use Rattle.image.specs.Place.{Place, entryAt, lastTried, stoppedAt}
 use Rattle.image.specs.Rules.{run}
-use Rattle.irte.specs.Checked.{askedOf, irtePlace}
+use Rattle.irte.specs.Answers.{askedOf, irtePlace}
 use Rattle.interrupts.specs.Answers.{DeliveryNames}
 use Rattle.interrupts.specs.Interrupts.{Delivery, indexRules}
 use Rattle.interrupts.proofs.Raised.{asked-aligned}

@@ -20,8 +20,8 @@ remapped-requires c κs = search needs
 posted-requires : tie.Need-posted-requires
 posted-requires c κs = search needs
 
-noticed-requires : tie.Need-noticed-requires
-noticed-requires c κs = search needs
+notified-requires : tie.Need-notified-requires
+notified-requires c κs = search needs
 
 page-requires : tie.Need-page-requires
 page-requires c κs = search needs
@@ -39,6 +39,6 @@ answered-spec =
     passed-requires
     remapped-requires
     posted-requires
-    noticed-requires
+    notified-requires
     page-requires
     returns)

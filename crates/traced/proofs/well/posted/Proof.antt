@@ -5,11 +5,11 @@ use Rattle.traced.proofs.well.posted.Tie as tie
 without-number-requires : tie.Need-without-number-requires
 without-number-requires c κs = search needs
 
-without-notice-requires : tie.Need-without-notice-requires
-without-notice-requires c κs = search needs
+without-notification-requires : tie.Need-without-notification-requires
+without-notification-requires c κs = search needs
 
 returns : tie.Need-returns
 returns c = cc
 
 pub posted-spec : {M : Type 1} → statement M
-posted-spec = tie.close (tie.spec without-number-requires without-notice-requires returns)
+posted-spec = tie.close (tie.spec without-number-requires without-notification-requires returns)

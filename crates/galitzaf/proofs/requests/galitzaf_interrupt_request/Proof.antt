@@ -1,0 +1,46 @@
+-- Each way out is a line of the definition.
+use mathlib.Core.Path.{sym, _∙_}
+use borrow.Author.Needs.{needs}
+use borrow.Author.Tests.{eq-eqb, ne-eqb}
+use Rattle.galitzaf.specs.Calls.{interruptCall}
+use Rattle.galitzaf.proofs.requests.galitzaf_interrupt_request.Statement.{statement}
+use Rattle.galitzaf.proofs.requests.galitzaf_interrupt_request.Tie as tie
+
+returns : tie.Need-returns
+unfolding interruptCall
+returns c = rw (← c .before .malformed .ensures, c .if1 .taken)
+
+returns-2 : tie.Need-returns-2
+unfolding interruptCall
+returns-2 c = rw (← c .before .before .malformed .ensures, c .before .if1 .left, ne-eqb _ _ (c .if2 .taken))
+
+returns-3 : tie.Need-returns-3
+unfolding interruptCall
+returns-3 c =
+    let first = c .before .before in
+    rw (← first .before .malformed .ensures, first .if1 .left, eq-eqb _ _ (c .before .if2 .left), ne-eqb _ _ (c .if3 .taken))
+
+unpack-requires : tie.Need-unpack-requires
+unpack-requires c κs =
+    let past = c .before .before .before in
+    sym (past .before .malformed .ensures) ∙ past .if1 .left
+
+returns-4 : tie.Need-returns-4
+unfolding interruptCall
+returns-4 c =
+    let stored = c .before .before in
+    let packed = stored .before .before in
+    let asked = packed .before .before .before in
+    let unpacked = asked .before .before in
+    let source = unpacked .before in
+    let third = source .before in
+    let second = third .before in
+    let first = second .before in
+    rw (← first .before .malformed .ensures, first .if1 .left, eq-eqb _ _ (second .if2 .left), eq-eqb _ _ (third .if3 .left), stored .store .ensures, packed .pack-interrupt .ensures, asked .interrupt-request .ensures .0, asked .interrupt-request .ensures .1 .0, asked .interrupt-request .ensures .1 .1, unpacked .unpack .ensures, source .from-number .ensures)
+
+pub galitzaf-interrupt-request-spec : {M : Type 1} → statement M
+galitzaf-interrupt-request-spec =
+    tie.close
+    (tie.spec
+    (λ c κs. search needs) returns returns-2 returns-3 (λ c κs. search needs) unpack-requires (λ c κs. search needs)
+    (λ c κs. search needs) (λ c κs. search needs) (λ c. search needs) (λ c. search needs) returns-4)

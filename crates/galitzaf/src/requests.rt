@@ -1,0 +1,83 @@
+// A device's requests.
+ghost use mathlib.Core.Path.{_≡_};
+ghost use Rattle.galitzaf.specs.Calls.{memoryCall, interruptCall};
+use crate::answer::pack_interrupt;
+use crate::answer::pack_memory;
+use crate::answer::store;
+use crate::status::BAD_ANSWER;
+use crate::status::BAD_KIND;
+use crate::status::BAD_REGISTERS;
+use crate::status::BAD_WINDOWS;
+use crate::status::OK;
+use crate::unpack::malformed;
+use crate::unpack::unpack;
+use registers::SourceId;
+use unit::InterruptRequest;
+use unit::MemoryRequest;
+use unit::interrupt_request;
+use unit::memory_request;
+
+#[no_mangle]
+pub extern "C" fn galitzaf_memory_request(
+    registers: &[u8],
+    windows: &[u64],
+    image: &[u8],
+    source: u16,
+    address: u64,
+    write: u8,
+    answer: &mut [u8],
+) -> u32
+    ensures { λ r. ⌜ (r, now (answer .exit)) ≡ memoryCall (now (registers .entry)) (now (windows .entry)) (now (image .entry)) source address write (now (answer .entry)) ⌝ }
+{
+    if malformed(registers) {
+        return BAD_REGISTERS;
+    }
+    if windows.len() % 3 != 0 {
+        return BAD_WINDOWS;
+    }
+    if answer.len() != 32 {
+        return BAD_ANSWER;
+    }
+    if 1 < write {
+        return BAD_KIND;
+    }
+    let request = MemoryRequest {
+        source: SourceId::from_number(source),
+        address,
+        write: write == 1,
+    };
+    let packed = pack_memory(memory_request(unpack(registers), windows, image, request));
+    store(answer, packed.head, packed.low, packed.high, packed.last);
+    OK
+}
+
+#[no_mangle]
+pub extern "C" fn galitzaf_interrupt_request(
+    registers: &[u8],
+    windows: &[u64],
+    image: &mut [u8],
+    source: u16,
+    address: u64,
+    data: u32,
+    answer: &mut [u8],
+) -> u32
+    ensures { λ r. ⌜ (r, now (image .exit), now (answer .exit)) ≡ interruptCall (now (registers .entry)) (now (windows .entry)) (now (image .entry)) source address «data» (now (answer .entry)) ⌝ }
+{
+    if malformed(registers) {
+        return BAD_REGISTERS;
+    }
+    if windows.len() % 3 != 0 {
+        return BAD_WINDOWS;
+    }
+    if answer.len() != 32 {
+        return BAD_ANSWER;
+    }
+    let request = InterruptRequest {
+        source: SourceId::from_number(source),
+        address,
+        data,
+    };
+    let packed = pack_interrupt(interrupt_request(unpack(registers), windows, image, request));
+    store(answer, packed.head, packed.low, packed.high, packed.last);
+    OK
+}
