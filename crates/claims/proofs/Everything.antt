@@ -36,7 +36,8 @@ use Rattle.cases.proofs.PostsThroughWindows.{posts-through-windows}
 use Rattle.cases.proofs.Takes.{takes-met}
 use Rattle.cases.proofs.Translations.{translation-cases}
 use Rattle.claims.specs.Everything.{Everything}
-use Rattle.claims.proofs.OneAnswer.{one-memory-answer, one-translation-answer, one-interrupt-answer, one-reason}
+use Rattle.claims.proofs.OneAnswer.{one-memory-answer, one-translation-answer, one-interrupt-answer, one-take-answer, one-reason}
+use Rattle.claims.proofs.OneWindow.{whole-in-one-window}
 
 pub everything : Everything
 everything =
@@ -44,6 +45,7 @@ everything =
       leaves-all = leaves-all;
       one-memory-answer = one-memory-answer;
       one-interrupt-answer = one-interrupt-answer;
+      one-take-answer = one-take-answer;
       one-reason = one-reason;
       remapped-by-entry = remapped-by-entry;
       posted-by-entry = posted-by-entry;
@@ -60,6 +62,7 @@ everything =
       one-length = one-length;
       total = total;
       twelve-cases = twelve-cases;
+      whole-in-one-window = whole-in-one-window;
       no-interrupt-granted = no-interrupt-granted;
       whole-frame-tested = whole-frame-tested;
       interrupt-frames = interrupt-frames;

@@ -1,2 +1,3 @@
 pub mod Everything
 pub mod OneAnswer
+pub mod OneWindow

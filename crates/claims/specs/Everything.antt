@@ -26,7 +26,8 @@ use Rattle.cases.specs.InterruptFrames.{InterruptFrames}
 use Rattle.cases.specs.PostsThroughWindows.{PostsThroughWindows}
 use Rattle.cases.specs.Takes.{TakesMet}
 use Rattle.cases.specs.Translations.{TranslationCases}
-use Rattle.claims.specs.OneAnswer.{OneMemoryAnswer, OneTranslationAnswer, OneInterruptAnswer, OneReason}
+use Rattle.claims.specs.OneAnswer.{OneMemoryAnswer, OneTranslationAnswer, OneInterruptAnswer, OneTakeAnswer, OneReason}
+use Rattle.claims.specs.OneWindow.{WholeInOneWindow}
 
 pub record Everything : Type 0 where
   -- demand 1: nothing is changed by an answer that is no post
@@ -34,6 +35,7 @@ pub record Everything : Type 0 where
   -- demand 2: one answer, the post, the index, the entry concerned, the recorder, the bench cases
   pub one-memory-answer : OneMemoryAnswer
   pub one-interrupt-answer : OneInterruptAnswer
+  pub one-take-answer : OneTakeAnswer
   pub one-reason : OneReason
   -- which interrupt is raised, and by whom
   pub remapped-by-entry : RemappedByEntry
@@ -51,6 +53,8 @@ pub record Everything : Type 0 where
   pub one-length : OneLength
   pub total : Total
   pub twelve-cases : TwelveCases
+  -- document 02, Ask 9: entries through windows
+  pub whole-in-one-window : WholeInOneWindow
   -- document 02, Ask 10: no memory request raises an interrupt
   pub no-interrupt-granted : NoInterruptGranted
   pub whole-frame-tested : WholeFrameTested

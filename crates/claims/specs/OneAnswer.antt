@@ -1,4 +1,4 @@
--- The contracts of the requests are equations of what the code's answer says (`outcomeOf`, `entryOf`) with what the rules say. No two
+-- The contracts of the requests and of takes are equations of what the code's answer says (`outcomeOf`, `entryOf`, `takeOutcomeOf`) with what the rules say. No two
 -- answers, and no two reasons, say the same: so each contract leaves one answer. Proved in proofs/OneAnswer.antt.
 use Prim.Native.Nat.{_^_, _<_}
 use mathlib.Core.Path.{_≡_}
@@ -13,6 +13,8 @@ use Rattle.translation.specs.declared.TranslationAnswer.the-variants as transla
 use Rattle.interrupts.specs.Answers as interrupts
 use Rattle.interrupts.specs.declared.answer.InterruptAnswer.{InterruptAnswer}
 use Rattle.interrupts.specs.declared.answer.InterruptAnswer.the-variants as answer
+use Rattle.takes.specs.Answers.{takeOutcomeOf}
+use Rattle.takes.specs.declared.TakeAnswer.{TakeAnswer}
 
 -- an answer whose fault has words of 64 bits, as every answer of the code has
 abbrev pub Sized : MemoryAnswer → Type 0
@@ -44,6 +46,10 @@ OneTranslationAnswer = (r s : TranslationAnswer) → SizedTranslation r → Size
 abbrev pub OneInterruptAnswer : Type 0
 OneInterruptAnswer = (r s : InterruptAnswer) → SizedInterrupt r → SizedInterrupt s → interrupts.outcomeOf r ≡ interrupts.outcomeOf s
     → interrupts.entryOf r ≡ interrupts.entryOf s → r ≡ s
+
+-- a take's answer has no fault, and so neither record words nor an entry concerned
+abbrev pub OneTakeAnswer : Type 0
+OneTakeAnswer = (r s : TakeAnswer) → takeOutcomeOf r ≡ takeOutcomeOf s → r ≡ s
 
 abbrev pub OneReason : Type 0
 OneReason = (r s : Reason) → numberOf r ≡ numberOf s → r ≡ s
