@@ -5,7 +5,7 @@ use mathlib.Core.List.{List, [], _∷_}
 use mathlib.Core.Path.{_≡_, refl, ap, sym, _∙_, fun-ext}
 use lib.ListN.{length, take, drop}
 use Rattle.image.specs.Memory.{Memory, ofImage}
-use Rattle.image.specs.Rules.{named, SameIn}
+use Rattle.image.specs.Rules.{run, named, SameIn}
 use Rattle.image.specs.Windows.{ofWindows, entryIn, flat}
 use Rattle.image.proofs.FlatWindow.{flat-is, flat-fine}
 use Rattle.image.proofs.Longer.{extended}
@@ -19,6 +19,7 @@ use Rattle.translation.specs.Requests.{requestRules}
 use Rattle.translation.proofs.Local.{translation-locality}
 use Rattle.interrupts.specs.Claims.{outcome, namedWords}
 use Rattle.interrupts.proofs.Isolation.{isolated, same-bits}
+use Rattle.takes.specs.Take.{takeRules}
 use Rattle.unit.specs.Isolation.{MemoryAlike, TranslationsAlike, InterruptsAlike, RightsKeep, RightsDeny, MoreKeeps, Isolation, MoreMemory, FlatImages}
 use Rattle.unit.specs.Lent.{Lent, memoryOf, SameWordAt, SameWordsAt}
 use Rattle.unit.proofs.HostBytes.{words-switched, words-kept}
@@ -82,5 +83,7 @@ flat-images image h =
     record {
       good = good;
       memory = λ registers request. rw good (ap (answerOver registers request) same);
+      translations = λ registers request. rw good (ap (run (requestRules registers request)) same);
       interrupts = λ registers request. rw good (ap (outcome registers request) same);
+      takes = λ registers descriptor. rw good (ap (run (takeRules registers descriptor)) same);
     }

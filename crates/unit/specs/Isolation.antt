@@ -1,7 +1,7 @@
 -- The customer's demand 3, whole: more memory or more rights never takes back a grant. Each statement speaks of whole requests, from
 -- registers to answer, for any registers, any request and any two lent memories with windows that aren't refused, compared by host address,
--- over the definition of named words that the answers come from. The same claims over any memory are those of dma/specs/Isolation.antt and
--- interrupts/specs/Claims.antt. The proof of all of it is `isolation` in proofs/Demand3.antt.
+-- over the definition of named words that the answers come from. The same claims over any memory are those of dma/specs/Isolation.antt,
+-- translation/specs/Claims.antt and interrupts/specs/Claims.antt. The proof of all of it is `isolation` in proofs/Demand3.antt.
 use Prim.Native.Nat.{ℕ, _≤_, _^_}
 use mathlib.Core.Bool.{Bool, false, _||_}
 use mathlib.Core.List.{List}
@@ -10,7 +10,7 @@ use lib.ListN.{length}
 use Rattle.image.specs.Alike.{Extends}
 use Rattle.image.specs.Memory.{Memory, ofImage}
 use Rattle.image.specs.Place.{Place}
-use Rattle.image.specs.Rules.{named}
+use Rattle.image.specs.Rules.{named, run}
 use Rattle.image.specs.Windows.{badWindows, flat}
 use Rattle.registers.specs.declared.Registers.{Registers}
 use Rattle.dma.specs.Isolation.{answerOver, accessFault, walkedByAny, Apart}
@@ -23,6 +23,7 @@ use Rattle.interrupts.specs.Claims.{outcome, namedWords, AccessFault, bitAt, se
 use Rattle.interrupts.specs.Interrupts.{InterruptOutcome, interruptAnswer, interruptAnswerPlace}
 use Rattle.interrupts.specs.Post.{written}
 use Rattle.interrupts.specs.declared.InterruptRequest.{InterruptRequest}
+use Rattle.takes.specs.Take.{takeRules, takeAnswer}
 use Rattle.unit.specs.Lent.{Lent, memoryOf, SameWordsAt, SwitchedAt, ShowsAll}
 
 -- what the unit answers over a lent memory, and the entry concerned
@@ -127,8 +128,12 @@ pub record FlatImage (image : List ℕ) : Type 0 where
   pub good : badWindows (flat (length image)) (length image) ≡ false
   pub memory : (registers : Registers) (request : MemoryRequest)
       → memoryAnswer registers request (flat (length image)) image ≡ answerOver registers request (ofImage image)
+  pub translations : (registers : Registers) (request : TranslationRequest)
+      → translationAnswer registers request (flat (length image)) image ≡ run (requestRules registers request) (ofImage image)
   pub interrupts : (registers : Registers) (request : InterruptRequest)
       → interruptAnswer registers request (flat (length image)) image ≡ outcome registers request (ofImage image)
+  pub takes : (registers : Registers) (descriptor : ℕ)
+      → takeAnswer registers descriptor (flat (length image)) image ≡ run (takeRules registers descriptor) (ofImage image)
 
 abbrev pub FlatImages : Type 0
 FlatImages = (image : List ℕ) → length image ≤ 2 ^ 64 → FlatImage image

@@ -1,4 +1,5 @@
-// The whole unit: memory requests, translation requests and interrupts, behind one admission with refusals 1 and 2 and the switches TE and IRE.
+// The whole unit: memory requests, translation requests and interrupts, behind one admission with refusals 1 and 2 and the switches TE and
+// IRE; and takes from posted descriptors, which no switch concerns.
 pub use dma::MemoryAnswer;
 pub use dma::MemoryRequest;
 pub use dma::memory_request;
