@@ -7,9 +7,10 @@
  *
  * What a call assumes:
  *
- * - Pointers are not null and aligned for their type, and each has as many elements behind it as its
- *   length says; a length of 0 may come with any such pointer. Buffers of one call don't overlap where one
- *   of them is written.
+ * - Pointers are not null, and each has as many elements behind it as its length says; a length of 0 may
+ *   come with any such pointer. Buffers of one call don't overlap where one of them is written.
+ * - Bytes need no alignment: registers, answers, records and guest memory may begin anywhere. Windows and
+ *   what meters take are numbers, aligned as C has it for their type.
  * - Nobody else changes what is lent, guest memory among it, while the call runs, and nobody reads what it
  *   writes. Stop the virtual processors and devices that share this memory, or keep them off it by a lock.
  * - So a post is no atomic operation, and neither is a take: each reads and writes plain bytes.
@@ -33,6 +34,15 @@ extern "C" {
 #define GALITZAF_VERSION_PATCH 0
 #define GALITZAF_VERSION "0.1.0"
 
+/* Stands before a call whose answer has to be looked at: the compiler warns where it isn't. */
+#ifndef GALITZAF_CHECK
+#if defined(__GNUC__) || defined(__clang__)
+#define GALITZAF_CHECK __attribute__((warn_unused_result))
+#else
+#define GALITZAF_CHECK
+#endif
+#endif
+
 /* Registers: 24 bytes, numbers little-endian.
  *
  *   byte 0       HAW, host address width
@@ -45,9 +55,32 @@ extern "C" {
  *   bytes 15:8   root table address
  *   bytes 23:16  interrupt remapping table address
  *
- * A value out of VT-d's range (HAW 35, say) is a refusal and not a malformed buffer.
+ * A value out of VT-d's range (HAW 35, say) is refusal 1 and not a malformed buffer: HAW is 36 to 52, MGAW 39 to 57,
+ * at least one number of levels is supported, both tables are multiples of 4096 below 2^HAW, and S is 0 to 15. A guest
+ * that writes the address of a table can bring refusal 1 about; galitzaf_first_bad names the register.
  */
 #define GALITZAF_REGISTERS_SIZE 24
+#define GALITZAF_HAW 0
+#define GALITZAF_MGAW 1
+#define GALITZAF_SUPPORTED 2
+#define GALITZAF_SWITCHES 3
+#define GALITZAF_S 4
+#define GALITZAF_ROOT_TABLE 8       /* 8 bytes */
+#define GALITZAF_INTERRUPT_TABLE 16 /* 8 bytes */
+
+/* Bits of byte SUPPORTED. */
+#define GALITZAF_LEVELS_3 0x01
+#define GALITZAF_LEVELS_4 0x02
+#define GALITZAF_LEVELS_5 0x04
+#define GALITZAF_PAGES_2M 0x08
+#define GALITZAF_PAGES_1G 0x10
+#define GALITZAF_POSTING 0x20
+
+/* Bits of byte SWITCHES. */
+#define GALITZAF_TE 0x01
+#define GALITZAF_IRE 0x02
+#define GALITZAF_EIME 0x04
+#define GALITZAF_CFIS 0x08
 
 /* Guest memory: one run of bytes, and none to four windows, which say at which host addresses parts of it
  * stand. Bytes of the run that no window shows play no part.
@@ -145,6 +178,11 @@ extern "C" {
 #define GALITZAF_PAGE_SIZE 16       /* 8 bytes: TRANSLATED */
 #define GALITZAF_ENTRY 24           /* 8 bytes: BLOCKED */
 
+/* Bits of byte MODES of a REMAPPED answer. */
+#define GALITZAF_LOGICAL 0x01          /* destination mode */
+#define GALITZAF_REDIRECTION_HINT 0x02
+#define GALITZAF_LEVEL_TRIGGERED 0x04
+
 /* Fault reasons, byte 1 of a BLOCKED answer: VT-d's numbers. */
 #define GALITZAF_REASON_ROOT_NOT_PRESENT 0x01
 #define GALITZAF_REASON_CONTEXT_NOT_PRESENT 0x02
@@ -169,9 +207,17 @@ extern "C" {
 #define GALITZAF_REASON_DESCRIPTOR_ACCESS 0x27
 #define GALITZAF_REASON_DESCRIPTOR_RESERVED 0x28
 
-/* Refusals, byte 1 of a REFUSED answer. None is a fault: drop the request, and log it. */
-#define GALITZAF_REFUSAL_BAD_REGISTERS 1            /* a register outside its list, which a guest can bring about, or
-                                                       windows that aren't as said above */
+/* Refusals, byte 1 of a REFUSED answer. None is a fault: nothing was changed and nothing is to be recorded, so drop the
+ * request. What else to do:
+ *
+ *   1  Log it, with what galitzaf_first_bad names. A register is the guest's doing where the guest wrote it, and every
+ *      request is refused until it writes a good one; windows are the caller's own mistake.
+ *   2  An access in FEE00000h to FEEFFFFFh is an interrupt and goes to galitzaf_interrupt_request, any other to the two
+ *      other calls. Where that was so, log the device: it read from that range, or its message lies outside.
+ *   4  Log the device and its address: its tables map a page onto the interrupt range.
+ *
+ * Refusals 3 and 5 are no answers of requests: the recorder and a take answer GALITZAF_REFUSED_3 and _5, below. */
+#define GALITZAF_REFUSAL_BAD_REGISTERS 1            /* a register outside its list, or windows that aren't as said above */
 #define GALITZAF_REFUSAL_WRONG_ADDRESS 2            /* an address of the other kind of request */
 #define GALITZAF_REFUSAL_PAGE_IN_INTERRUPT_RANGE 4  /* a walk that ended on FEE00000h to FEEFFFFFh */
 
@@ -180,12 +226,16 @@ extern "C" {
 #define GALITZAF_RECORDS_SIZE 128      /* 8 slots, the fewest */
 #define GALITZAF_RECORDS_MAX_SIZE 4096 /* 256 slots, the most */
 #define GALITZAF_RECORDER_SIZE 2
+#define GALITZAF_NEXT_SLOT 0
+#define GALITZAF_OVERFLOW 1
 
 /* What a call answers. */
 #define GALITZAF_OK 0x00             /* a request: the answer buffer holds its answer */
-#define GALITZAF_REFUSED_1 0x01      /* take: bad registers or windows */
-#define GALITZAF_REFUSED_3 0x03      /* recorder: length of records or state, next slot or slot out of range */
-#define GALITZAF_REFUSED_5 0x05      /* take: the descriptor isn't 64-aligned, or not whole in one window */
+#define GALITZAF_REFUSED_1 0x01      /* take: bad registers or windows, as for requests; nothing was taken */
+#define GALITZAF_REFUSED_3 0x03      /* recorder: length of records or state, next slot or slot out of range; the caller's
+                                        own mistake, and no record was changed */
+#define GALITZAF_REFUSED_5 0x05      /* take: the descriptor isn't 64-aligned, or not whole in one window; no interrupt is
+                                        to be delivered from it: log it */
 #define GALITZAF_NO_FAULT 0x10       /* record: the answer holds no fault */
 #define GALITZAF_NOT_RECORDABLE 0x11 /* record: FPD silenced the fault */
 #define GALITZAF_DROPPED 0x12        /* record: overflow was set already */
@@ -197,6 +247,14 @@ extern "C" {
 #define GALITZAF_OVERFLOW_CLEARED 0x31 /* clear overflow: it was set */
 #define GALITZAF_NONE_STANDS 0x40    /* take: no request bit stands */
 #define GALITZAF_METERS_REFUSED 0x60 /* meters: something in row, counts or bytes is bad */
+#define GALITZAF_NONE_BAD 0x70       /* first bad: no register and no window */
+#define GALITZAF_FIRST_BAD_HAW 0x71  /* first bad: this register, 71h to 76h */
+#define GALITZAF_FIRST_BAD_MGAW 0x72
+#define GALITZAF_FIRST_BAD_LEVELS 0x73
+#define GALITZAF_FIRST_BAD_ROOT_TABLE 0x74
+#define GALITZAF_FIRST_BAD_INTERRUPT_TABLE 0x75
+#define GALITZAF_FIRST_BAD_S 0x76
+#define GALITZAF_FIRST_BAD_WINDOW 0x78 /* first bad: 78h to 7Ch, the window's place in the array is added */
 #define GALITZAF_BAD_REGISTERS 0x101 /* not 24 bytes, or a bit set that has to be zero */
 #define GALITZAF_BAD_ANSWER 0x102    /* not 32 bytes, or, to be recorded, of no kind above */
 #define GALITZAF_BAD_KIND 0x103      /* write is neither 0 nor 1 */
@@ -210,6 +268,7 @@ extern "C" {
 
 /* Where an untranslated request may go. source has the bus in 15:8, device and function in 7:0; write
  * is 1 for a write, 0 for a read. */
+GALITZAF_CHECK
 uint32_t galitzaf_memory_request(const uint8_t *registers, size_t registers_len,
                                  const uint64_t *windows, size_t windows_len,
                                  const uint8_t *image, size_t image_len,
@@ -219,6 +278,7 @@ uint32_t galitzaf_memory_request(const uint8_t *registers, size_t registers_len,
 /* The page that a device with a translation cache of its own asks for: frame, size and the rights joined over
  * all levels, which memory requests of that source at every address of the page outside FEE00000h to
  * FEEFFFFFh have too. */
+GALITZAF_CHECK
 uint32_t galitzaf_translation_request(const uint8_t *registers, size_t registers_len,
                                       const uint64_t *windows, size_t windows_len,
                                       const uint8_t *image, size_t image_len,
@@ -227,6 +287,7 @@ uint32_t galitzaf_translation_request(const uint8_t *registers, size_t registers
 
 /* What becomes of an interrupt message. A posted one changes two bits of the run at most, in the window that
  * holds the descriptor; any other answer leaves it as it came. */
+GALITZAF_CHECK
 uint32_t galitzaf_interrupt_request(const uint8_t *registers, size_t registers_len,
                                     const uint64_t *windows, size_t windows_len,
                                     uint8_t *image, size_t image_len,
@@ -236,26 +297,44 @@ uint32_t galitzaf_interrupt_request(const uint8_t *registers, size_t registers_l
 /* Takes from the posted interrupt descriptor at a host address: its highest request bit is cleared and the
  * vector answered, or that none stands; the ON bit is cleared either way. A refused call leaves the run
  * as it came. Of the descriptor nothing but its place and alignment is looked at. */
+GALITZAF_CHECK
 uint32_t galitzaf_take(const uint8_t *registers, size_t registers_len,
                        const uint64_t *windows, size_t windows_len,
                        uint8_t *image, size_t image_len,
                        uint64_t descriptor);
 
+/* Which register or window refusal 1 is for: the first in the order of the list, HAW, MGAW, levels, root table, interrupt
+ * table, S, then the windows from the first; GALITZAF_NONE_BAD exactly where no call with these arguments answers refusal
+ * 1. A window is named where those up to it are refused: by itself, beside one before it, or as the fifth. Malformed
+ * registers are told before malformed windows. No byte of guest memory is read: image_len is the length of the run. */
+GALITZAF_CHECK
+uint32_t galitzaf_first_bad(const uint8_t *registers, size_t registers_len,
+                            const uint64_t *windows, size_t windows_len,
+                            size_t image_len);
+
 /* Records the fault of a request's answer. Every recorder call tells refusal 3 first: records or a state
  * of another length, a next slot or a slot to clear above the last. Here a malformed answer comes next, then
  * a malformed recorder, then that the answer holds no fault. A byte 2 other than 1 counts as not recordable. */
+GALITZAF_CHECK
 uint32_t galitzaf_record(const uint8_t *answer, size_t answer_len,
                          uint8_t *records, size_t records_len,
                          uint8_t *recorder, size_t recorder_len);
 
 /* Clears bit 127 of the record in a slot. */
+GALITZAF_CHECK
 uint32_t galitzaf_clear_slot(uint8_t *records, size_t records_len,
                              const uint8_t *recorder, size_t recorder_len,
                              uint8_t slot);
 
 /* Clears the overflow flag. */
+GALITZAF_CHECK
 uint32_t galitzaf_clear_overflow(const uint8_t *records, size_t records_len,
                                  uint8_t *recorder, size_t recorder_len);
+
+/* Kinds of gates. */
+#define GALITZAF_METER_OFF 0
+#define GALITZAF_METER_LIMIT 1 /* trips above its high */
+#define GALITZAF_METER_BAND 2  /* trips below its low and above its high */
 
 /* Storm meters: a load for each device, halved on each tick before the tick's count is added, and a gate that it may
  * trip. A meter is a place in each of four arrays of one length: its kind, its low, its high and its load. Kind 0 is off
@@ -265,6 +344,7 @@ uint32_t galitzaf_clear_overflow(const uint8_t *records, size_t records_len,
  * bytes[i] becomes 1 where the new load trips gate i, else 0. The tick is GALITZAF_METERS_REFUSED, with loads and bytes
  * as they came, where counts or bytes aren't one per meter, a count is above 65,535, a load isn't from 0 to 131,070, a
  * limit that the kind looks at isn't finite or is below zero, or a low is over its high. */
+GALITZAF_CHECK
 uint32_t galitzaf_tick_meters(const uint8_t *kinds, size_t kinds_len,
                               const double *lows, size_t lows_len,
                               const double *highs, size_t highs_len,

@@ -1,6 +1,7 @@
 /* A fault in words, in the style of Linux's log:
  *
  *   [DMA Write] Request device [03:02.0] fault addr 40201000 [fault reason 05h] write permission missing, entry 5008
+ *   [DMA Translation] Request device [03:02.0] fault addr 40201000 [fault reason 0Dh] translation request blocked, entry 2100
  *   [INTR-REMAP] Request device [03:02.0] fault index 1F [fault reason 22h] interrupt entry not present, entry 61F0
  *
  * The address is that of the page, and entry the host address of the entry concerned, where there is one. Written in C
@@ -34,6 +35,7 @@ static inline const char *galitzaf_reason_text(uint8_t reason)
     case GALITZAF_REASON_ROOT_RESERVED: return "reserved bit set in root entry";
     case GALITZAF_REASON_CONTEXT_RESERVED: return "reserved bit set in context entry";
     case GALITZAF_REASON_PAGE_ENTRY_RESERVED: return "reserved bit set in page entry";
+    case GALITZAF_REASON_TRANSLATION_BLOCKED: return "translation request blocked";
     case GALITZAF_REASON_REQUEST_RESERVED: return "reserved bit set in interrupt request";
     case GALITZAF_REASON_INDEX_OUT_OF_RANGE: return "interrupt index out of range";
     case GALITZAF_REASON_IRTE_NOT_PRESENT: return "interrupt entry not present";
@@ -44,6 +46,22 @@ static inline const char *galitzaf_reason_text(uint8_t reason)
     case GALITZAF_REASON_DESCRIPTOR_ACCESS: return "posted descriptor not fetched";
     case GALITZAF_REASON_DESCRIPTOR_RESERVED: return "reserved bit set in posted descriptor";
     default: return "unknown reason";
+    }
+}
+
+/* What refusal 1 is for, in words, from the answer of galitzaf_first_bad; a window without its place. */
+static inline const char *galitzaf_first_bad_text(uint32_t first_bad)
+{
+    switch (first_bad) {
+    case GALITZAF_NONE_BAD: return "none";
+    case GALITZAF_FIRST_BAD_HAW: return "HAW";
+    case GALITZAF_FIRST_BAD_MGAW: return "MGAW";
+    case GALITZAF_FIRST_BAD_LEVELS: return "levels";
+    case GALITZAF_FIRST_BAD_ROOT_TABLE: return "root table";
+    case GALITZAF_FIRST_BAD_INTERRUPT_TABLE: return "interrupt table";
+    case GALITZAF_FIRST_BAD_S: return "S";
+    default:
+        return first_bad >= GALITZAF_FIRST_BAD_WINDOW && first_bad <= GALITZAF_FIRST_BAD_WINDOW + 4 ? "window" : "malformed";
     }
 }
 
@@ -97,7 +115,9 @@ static inline size_t galitzaf_fault_line(const uint8_t *answer, size_t answer_le
         uint8_t reason = answer[GALITZAF_REASON];
         int interrupt = reason >= 0x20 && reason < 0x30;
 
-        galitzaf_line_text(&line, interrupt ? "[INTR-REMAP]" : record[15] & 0x40 ? "[DMA Read]" : "[DMA Write]");
+        galitzaf_line_text(&line, interrupt ? "[INTR-REMAP]"
+                                  : (record[15] & 0x30) == 0x10 ? "[DMA Translation]"
+                                  : record[15] & 0x40 ? "[DMA Read]" : "[DMA Write]");
         galitzaf_line_text(&line, " Request device [");
         galitzaf_line_hex(&line, record[9], 2, lower);
         galitzaf_line_text(&line, ":");

@@ -60,8 +60,11 @@ enum { GCMD = 0x18, RTADDR = 0x20, IRTA = 0xB8 };
 #define CFI (UINT32_C(1) << 23)
 
 static uint64_t rtaddr, irta;
-/* HAW 39, MGAW 48; 3 and 4 levels, 2 MiB and 1 GiB pages, posting. */
-static uint8_t registers[GALITZAF_REGISTERS_SIZE] = {39, 48, 0x3B};
+static uint8_t registers[GALITZAF_REGISTERS_SIZE] = {
+    [GALITZAF_HAW] = 39,
+    [GALITZAF_MGAW] = 48,
+    [GALITZAF_SUPPORTED] = GALITZAF_LEVELS_3 | GALITZAF_LEVELS_4 | GALITZAF_PAGES_2M | GALITZAF_PAGES_1G | GALITZAF_POSTING,
+};
 
 static void set_address(int byte, uint64_t address)
 {
@@ -72,15 +75,16 @@ static void set_address(int byte, uint64_t address)
 /* A table's address counts from the command that sets it, as VT-d has it. The switches are the command's. */
 static void command(uint32_t bits)
 {
-    uint8_t eime = registers[3] & 0x04;
+    int eime = registers[GALITZAF_SWITCHES] & GALITZAF_EIME;
     if (bits & SRTP)
-        set_address(8, rtaddr & ~UINT64_C(0xFFF));
+        set_address(GALITZAF_ROOT_TABLE, rtaddr & ~UINT64_C(0xFFF));
     if (bits & SIRTP) {
-        set_address(16, irta & ~UINT64_C(0xFFF));
-        registers[4] = irta & 0xF;              /* S */
-        eime = (uint8_t)((irta >> 11 & 1) << 2);
+        set_address(GALITZAF_INTERRUPT_TABLE, irta & ~UINT64_C(0xFFF));
+        registers[GALITZAF_S] = irta & 0xF;
+        eime = irta >> 11 & 1 ? GALITZAF_EIME : 0;
     }
-    registers[3] = (uint8_t)((bits & TE ? 0x01 : 0) | (bits & IRE ? 0x02 : 0) | eime | (bits & CFI ? 0x08 : 0));
+    registers[GALITZAF_SWITCHES] = (uint8_t)((bits & TE ? GALITZAF_TE : 0) | (bits & IRE ? GALITZAF_IRE : 0) | eime |
+                                             (bits & CFI ? GALITZAF_CFIS : 0));
 }
 
 static void mmio_write(int offset, uint64_t value)
@@ -97,11 +101,21 @@ static void mmio_write(int offset, uint64_t value)
 static uint8_t answer[GALITZAF_ANSWER_SIZE];
 static uint8_t records[GALITZAF_RECORDS_SIZE], recorder[GALITZAF_RECORDER_SIZE];
 
+/* Refusal 1 is told with what it is for. */
+static void refused(void)
+{
+    printf("  refused %d", answer[GALITZAF_REFUSAL]);
+    if (answer[GALITZAF_REFUSAL] == GALITZAF_REFUSAL_BAD_REGISTERS)
+        printf(" (%s)", galitzaf_first_bad_text(galitzaf_first_bad(registers, sizeof registers, GALITZAF_WINDOWS(windows, 2),
+                                                                   RUN_SIZE)));
+    puts("");
+}
+
 static void not_granted(void)
 {
     char line[GALITZAF_FAULT_LINE_SIZE];
     if (answer[GALITZAF_KIND] == GALITZAF_REFUSED) {
-        printf("  refused %d\n", answer[GALITZAF_REFUSAL]); /* no fault: drop the request, and log it */
+        refused(); /* no fault: drop the request, and log it */
         return;
     }
     galitzaf_fault_line(answer, sizeof answer, line, sizeof line);
@@ -117,7 +131,8 @@ static void read_faults(void)
         if (record[15] & 0x80) {
             printf("  slot %d: reason %02X, source %04X, page %" PRIX64 "\n", slot, record[12], (unsigned)load(record + 8, 2),
                    load(record, 8));
-            galitzaf_clear_slot(records, sizeof records, recorder, sizeof recorder, slot);
+            if (galitzaf_clear_slot(records, sizeof records, recorder, sizeof recorder, slot) != GALITZAF_SLOT_CLEARED)
+                puts("  not cleared");
         }
     }
 }

@@ -1,4 +1,15 @@
-//! The C interface's buffers, as words of 8 bytes.
+//! The C interface's buffers, as words of 8 bytes, and how a word is shown.
+
+use core::fmt;
+
+/// A word that is shown in hexadecimal.
+pub(crate) struct Hex(pub(crate) u64);
+
+impl fmt::Debug for Hex {
+    fn fmt(&self, f: &mut fmt::Formatter<'_>) -> fmt::Result {
+        write!(f, "{:#X}", self.0)
+    }
+}
 
 /// The words of a buffer, little-endian.
 pub(crate) fn split<const WORDS: usize>(bytes: &[u8]) -> [[u8; 8]; WORDS] {

@@ -2,7 +2,7 @@
 
 use core::fmt;
 
-use crate::bytes::join;
+use crate::bytes::{join, Hex};
 use crate::ffi::{ANSWER_SIZE, BLOCKED};
 use crate::SourceId;
 
@@ -141,7 +141,7 @@ impl fmt::Display for Reason {
 ///     "[DMA Write] Request device [03:02.0] fault addr 1000 [fault reason 08h] root entry not fetched, entry 30",
 /// );
 /// ```
-#[derive(Clone, Copy, Debug, PartialEq, Eq, Hash)]
+#[derive(Clone, Copy, PartialEq, Eq, Hash)]
 pub struct Fault {
     reason: Reason,
     recordable: bool,
@@ -196,6 +196,18 @@ impl Fault {
     }
 }
 
+/// Its parts, with record and entry in hexadecimal.
+impl fmt::Debug for Fault {
+    fn fmt(&self, f: &mut fmt::Formatter<'_>) -> fmt::Result {
+        f.debug_struct("Fault")
+            .field("reason", &self.reason)
+            .field("recordable", &self.recordable)
+            .field("record", &self.record)
+            .field("entry", &self.entry.map(Hex))
+            .finish()
+    }
+}
+
 /// A line in the style of Linux's log: the record's, and the entry concerned where there is one.
 impl fmt::Display for Fault {
     fn fmt(&self, f: &mut fmt::Formatter<'_>) -> fmt::Result {
@@ -217,8 +229,9 @@ impl fmt::Display for Fault {
 /// assert_eq!(record.reason(), Reason::ReadDenied);
 /// assert_eq!(record.source(), SourceId::new(0x03, 0x10));
 /// assert_eq!(record.page_address(), 0x4020_2000);
+/// assert_eq!(format!("{record:?}"), "FaultRecord(0000000040202000 C000000600000310)");
 /// ```
-#[derive(Clone, Copy, Debug, Default, PartialEq, Eq, Hash)]
+#[derive(Clone, Copy, Default, PartialEq, Eq, Hash)]
 pub struct FaultRecord(u128);
 
 impl FaultRecord {
@@ -247,9 +260,14 @@ impl FaultRecord {
         self.0 >> 127 & 1 == 1
     }
 
-    /// T, bit 126: set for a read request.
+    /// T, bit 126: set for a read request, and for a translation request.
     pub const fn is_read(self) -> bool {
         self.0 >> 126 & 1 == 1
+    }
+
+    /// AT, bits 125:124: 01b for a translation request.
+    pub const fn is_translation(self) -> bool {
+        self.0 >> 124 & 3 == 1
     }
 
     /// FR, bits 103:96: the reason.
@@ -288,6 +306,14 @@ impl FaultRecord {
     }
 }
 
+/// Its two words in hexadecimal, bits 63:0 first.
+impl fmt::Debug for FaultRecord {
+    fn fmt(&self, f: &mut fmt::Formatter<'_>) -> fmt::Result {
+        let [low, high] = self.words();
+        write!(f, "FaultRecord({low:016X} {high:016X})")
+    }
+}
+
 /// A line in the style of Linux's log, with the address of a memory request's page or an interrupt's index.
 impl fmt::Display for FaultRecord {
     fn fmt(&self, f: &mut fmt::Formatter<'_>) -> fmt::Result {
@@ -299,7 +325,11 @@ impl fmt::Display for FaultRecord {
                 "[INTR-REMAP] Request device [{source}] fault index {index:X}"
             )?;
         } else {
-            let kind = if self.is_read() { "Read" } else { "Write" };
+            let kind = match (self.is_translation(), self.is_read()) {
+                (true, _) => "Translation",
+                (false, true) => "Read",
+                (false, false) => "Write",
+            };
             let page = self.page_address();
             write!(
                 f,
@@ -341,7 +371,7 @@ mod tests {
                 _ => assert_eq!(told, ""),
             }
         }
-        assert_eq!(faults, 105);
+        assert_eq!(faults, 121);
     }
 
     #[test]
@@ -367,6 +397,10 @@ mod tests {
         assert!(record.is_read() && !record.is_standing());
         let standing = FaultRecord::from_words([0, 1 << 63]);
         assert!(standing.is_standing() && !standing.is_read());
+        for (top, translation) in [(0xCu64, false), (0xD, true), (0xE, false), (0xF, false)] {
+            let record = FaultRecord::from_words([0, top << 60]);
+            assert_eq!(record.is_translation(), translation);
+        }
     }
 
     #[test]

@@ -8,130 +8,7 @@
 
 use crate::Window;
 
-/// The packed registers.
-pub(crate) const REGISTERS_SIZE: usize = 24;
-/// An answer.
-pub(crate) const ANSWER_SIZE: usize = 32;
-/// The recorder's state: next slot and overflow.
-pub(crate) const RECORDER_SIZE: usize = 2;
-
-pub(crate) const GRANTED: u8 = 6;
-pub(crate) const BLOCKED: u8 = 1;
-pub(crate) const REFUSED: u8 = 2;
-pub(crate) const PASSED: u8 = 3;
-pub(crate) const REMAPPED: u8 = 4;
-pub(crate) const POSTED: u8 = 5;
-pub(crate) const TRANSLATED: u8 = 7;
-pub(crate) const EMPTY: u8 = 8;
-
-pub(crate) const OK: u32 = 0x00;
-pub(crate) const REFUSED_3: u32 = 0x03;
-pub(crate) const NO_FAULT: u32 = 0x10;
-pub(crate) const NOT_RECORDABLE: u32 = 0x11;
-pub(crate) const DROPPED: u32 = 0x12;
-pub(crate) const OVERFLOWED: u32 = 0x13;
-pub(crate) const WRITTEN: u32 = 0x14;
-pub(crate) const SLOT_CLEAR: u32 = 0x20;
-pub(crate) const SLOT_CLEARED: u32 = 0x21;
-pub(crate) const OVERFLOW_CLEAR: u32 = 0x30;
-pub(crate) const OVERFLOW_CLEARED: u32 = 0x31;
-pub(crate) const METERS_REFUSED: u32 = 0x60;
-pub(crate) const NONE_STANDS: u32 = 0x40;
-pub(crate) const TAKEN: u32 = 0x200;
-
-extern "C" {
-    fn galitzaf_memory_request(
-        registers: *const u8,
-        registers_len: usize,
-        windows: *const u64,
-        windows_len: usize,
-        image: *const u8,
-        image_len: usize,
-        source: u16,
-        address: u64,
-        write: u8,
-        answer: *mut u8,
-        answer_len: usize,
-    ) -> u32;
-
-    fn galitzaf_translation_request(
-        registers: *const u8,
-        registers_len: usize,
-        windows: *const u64,
-        windows_len: usize,
-        image: *const u8,
-        image_len: usize,
-        source: u16,
-        address: u64,
-        answer: *mut u8,
-        answer_len: usize,
-    ) -> u32;
-
-    fn galitzaf_interrupt_request(
-        registers: *const u8,
-        registers_len: usize,
-        windows: *const u64,
-        windows_len: usize,
-        image: *mut u8,
-        image_len: usize,
-        source: u16,
-        address: u64,
-        data: u32,
-        answer: *mut u8,
-        answer_len: usize,
-    ) -> u32;
-
-    fn galitzaf_take(
-        registers: *const u8,
-        registers_len: usize,
-        windows: *const u64,
-        windows_len: usize,
-        image: *mut u8,
-        image_len: usize,
-        descriptor: u64,
-    ) -> u32;
-
-    fn galitzaf_record(
-        answer: *const u8,
-        answer_len: usize,
-        records: *mut u8,
-        records_len: usize,
-        recorder: *mut u8,
-        recorder_len: usize,
-    ) -> u32;
-
-    fn galitzaf_clear_slot(
-        records: *mut u8,
-        records_len: usize,
-        recorder: *const u8,
-        recorder_len: usize,
-        slot: u8,
-    ) -> u32;
-
-    fn galitzaf_clear_overflow(
-        records: *const u8,
-        records_len: usize,
-        recorder: *mut u8,
-        recorder_len: usize,
-    ) -> u32;
-
-    fn galitzaf_tick_meters(
-        kinds: *const u8,
-        kinds_len: usize,
-        lows: *const f64,
-        lows_len: usize,
-        highs: *const f64,
-        highs_len: usize,
-        loads: *mut f64,
-        loads_len: usize,
-        counts: *const u32,
-        counts_len: usize,
-        bytes: *mut u8,
-        bytes_len: usize,
-    ) -> u32;
-
-    fn galitzaf_reset_meters(loads: *mut f64, loads_len: usize) -> u32;
-}
+pub(crate) use crate::declared::*;
 
 /// How many numbers windows are: a `Window` is laid out as three of them.
 fn numbers(windows: &[Window]) -> usize {
@@ -225,6 +102,21 @@ pub(crate) fn interrupt_request(
         )
     };
     (status == OK).then_some(answer)
+}
+
+/// What the library said to which register or window is bad first.
+pub(crate) fn first_bad(registers: &[u8; REGISTERS_SIZE], windows: &[Window], run: usize) -> u32 {
+    // SAFETY: each pointer and length is that of a live slice or array, windows taken as numbers. None
+    // is written or kept.
+    unsafe {
+        galitzaf_first_bad(
+            registers.as_ptr(),
+            registers.len(),
+            windows.as_ptr().cast(),
+            numbers(windows),
+            run,
+        )
+    }
 }
 
 /// What the library said to a take.

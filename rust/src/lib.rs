@@ -63,8 +63,10 @@
 
 mod answer;
 mod bytes;
+mod declared;
 mod fault;
 mod ffi;
+mod first_bad;
 mod memory;
 mod meters;
 mod recorder;
@@ -78,6 +80,7 @@ pub use answer::{
     Posted, Refusal, Remapped, TakeAnswer, TranslationAnswer, TriggerMode,
 };
 pub use fault::{Fault, FaultRecord, Reason};
+pub use first_bad::FirstBad;
 pub use memory::{Memory, Window};
 pub use meters::{Gate, Meters, MetersError};
 pub use recorder::{Recorded, Recorder, RecorderState};

@@ -2,6 +2,8 @@
 
 use core::fmt;
 
+use crate::bytes::Hex;
+
 /// A window: a part of the lent run, and the host address at which it stands.
 ///
 /// ```
@@ -12,7 +14,7 @@ use core::fmt;
 /// assert_eq!(high.start + high.length, 0x1_0400_0000);
 /// ```
 #[repr(C)]
-#[derive(Clone, Copy, Debug, Default, PartialEq, Eq, Hash)]
+#[derive(Clone, Copy, Default, PartialEq, Eq, Hash)]
 pub struct Window {
     /// Host address of its first byte, a multiple of 4096.
     pub start: u64,
@@ -20,6 +22,17 @@ pub struct Window {
     pub offset: u64,
     /// How many bytes it has, at least 1.
     pub length: u64,
+}
+
+/// In hexadecimal.
+impl fmt::Debug for Window {
+    fn fmt(&self, f: &mut fmt::Formatter<'_>) -> fmt::Result {
+        f.debug_struct("Window")
+            .field("start", &Hex(self.start))
+            .field("offset", &Hex(self.offset))
+            .field("length", &Hex(self.length))
+            .finish()
+    }
 }
 
 /// Guest memory: one run of bytes, and none to four windows that say at which host addresses parts of

@@ -1,5 +1,7 @@
 //! The fault recorder.
 
+use core::fmt;
+
 use crate::bytes::join;
 use crate::ffi::{self, ANSWER_SIZE, RECORDER_SIZE};
 use crate::{Fault, FaultRecord, Refusal};
@@ -56,7 +58,7 @@ pub struct RecorderState {
 /// assert_eq!(recorder.clear_slot(slot), Ok(true));
 /// assert_eq!(recorder.standing().count(), 0);
 /// ```
-#[derive(Clone, Copy, Debug, PartialEq, Eq, Hash)]
+#[derive(Clone, Copy, PartialEq, Eq, Hash)]
 pub struct Recorder<B = [u8; 128]> {
     records: B,
     state: RecorderState,
@@ -193,6 +195,24 @@ impl<B: AsMut<[u8]>> Recorder<B> {
             ffi::SLOT_CLEAR => Ok(false),
             _ => Err(refusal(said)),
         }
+    }
+}
+
+/// The state, and the records that stand by their slots.
+impl<B: AsRef<[u8]>> fmt::Debug for Recorder<B> {
+    fn fmt(&self, f: &mut fmt::Formatter<'_>) -> fmt::Result {
+        f.debug_struct("Recorder")
+            .field("state", &self.state)
+            .field("standing", &Standing(self))
+            .finish()
+    }
+}
+
+struct Standing<'a, B>(&'a Recorder<B>);
+
+impl<B: AsRef<[u8]>> fmt::Debug for Standing<'_, B> {
+    fn fmt(&self, f: &mut fmt::Formatter<'_>) -> fmt::Result {
+        f.debug_map().entries(self.0.standing()).finish()
     }
 }
 

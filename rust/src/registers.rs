@@ -1,6 +1,8 @@
 //! The unit's registers.
 
-use crate::bytes::join;
+use core::fmt;
+
+use crate::bytes::{join, split, Hex};
 use crate::ffi::REGISTERS_SIZE;
 
 /// The numbers of page table levels that a unit supports, as SAGAW of VT-d's capability register
@@ -51,7 +53,7 @@ impl Levels {
 /// assert_eq!(bytes[..5], [39, 48, 0b011, 0b0001, 0]);
 /// assert_eq!(bytes[8..16], 0x1000u64.to_le_bytes());
 /// ```
-#[derive(Clone, Copy, Debug, Default, PartialEq, Eq, Hash)]
+#[derive(Clone, Copy, Default, PartialEq, Eq, Hash)]
 pub struct Registers {
     /// Host address width, 36 to 52.
     pub haw: u8,
@@ -101,6 +103,55 @@ impl Registers {
     }
 }
 
+impl Registers {
+    /// Those of bytes that `to_bytes` made.
+    pub(crate) fn from_bytes(bytes: &[u8; REGISTERS_SIZE]) -> Self {
+        let [head, root, interrupt] = split(bytes);
+        let [haw, mgaw, supported, switches, s, ..] = head;
+        let on = |byte: u8, place: u32| byte.wrapping_shr(place) & 1 == 1;
+        Self {
+            haw,
+            mgaw,
+            levels: Levels {
+                three: on(supported, 0),
+                four: on(supported, 1),
+                five: on(supported, 2),
+            },
+            pages_2m: on(supported, 3),
+            pages_1g: on(supported, 4),
+            posting: on(supported, 5),
+            root_table: u64::from_le_bytes(root),
+            interrupt_table: u64::from_le_bytes(interrupt),
+            s,
+            te: on(switches, 0),
+            ire: on(switches, 1),
+            eime: on(switches, 2),
+            cfis: on(switches, 3),
+        }
+    }
+}
+
+/// Addresses in hexadecimal.
+impl fmt::Debug for Registers {
+    fn fmt(&self, f: &mut fmt::Formatter<'_>) -> fmt::Result {
+        f.debug_struct("Registers")
+            .field("haw", &self.haw)
+            .field("mgaw", &self.mgaw)
+            .field("levels", &self.levels)
+            .field("pages_2m", &self.pages_2m)
+            .field("pages_1g", &self.pages_1g)
+            .field("posting", &self.posting)
+            .field("root_table", &Hex(self.root_table))
+            .field("interrupt_table", &Hex(self.interrupt_table))
+            .field("s", &self.s)
+            .field("te", &self.te)
+            .field("ire", &self.ire)
+            .field("eime", &self.eime)
+            .field("cfis", &self.cfis)
+            .finish()
+    }
+}
+
 /// A byte of flags, the first in bit 0.
 fn bits(flags: &[bool]) -> u8 {
     flags
@@ -141,6 +192,7 @@ mod tests {
             let mut expected = [0; REGISTERS_SIZE];
             expected[at] = byte;
             assert_eq!(registers.to_bytes(), expected);
+            assert_eq!(Registers::from_bytes(&expected), registers);
         }
     }
 }

@@ -1,7 +1,9 @@
 //! The unit.
 
+use core::fmt;
+
 use crate::ffi::{self, REGISTERS_SIZE};
-use crate::{Access, InterruptAnswer, InterruptRequest, MemoryAnswer, MemoryRequest};
+use crate::{Access, FirstBad, InterruptAnswer, InterruptRequest, MemoryAnswer, MemoryRequest};
 use crate::{Memory, Refusal, Registers, TakeAnswer, TranslationAnswer, TranslationRequest};
 
 /// A remapping unit: its registers, ready to answer requests over any guest memory.
@@ -10,7 +12,7 @@ use crate::{Memory, Refusal, Registers, TakeAnswer, TranslationAnswer, Translati
 /// While a request is answered nobody else changes this memory, as Rust has it for what a reference
 /// lends. So posts and takes are plain writes and no atomic operations: virtual processors and devices
 /// that share the memory have to be kept off it meanwhile.
-#[derive(Clone, Copy, Debug, PartialEq, Eq, Hash)]
+#[derive(Clone, Copy, PartialEq, Eq, Hash)]
 pub struct Unit {
     registers: [u8; REGISTERS_SIZE],
 }
@@ -21,6 +23,50 @@ impl Unit {
         Self {
             registers: registers.to_bytes(),
         }
+    }
+
+    /// The registers that it was made with.
+    ///
+    /// ```
+    /// use galitzaf::{Registers, Unit};
+    ///
+    /// let registers = Registers { haw: 39, root_table: 0x1000, ..Registers::default() };
+    /// let unit = Unit::new(&registers);
+    /// assert_eq!(unit.registers(), registers);
+    /// // Both are shown by these, addresses in hexadecimal.
+    /// assert_eq!(format!("{unit:?}"), format!("Unit({registers:?})"));
+    /// assert!(format!("{unit:?}").contains("haw: 39") && format!("{unit:?}").contains("root_table: 0x1000"));
+    /// ```
+    pub fn registers(&self) -> Registers {
+        Registers::from_bytes(&self.registers)
+    }
+
+    /// Which register or window [`Refusal::BadRegisters`] is for: the first in the list's order, registers
+    /// before windows; none exactly where no request over this memory is so refused.
+    ///
+    /// ```
+    /// use galitzaf::{FirstBad, Levels, Memory, Registers, Unit, Window};
+    ///
+    /// let good = Registers {
+    ///     haw: 39, mgaw: 48, levels: Levels { four: true, ..Levels::NONE }, ..Registers::default()
+    /// };
+    /// let run = [0; 0x2000];
+    /// let first = |registers, memory| Unit::new(&registers).first_bad(&memory);
+    /// assert_eq!(first(good, Memory::flat(&run)), None);
+    ///
+    /// // A guest wrote an address that is too wide.
+    /// let registers = Registers { root_table: 1 << 39, ..good };
+    /// assert_eq!(first(registers, Memory::flat(&run)), Some(FirstBad::RootTable));
+    ///
+    /// // The second window overlaps the first.
+    /// let window = |start, offset| Window { start, offset, length: 0x1000 };
+    /// let windows = [window(0x1000, 0), window(0x1000, 0x1000)];
+    /// assert_eq!(first(good, Memory::new(&run, &windows)), Some(FirstBad::Window(1)));
+    /// ```
+    pub fn first_bad<R: AsRef<[u8]>>(&self, memory: &Memory<R>) -> Option<FirstBad> {
+        let status =
+            memory.lend(|windows, run| ffi::first_bad(&self.registers, windows, run.len()));
+        FirstBad::decode(status)
     }
 
     /// Where a memory request may go. Reads memory, and no more of it than the tables it walks.
@@ -157,6 +203,13 @@ impl Unit {
         let status =
             memory.lend_mut(|windows, run| ffi::take(&self.registers, windows, run, descriptor));
         TakeAnswer::decode(status)
+    }
+}
+
+/// As its registers.
+impl fmt::Debug for Unit {
+    fn fmt(&self, f: &mut fmt::Formatter<'_>) -> fmt::Result {
+        f.debug_tuple("Unit").field(&self.registers()).finish()
     }
 }
 

@@ -6,6 +6,7 @@ use Rattle.trace.proofs.Apart.{one-block}
 use Rattle.trace.proofs.Reading.{told-in-steps}
 use Rattle.trace.proofs.Filling.{trace-handed-out}
 use Rattle.trace.proofs.RoundTrip.{read-back}
+use Rattle.refused.proofs.NoneBad.{none-bad}
 use Rattle.faults.proofs.Recording.{slot-counts}
 use Rattle.faults.proofs.Totals.{one-length, total}
 use Rattle.dma.proofs.Access.{locality}
@@ -43,6 +44,7 @@ pub everything : Everything
 everything =
     record {
       leaves-all = leaves-all;
+      none-bad = none-bad;
       one-memory-answer = one-memory-answer;
       one-interrupt-answer = one-interrupt-answer;
       one-take-answer = one-take-answer;

@@ -9,6 +9,7 @@ use Rattle.trace.specs.Told.{OneBlock}
 use Rattle.trace.specs.Reader.{ToldInSteps}
 use Rattle.trace.specs.Written.{ReadBack}
 use Rattle.trace.specs.Writer.{TraceHandedOut}
+use Rattle.refused.specs.FirstBad.{NoneBad}
 use Rattle.faults.specs.Slots.{SlotCounts}
 use Rattle.faults.specs.Total.{OneLength, Total}
 use Rattle.dma.specs.Isolation.{Locality, AlwaysAnEntry, AccessMeansUnfetched, RightsOn, RightsOff, Unshared}
@@ -30,8 +31,9 @@ use Rattle.claims.specs.OneAnswer.{OneMemoryAnswer, OneTranslationAnswer
 use Rattle.claims.specs.OneWindow.{WholeInOneWindow}
 
 pub record Everything : Type 0 where
-  -- demand 1: nothing is changed by an answer that is no post
+  -- demand 1: nothing is changed by an answer that is no post; what refusal 1 is for
   pub leaves-all : LeavesAll
+  pub none-bad : NoneBad
   -- demand 2: one answer, the post, the index, the entry concerned, the recorder, the bench cases
   pub one-memory-answer : OneMemoryAnswer
   pub one-interrupt-answer : OneInterruptAnswer

@@ -1,6 +1,7 @@
 pub mod Answer
 pub mod Buffer
 pub mod Calls
+pub mod FirstBad
 pub mod Meters
 pub mod Recording
 pub mod Registers

@@ -28,6 +28,10 @@ badMeters = 0x106
 abbrev pub metersRefused : ℕ
 metersRefused = 0x60
 
+-- no register and no window is bad; the number of the first that is is added to it
+abbrev pub noneBad : ℕ
+noneBad = 0x70
+
 -- a take: no request bit stands
 abbrev pub noneStands : ℕ
 noneStands = 0x40

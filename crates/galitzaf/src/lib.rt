@@ -1,6 +1,7 @@
 // The C interface that include/galitzaf.h fixes: arguments are unpacked, the unit is asked, and its answer is packed.
 mod answer;
 mod buffer;
+mod first_bad;
 mod meters;
 mod recorder;
 mod requests;
@@ -9,6 +10,7 @@ mod taking;
 mod translating;
 mod unpack;
 
+pub use first_bad::galitzaf_first_bad;
 pub use meters::galitzaf_reset_meters;
 pub use meters::galitzaf_tick_meters;
 pub use recorder::galitzaf_clear_overflow;

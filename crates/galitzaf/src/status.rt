@@ -9,6 +9,9 @@ pub const NONE_STANDS: u32 = 0x40;
 
 pub const METERS_REFUSED: u32 = 0x60;
 
+// Plus the number of the first bad register or window.
+pub const NONE_BAD: u32 = 0x70;
+
 pub const BAD_REGISTERS: u32 = 0x101;
 
 pub const BAD_ANSWER: u32 = 0x102;

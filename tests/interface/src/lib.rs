@@ -9,95 +9,18 @@ use galitzaf as _;
 
 use std::ops::Deref;
 
+#[path = "../../../rust/src/declared.rs"]
+mod declared;
 mod meters;
 
 pub use meters::{reset_meters, tick_meters, Gates};
 
-/// Bytes of the registers.
-pub const REGISTERS_SIZE: usize = 24;
-/// Bytes of an answer.
-pub const ANSWER_SIZE: usize = 32;
-/// Bytes of the record buffer.
-pub const RECORDS_SIZE: usize = 128;
-/// Bytes of the recorder's state.
-pub const RECORDER_SIZE: usize = 2;
+pub use declared::{ANSWER_SIZE, RECORDER_SIZE, RECORDS_SIZE, REGISTERS_SIZE};
 
-extern "C" {
-    fn galitzaf_memory_request(
-        registers: *const u8,
-        registers_len: usize,
-        windows: *const u64,
-        windows_len: usize,
-        image: *const u8,
-        image_len: usize,
-        source: u16,
-        address: u64,
-        write: u8,
-        answer: *mut u8,
-        answer_len: usize,
-    ) -> u32;
-
-    fn galitzaf_translation_request(
-        registers: *const u8,
-        registers_len: usize,
-        windows: *const u64,
-        windows_len: usize,
-        image: *const u8,
-        image_len: usize,
-        source: u16,
-        address: u64,
-        answer: *mut u8,
-        answer_len: usize,
-    ) -> u32;
-
-    fn galitzaf_interrupt_request(
-        registers: *const u8,
-        registers_len: usize,
-        windows: *const u64,
-        windows_len: usize,
-        image: *mut u8,
-        image_len: usize,
-        source: u16,
-        address: u64,
-        data: u32,
-        answer: *mut u8,
-        answer_len: usize,
-    ) -> u32;
-
-    fn galitzaf_take(
-        registers: *const u8,
-        registers_len: usize,
-        windows: *const u64,
-        windows_len: usize,
-        image: *mut u8,
-        image_len: usize,
-        descriptor: u64,
-    ) -> u32;
-
-    fn galitzaf_record(
-        answer: *const u8,
-        answer_len: usize,
-        records: *mut u8,
-        records_len: usize,
-        recorder: *mut u8,
-        recorder_len: usize,
-    ) -> u32;
-
-    fn galitzaf_clear_slot(
-        records: *mut u8,
-        records_len: usize,
-        recorder: *const u8,
-        recorder_len: usize,
-        slot: u8,
-    ) -> u32;
-
-    fn galitzaf_clear_overflow(
-        records: *const u8,
-        records_len: usize,
-        recorder: *mut u8,
-        recorder_len: usize,
-    ) -> u32;
-}
+use declared::{
+    galitzaf_clear_overflow, galitzaf_clear_slot, galitzaf_first_bad, galitzaf_interrupt_request,
+    galitzaf_memory_request, galitzaf_record, galitzaf_take, galitzaf_translation_request,
+};
 
 /// The windows of a plain image of some length: one from 0, or none.
 #[derive(Clone, Copy)]
@@ -220,6 +143,20 @@ pub fn take(registers: &[u8], windows: &[u64], image: &mut [u8], descriptor: u64
             image.as_mut_ptr(),
             image.len(),
             descriptor,
+        )
+    }
+}
+
+/// `galitzaf_first_bad`.
+pub fn first_bad(registers: &[u8], windows: &[u64], run: usize) -> u32 {
+    // SAFETY: each pointer and length is that of a live slice. None is written or kept.
+    unsafe {
+        galitzaf_first_bad(
+            registers.as_ptr(),
+            registers.len(),
+            windows.as_ptr(),
+            windows.len(),
+            run,
         )
     }
 }

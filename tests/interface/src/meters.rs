@@ -1,23 +1,6 @@
 //! The meters' calls.
 
-extern "C" {
-    fn galitzaf_tick_meters(
-        kinds: *const u8,
-        kinds_len: usize,
-        lows: *const f64,
-        lows_len: usize,
-        highs: *const f64,
-        highs_len: usize,
-        loads: *mut f64,
-        loads_len: usize,
-        counts: *const u32,
-        counts_len: usize,
-        bytes: *mut u8,
-        bytes_len: usize,
-    ) -> u32;
-
-    fn galitzaf_reset_meters(loads: *mut f64, loads_len: usize) -> u32;
-}
+use crate::declared::{galitzaf_reset_meters, galitzaf_tick_meters};
 
 /// The parts of a row that a tick doesn't write.
 #[derive(Clone, Copy)]

@@ -1,0 +1,150 @@
+//! What `include/galitzaf.h` declares, its names without `GALITZAF_`: the sizes, numbers and functions that are used from Rust.
+//!
+//! The one place for them: the crate has them here, and `tests/interface` takes this file too. `tests/run-rust` holds it to the
+//! header.
+
+// Neither of the two uses all of it.
+#![allow(dead_code)]
+
+/// Bytes of the registers.
+pub const REGISTERS_SIZE: usize = 24;
+/// Bytes of an answer.
+pub const ANSWER_SIZE: usize = 32;
+/// Bytes of a buffer of 8 records.
+pub const RECORDS_SIZE: usize = 128;
+/// Bytes of the recorder's state.
+pub const RECORDER_SIZE: usize = 2;
+
+pub const BLOCKED: u8 = 1;
+pub const REFUSED: u8 = 2;
+pub const PASSED: u8 = 3;
+pub const REMAPPED: u8 = 4;
+pub const POSTED: u8 = 5;
+pub const GRANTED: u8 = 6;
+pub const TRANSLATED: u8 = 7;
+pub const EMPTY: u8 = 8;
+
+pub const OK: u32 = 0x00;
+pub const REFUSED_3: u32 = 0x03;
+pub const NO_FAULT: u32 = 0x10;
+pub const NOT_RECORDABLE: u32 = 0x11;
+pub const DROPPED: u32 = 0x12;
+pub const OVERFLOWED: u32 = 0x13;
+pub const WRITTEN: u32 = 0x14;
+pub const SLOT_CLEAR: u32 = 0x20;
+pub const SLOT_CLEARED: u32 = 0x21;
+pub const OVERFLOW_CLEAR: u32 = 0x30;
+pub const OVERFLOW_CLEARED: u32 = 0x31;
+pub const NONE_STANDS: u32 = 0x40;
+pub const METERS_REFUSED: u32 = 0x60;
+pub const NONE_BAD: u32 = 0x70;
+pub const FIRST_BAD_HAW: u32 = 0x71;
+pub const FIRST_BAD_MGAW: u32 = 0x72;
+pub const FIRST_BAD_LEVELS: u32 = 0x73;
+pub const FIRST_BAD_ROOT_TABLE: u32 = 0x74;
+pub const FIRST_BAD_INTERRUPT_TABLE: u32 = 0x75;
+pub const FIRST_BAD_S: u32 = 0x76;
+pub const FIRST_BAD_WINDOW: u32 = 0x78;
+pub const TAKEN: u32 = 0x200;
+
+extern "C" {
+    pub fn galitzaf_memory_request(
+        registers: *const u8,
+        registers_len: usize,
+        windows: *const u64,
+        windows_len: usize,
+        image: *const u8,
+        image_len: usize,
+        source: u16,
+        address: u64,
+        write: u8,
+        answer: *mut u8,
+        answer_len: usize,
+    ) -> u32;
+
+    pub fn galitzaf_translation_request(
+        registers: *const u8,
+        registers_len: usize,
+        windows: *const u64,
+        windows_len: usize,
+        image: *const u8,
+        image_len: usize,
+        source: u16,
+        address: u64,
+        answer: *mut u8,
+        answer_len: usize,
+    ) -> u32;
+
+    pub fn galitzaf_interrupt_request(
+        registers: *const u8,
+        registers_len: usize,
+        windows: *const u64,
+        windows_len: usize,
+        image: *mut u8,
+        image_len: usize,
+        source: u16,
+        address: u64,
+        data: u32,
+        answer: *mut u8,
+        answer_len: usize,
+    ) -> u32;
+
+    pub fn galitzaf_take(
+        registers: *const u8,
+        registers_len: usize,
+        windows: *const u64,
+        windows_len: usize,
+        image: *mut u8,
+        image_len: usize,
+        descriptor: u64,
+    ) -> u32;
+
+    pub fn galitzaf_first_bad(
+        registers: *const u8,
+        registers_len: usize,
+        windows: *const u64,
+        windows_len: usize,
+        image_len: usize,
+    ) -> u32;
+
+    pub fn galitzaf_record(
+        answer: *const u8,
+        answer_len: usize,
+        records: *mut u8,
+        records_len: usize,
+        recorder: *mut u8,
+        recorder_len: usize,
+    ) -> u32;
+
+    pub fn galitzaf_clear_slot(
+        records: *mut u8,
+        records_len: usize,
+        recorder: *const u8,
+        recorder_len: usize,
+        slot: u8,
+    ) -> u32;
+
+    pub fn galitzaf_clear_overflow(
+        records: *const u8,
+        records_len: usize,
+        recorder: *mut u8,
+        recorder_len: usize,
+    ) -> u32;
+
+    pub fn galitzaf_tick_meters(
+        kinds: *const u8,
+        kinds_len: usize,
+        lows: *const f64,
+        lows_len: usize,
+        highs: *const f64,
+        highs_len: usize,
+        loads: *mut f64,
+        loads_len: usize,
+        counts: *const u32,
+        counts_len: usize,
+        bytes: *mut u8,
+        bytes_len: usize,
+    ) -> u32;
+
+    pub fn galitzaf_reset_meters(loads: *mut f64, loads_len: usize) -> u32;
+}
