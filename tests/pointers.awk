@@ -51,26 +51,12 @@ function look(name, files, n,    i, all) {
 
 # Which columns of a table hold names and files.
 function heading(    i, n, cell) {
-    theorem = where = public = 0
+    theorem = where = 0
     n = split($0, cell, / *\| */)
     for (i = 1; i <= n; i++) {
         if (cell[i] == "theorem" || cell[i] == "law") theorem = i
         if (cell[i] == "where") where = i
-        if (cell[i] == "function") public = i
     }
-}
-
-# In a table of public functions: a crate's row, **CRATE** (src/FILE, FILE), then a row for each function.
-function public_row(text,    i, n, crate, name) {
-    if (match(text, /^\*\*[a-z]+\*\*/)) {
-        crate = substr(text, 3, RLENGTH - 4)
-        gsub(/src\//, crate "/src/", text)
-        own = paths(text, "", source)
-        for (i = 1; i <= own; i++) count(source[i] in there, "no file " source[i])
-        return
-    }
-    n = names(text, name)
-    for (i = 1; i <= n; i++) look(name[i], source, own)
 }
 
 function theorem_row(text, places,    i, n, k, name, path) {
@@ -97,11 +83,10 @@ function files_there(text,    i, n, path) {
 
 FILENAME == ARGV[1] { there[$0] = 1; next }
 FILENAME == ARGV[2] { defined[$0] = 1; next }
-!/^\|/ { table = public = theorem = 0 }
+!/^\|/ { table = theorem = 0 }
 /^\|/ && !table { table = 1; heading(); next }
 /^\|---/ { next }
 { split($0, cell, / *\| */) }
-public { public_row(cell[public]); next }
 theorem && where { theorem_row(cell[theorem], cell[where]) }
 { files_there($0); names_behind_files($0) }
 END { print total + 0, wrong + 0 }
