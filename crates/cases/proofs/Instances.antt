@@ -1,40 +1,178 @@
--- Demand 3 at the bench image: its premises can be met.
-use Prim.Native.Nat.{ℕ, _+_, _*_, _%_, _≤_}
+-- Demand 3 at the bench image and at memories with a hole: its premises can be met.
+use Prim.Native.Nat.{ℕ, zero, suc, _+_, _-_, _*_, _%_, _^_, _≤_, _<_}
 use mathlib.Core.Bool.{Bool, true, false}
-use mathlib.Core.Path.{_≡_, refl, sym, _∙_}
-use mathlib.Core.List.{List, [], _∷_, List·Memᴰ, List·Memᴰ·head, List·Memᴰ·tail, List·Memᴰ·not-nil, List·Memᴰ·cases-cons}
+use mathlib.Core.Path.{_≡_, refl, ap, sym, _∙_, fun-ext, subst}
+use mathlib.Core.List.{List, [], _∷_, _++_, List·Memᴰ, List·Memᴰ·head, List·Memᴰ·tail, List·Memᴰ·not-nil, List·Memᴰ·cases-cons}
 use mathlib.Core.Logic.{_⊎_, inl, inr, ⊎-elim}
 use native.Mathlib.Omega.{arith}
 use native.Mathlib.Decide.{decLe}
-use lib.Dec.{lit≤}
-use lib.ListN.{set, take, drop, take-append-drop}
+use borrow.Author.Tests.{le-leb, lt-leb}
+use lib.Dec.{leb, lit≤}
+use lib.ListN.{length, getD, set, take, drop, take-append-drop, length-set, length-take, length-drop, List·getD-append}
+use lib.Seq.{getD-set-other, take-append-le, drop-append-le}
 use Rattle.image.specs.Alike.{SameWord, SameWords}
 use Rattle.image.specs.Bits.{bits}
 use Rattle.image.specs.Bytes.{littleEndian, bytesOf}
-use Rattle.image.specs.Memory.{wordAt, ofImage, entry}
-use Rattle.image.specs.Rules.{run, mapRules, named, entriesOf, wordsFrom, SameIn}
+use Rattle.image.specs.Choice.{if_then_else_}
+use Rattle.image.specs.Memory.{Memory, Fetched, missing, found, wordAt, ofImage, entry}
+use Rattle.image.specs.Rules.{run, mapRules, named, entriesOf, wordsFrom}
+use Rattle.image.specs.Windows.{Window, windowsOf, holdsAll, Spot, nowhere, here, onSpot, spotIn, entryIn, ofWindows, badWithAny, badList, badWindows, flat}
+use Rattle.image.proofs.FlatWindow.{flat-is, flat-fine}
+use Rattle.image.proofs.GoodWindows.{holding, past-it}
 use Rattle.image.proofs.Longer.{longer}
-use Rattle.image.proofs.OneByte.{byte-elsewhere}
-use Rattle.image.proofs.Same.{one-word}
 use Rattle.registers.specs.Admission.{admission}
 use Rattle.registers.specs.Registers.{registersBad}
-use Rattle.faults.specs.Record.{silenced, memoryRecord, fromBit64, memoryFault}
+use Rattle.registers.specs.declared.Registers.{Registers}
+use Rattle.faults.specs.Record.{memoryFault}
 use Rattle.dma.specs.Context.{contextReserved, contextInvalid, contextCheck}
-use Rattle.dma.specs.Isolation.{answerOver, accessFault, walkedByAny, Disjoint, Apart, SwitchedEntry, BothFetched, SwitchedOn, SwitchedOff}
+use Rattle.dma.specs.Isolation.{answerOver, accessFault, walkedByAny, Disjoint, Apart, SwitchedEntry, BothFetched}
 use Rattle.dma.specs.Lookup.{contextRules, rootRules}
 use Rattle.dma.specs.Page.{pageReserved, pageCheck}
-use Rattle.dma.specs.Requests.{MemoryOutcome, granted, blocked, memoryRules, tableEntries}
+use Rattle.dma.specs.Requests.{MemoryOutcome, granted, memoryRules, memoryAnswer, tableEntries}
 use Rattle.dma.specs.Root.{rootReserved, rootCheck}
 use Rattle.dma.specs.Translation.{widthRules}
 use Rattle.dma.specs.Walk.{walkRules}
+use Rattle.dma.specs.declared.MemoryRequest.{MemoryRequest}
+use Rattle.translation.specs.Claims as translation
+use Rattle.translation.specs.Completion.{typeRules}
+use Rattle.translation.specs.Requests as translations
+use Rattle.translation.specs.declared.TranslationRequest.{TranslationRequest}
 use Rattle.interrupts.specs.Claims.{outcome, namedWords, AccessFault}
 use Rattle.interrupts.specs.Descriptor.{notification, descriptorCheck}
-use Rattle.interrupts.specs.Interrupts.{posted, descriptorRules, indexRules, requestRules, interruptRules}
-use Rattle.irte.specs.Irte.{reservedIrte, irteCheck}
+use Rattle.interrupts.specs.Interrupts.{posted, interruptAnswer, descriptorRules, indexRules, requestRules, interruptRules}
 use Rattle.interrupts.specs.Request.{requestCheck}
+use Rattle.interrupts.specs.declared.InterruptRequest.{InterruptRequest}
+use Rattle.irte.specs.Irte.{reservedIrte, irteCheck}
 use Rattle.irte.specs.Source.{sourceAllowed}
+use Rattle.unit.specs.Isolation.{memoryOver, translationOver, interruptOver}
+use Rattle.unit.specs.Lent.{Lent, memoryOf, placeOf, byteOf, SameWordAt, SameWordsAt, SwitchedAt, ShowsAll}
+use Rattle.unit.proofs.Demand3.{isolation, flat-images}
 use Rattle.cases.specs.Bench.{layout, bench, benchRegisters}
-use Rattle.cases.specs.Instances.{reads, writes, beyond, readable, remaps, posts, PremisesMet}
+use Rattle.cases.specs.Instances.{
+  Related,
+  FlatRelated,
+  MemoryPremises,
+  TranslationPremises,
+  InterruptPremises,
+  OnPremises,
+  OffPremises,
+  MorePremises,
+  reads,
+  writes,
+  beyond,
+  readable,
+  type1,
+  translates,
+  remaps,
+  posts,
+  holed,
+  holedWindows,
+  cut,
+  cutWindows,
+  reordered,
+  reorderedWindows,
+  PremisesMet,
+}
+use Rattle.cases.specs.PostsThroughWindows as small
+use Rattle.cases.specs.Takes.{posts31}
+
+-- These are the premises of `Isolation`: each part of it, given them, says the same answer.
+memory-fits : (registers : Registers) (request : MemoryRequest) (l l′ : Lent) → MemoryPremises registers request l l′
+    → memoryOver registers request l′ ≡ memoryOver registers request l
+memory-fits registers request l l′ p = isolation .memory registers request l l′ (p .no-access-fault) (p .alike) .0
+
+translation-fits : (registers : Registers) (request : TranslationRequest) (l l′ : Lent) → TranslationPremises registers request l l′
+    → translationOver registers request l′ ≡ translationOver registers request l
+translation-fits registers request l l′ p = isolation .translations registers request l l′ (p .no-access-fault) (p .alike) .0
+
+interrupt-fits : (registers : Registers) (request : InterruptRequest) (l l′ : Lent) → InterruptPremises registers request l l′
+    → interruptOver registers request l′ ≡ interruptOver registers request l
+interrupt-fits registers request l l′ p = isolation .interrupts registers request l l′ (p .no-access-fault) (p .alike) .0
+
+on-fits : (registers : Registers) (walkers : List MemoryRequest) (request : MemoryRequest) (address : ℕ) (l l′ : Lent)
+    → OnPremises registers walkers request address l l′ → memoryOver registers request l′ ≡ granted address
+on-fits registers walkers request address l l′ p =
+    isolation .rights-on registers walkers request l l′ (p .apart) (p .switched) address (p .was-granted)
+
+off-fits : (registers : Registers) (walkers : List MemoryRequest) (request : MemoryRequest) (address : ℕ) (l l′ : Lent)
+    → OffPremises registers walkers request l l′ → memoryOver registers request l′ ≡ granted address → ⊥
+off-fits registers walkers request address l l′ p =
+    isolation .rights-off registers walkers request l l′ (p .apart) (p .switched) (p .not-granted) address
+
+more-fits : (registers : Registers) (request : MemoryRequest) (address : ℕ) (l l′ : Lent)
+    → MorePremises registers request address l l′ → memoryOver registers request l′ ≡ granted address
+more-fits registers request address l l′ p = isolation .more-memory registers request l l′ address (p .shows) (p .was-granted)
+
+-- Images lent as one window from 0: what is said of the images is said of the lent memories.
+abbrev lent : (image : List ℕ) → badWindows (flat (length image)) (length image) ≡ false → Lent
+lent image good = record { windows = flat (length image); bytes = image; good = good }
+
+abbrev all : ℕ → Window
+all n = record { start = 0; place = 0; size = n }
+
+spot : (n size at : ℕ) → 0 < size → at + size ≤ n → spotIn (windowsOf (flat n)) size at ≡ here at (n - at)
+unfolding windowsOf flat spotIn
+spot zero size at some h = absurd (omega arith)
+spot (suc n) size at some h =
+    let there : 0 + (at - 0) ≡ at = omega arith in
+    let left : 0 + suc n - at ≡ suc n - at = omega arith in
+    rw (holding (all (suc n)) size at (omega arith) (omega arith), there, left)
+
+no-spot : (n size at : ℕ) → n < at + size → spotIn (windowsOf (flat n)) size at ≡ nowhere
+unfolding windowsOf flat spotIn
+no-spot zero size at h = refl
+no-spot (suc n) size at h = rw (past-it (all (suc n)) size at (omega arith))
+
+module _ (image image′ : List ℕ) (good : badWindows (flat (length image)) (length image) ≡ false)
+    (good′ : badWindows (flat (length image′)) (length image′) ≡ false) where
+  same-words : (words : List ℕ) → SameWords image image′ words → SameWordsAt (lent image good) (lent image′ good′) words
+  unfolding SameWords SameWordsAt
+  same-words [] h = tt
+  same-words (at ∷ rest) h = (
+    record {
+      place = at;
+      left = length image - at;
+      whole = spot (length image) 8 at (omega arith) (h .0 .whole);
+      place′ = at;
+      left′ = length image′ - at;
+      whole′ = spot (length image′) 8 at (omega arith) (h .0 .whole′);
+      same = h .0 .bytes;
+    },
+    same-words rest (h .1),
+  )
+
+abbrev flat-byte : (image : List ℕ) → ℕ → Fetched
+flat-byte image at = onSpot (spotIn (windowsOf (flat (length image))) 1 at) missing (λ place left. found (getD image place 0))
+
+byte-in : (image : List ℕ) (at : ℕ) → at < length image → flat-byte image at ≡ found (getD image at 0)
+byte-in image at h = rw (spot (length image) 1 at (omega arith) (omega arith))
+
+byte-out : (image : List ℕ) (at : ℕ) → length image ≤ at → flat-byte image at ≡ missing
+byte-out image at h = rw (no-spot (length image) 1 at (omega arith))
+
+-- a byte that isn't the one that is set
+byte-kept : (image : List ℕ) (place b at : ℕ) → (at ≡ place → ⊥) → flat-byte (set image place b) at ≡ flat-byte image at
+byte-kept image place b at other = by (decLe (suc at) (length image))
+  where
+    by : Dec (suc at ≤ length image) → flat-byte (set image place b) at ≡ flat-byte image at
+    by (yes h) =
+        byte-in (set image place b) at (rw (length-set image place b) (omega arith))
+        ∙ ap found (getD-set-other image place at b 0 other)
+        ∙ sym (byte-in image at (omega arith))
+    by (no h) = byte-out (set image place b) at (rw (length-set image place b) (omega arith)) ∙ sym (byte-out image at (omega arith))
+
+-- a longer image shows what a shorter one shows
+more-shown : (image : List ℕ) (n at b : ℕ) → flat-byte (take n image) at ≡ found b → flat-byte image at ≡ found b
+more-shown image n at b h = by (decLe (suc at) (length (take n image)))
+  where
+    by : Dec (suc at ≤ length (take n image)) → flat-byte image at ≡ found b
+    by (yes inside) =
+        let short : length (take n image) ≤ length image = rw (length-take n image) (omega arith) in
+        let same : getD (take n image) at 0 ≡ getD image at 0 =
+        sym (List·getD-append (take n image) (drop n image) 0 at (omega arith)) ∙ ap (λ (l : List ℕ). getD l at 0) (take-append-drop n image) in
+        byte-in image at (omega arith) ∙ ap found (sym same) ∙ sym (byte-in (take n image) at (omega arith)) ∙ h
+    by (no outside) = let z : _≡_ {A = Fetched} missing (found b) = sym (byte-out (take n image) at (omega arith)) ∙ h in
+        let y : _≡_ {A = ℕ} 0 1 = cc in absurd (omega arith)
 
 -- the page entries that two walkers walk, and the root and context entry of a request
 abbrev pages : List ℕ
@@ -68,18 +206,310 @@ low table is =
 after : (page table : ℕ) → List·Memᴰ page pages → List·Memᴰ table tables → Disjoint page table
 after page table p t = inr (omega (arith, low table t, high page p))
 
--- a word that isn't the one whose low byte is made another
-kept : (image : List ℕ) (place b n : ℕ) → place % 8 ≡ 0 → n % 8 ≡ 0 → (n ≡ place → ⊥) → ofImage (set image place b) n ≡ ofImage image n
-kept image place b n aligned word other = sym (one-word _ n) ∙ by (decLe n place) (decLe place n) ∙ one-word _ n
-  where
-    by : Dec (n ≤ place) → Dec (place ≤ n) → entry 1 (ofImage (set image place b)) n ≡ entry 1 (ofImage image) n
-    by (yes below) (yes above) = absurd (other (omega arith))
-    by (yes below) (no before) = byte-elsewhere image place b 1 n (inr (omega arith))
-    by (no behind) above = byte-elsewhere image place b 1 n (inl (omega arith))
+elsewhere : (image : List ℕ) (b at : ℕ) → (List·Memᴰ at pages → ⊥) → flat-byte (set (set image 0x5008 b) 0x4018 b) at ≡ flat-byte image at
+elsewhere image b at out =
+    byte-kept (set image 0x5008 b) 0x4018 b at (λ e. out (rw e beyond-in)) ∙ byte-kept image 0x5008 b at (λ e. out (rw e leaf-in))
 
-elsewhere : (image : List ℕ) (b : ℕ) (n : ℕ) → n % 8 ≡ 0 → (List·Memᴰ n pages → ⊥) → ofImage (set (set image 0x5008 b) 0x4018 b) n ≡ ofImage image n
-elsewhere image b n word out =
-    kept (set image 0x5008 b) 0x4018 b n refl word (λ e. out (rw e beyond-in)) ∙ kept image 0x5008 b n refl word (λ e. out (rw e leaf-in))
+seen : (image : List ℕ) → ofWindows (flat (length image)) image ≡ ofImage image
+seen image = fun-ext (flat-is image)
+
+-- a part of an image isn't longer
+part-fits : (n : ℕ) (image : List ℕ) → length image ≤ 2 ^ 64 → length (take n image) ≤ 2 ^ 64
+part-fits n image h = rw (length-take n image) (omega arith)
+
+-- a word of an image's part is the image's
+part-word : (image : List ℕ) (n at : ℕ) → n ≤ length image → at + 8 ≤ n → SameWord image (take n image) at
+part-word image n at h inside =
+    let some : at + 8 ≤ length (take n image) = rw (length-take n image) (omega arith) in
+    record {
+      whole = omega arith;
+      whole′ = some;
+      bytes =
+          ap (λ (l : List ℕ). take 8 (drop at l)) (sym (take-append-drop n image))
+          ∙ rw (drop-append-le at (take n image) (drop n image) (omega arith))
+          (take-append-le 8 (drop at (take n image)) (drop n image) (rw (length-drop at (take n image)) (omega arith)));
+    }
+
+bench-length : length bench ≡ 32768
+unfolding bench layout bytesOf
+bench-length = refl
+
+bench-fits : length bench ≤ 2 ^ 64
+bench-fits = rw bench-length (lit≤ tt)
+
+-- memory requests
+read-words : named (memoryRules benchRegisters reads) (ofImage bench) ≡ 0x1030 ∷ 0x1038 ∷ 0x2100 ∷ 0x2108 ∷ 0x3008 ∷ 0x4008 ∷ 0x5008 ∷ []
+unfolding bench layout bytesOf littleEndian bits wordAt ofImage named wordsFrom entry mapRules admission registersBad contextReserved contextInvalid contextCheck pageReserved pageCheck memoryRules rootReserved rootCheck widthRules contextRules rootRules walkRules
+read-words = refl
+
+read-answered : answerOver benchRegisters reads (ofImage bench) ≡ granted 0x12345ABC
+unfolding bench layout bytesOf littleEndian bits wordAt ofImage run entry mapRules admission registersBad contextReserved contextInvalid contextCheck pageReserved pageCheck memoryRules rootReserved rootCheck widthRules contextRules rootRules walkRules
+read-answered = refl
+
+read-alike : SameWords bench (take 0x5010 bench) (0x1030 ∷ 0x1038 ∷ 0x2100 ∷ 0x2108 ∷ 0x3008 ∷ 0x4008 ∷ 0x5008 ∷ [])
+unfolding SameWords
+read-alike = (
+  part-word bench 0x5010 0x1030 (rw bench-length (lit≤ tt)) (lit≤ tt),
+  (
+    part-word bench 0x5010 0x1038 (rw bench-length (lit≤ tt)) (lit≤ tt),
+    (
+      part-word bench 0x5010 0x2100 (rw bench-length (lit≤ tt)) (lit≤ tt),
+      (
+        part-word bench 0x5010 0x2108 (rw bench-length (lit≤ tt)) (lit≤ tt),
+        (
+          part-word bench 0x5010 0x3008 (rw bench-length (lit≤ tt)) (lit≤ tt),
+          (
+            part-word bench 0x5010 0x4008 (rw bench-length (lit≤ tt)) (lit≤ tt),
+            (
+              part-word bench 0x5010 0x5008 (rw bench-length (lit≤ tt)) (lit≤ tt),
+              tt,
+            ),
+          ),
+        ),
+      ),
+    ),
+  ),
+)
+
+memory : FlatRelated bench (take 0x5010 bench) (MemoryPremises benchRegisters reads)
+memory =
+    let good = flat-fine (length bench) bench-fits in
+    let good′ = flat-fine (length (take 0x5010 bench)) (part-fits 0x5010 bench bench-fits) in
+    record {
+      good = good;
+      good′ = good′;
+      is =
+          record {
+            no-access-fault = ap accessFault (flat-images bench bench-fits .memory benchRegisters reads ∙ read-answered);
+            alike = rw (seen bench, read-words) (same-words bench (take 0x5010 bench) good good′ _ read-alike);
+          };
+    }
+
+-- over two windows each
+holed-words : named (memoryRules benchRegisters reads) (ofWindows holedWindows holed) ≡ 0x1030 ∷ 0x1038 ∷ 0x2100 ∷ 0x2108 ∷ 0x3008 ∷ 0x4008 ∷ 0x5008 ∷ []
+unfolding holed bench layout bytesOf littleEndian bits windowsOf spotIn entryIn ofWindows named wordsFrom entry mapRules admission registersBad contextReserved contextInvalid contextCheck pageReserved pageCheck memoryRules rootReserved rootCheck widthRules contextRules rootRules walkRules
+holed-words = refl
+
+holed-answered : memoryAnswer benchRegisters reads holedWindows holed ≡ granted 0x12345ABC
+unfolding holed bench layout bytesOf littleEndian bits badWithAny badList badWindows windowsOf spotIn entryIn ofWindows run entry mapRules admission registersBad contextReserved contextInvalid contextCheck pageReserved pageCheck memoryRules rootReserved rootCheck widthRules contextRules rootRules walkRules
+holed-answered = refl
+
+holed-good : badWindows holedWindows (length holed) ≡ false
+unfolding holed bench layout bytesOf windowsOf badWithAny badList badWindows
+holed-good = refl
+
+cut-good : badWindows cutWindows (length cut) ≡ false
+unfolding cut bench layout bytesOf windowsOf badWithAny badList badWindows
+cut-good = refl
+
+holed-alike : SameWordsAt (record { windows = holedWindows; bytes = holed; good = holed-good }) (record { windows = cutWindows; bytes = cut; good = cut-good })
+    (0x1030 ∷ 0x1038 ∷ 0x2100 ∷ 0x2108 ∷ 0x3008 ∷ 0x4008 ∷ 0x5008 ∷ [])
+unfolding holed cut bench layout bytesOf windowsOf spotIn SameWordsAt
+holed-alike = (
+  record { place = 0x1030; left = 0x2fe0; whole = refl; place′ = 0x30; left′ = 0x2fe0; whole′ = refl; same = refl },
+  (
+    record { place = 0x1038; left = 0x2fd8; whole = refl; place′ = 0x38; left′ = 0x2fd8; whole′ = refl; same = refl },
+    (
+      record { place = 0x2100; left = 0x1f10; whole = refl; place′ = 0x1100; left′ = 0x1f10; whole′ = refl; same = refl },
+      (
+        record { place = 0x2108; left = 0x1f08; whole = refl; place′ = 0x1108; left′ = 0x1f08; whole′ = refl; same = refl },
+        (
+          record { place = 0x3008; left = 0x1008; whole = refl; place′ = 0x2008; left′ = 0x1008; whole′ = refl; same = refl },
+          (
+            record { place = 0x4008; left = 0x8; whole = refl; place′ = 0x3008; left′ = 0x8; whole′ = refl; same = refl },
+            (
+              record { place = 0x8; left = 0xff8; whole = refl; place′ = 0x3018; left′ = 0x8; whole′ = refl; same = refl },
+              tt,
+            ),
+          ),
+        ),
+      ),
+    ),
+  ),
+)
+
+memory-windows : Related holedWindows holed cutWindows cut (MemoryPremises benchRegisters reads)
+memory-windows =
+    record {
+      good = holed-good;
+      good′ = cut-good;
+      is = record { no-access-fault = ap accessFault holed-answered; alike = rw holed-words holed-alike };
+    }
+
+-- translation requests
+translation-words : named (translations.requestRules benchRegisters translates) (ofImage type1) ≡ 0x1030 ∷ 0x1038 ∷ 0x2100 ∷ 0x2108 ∷ 0x3008 ∷ 0x4008 ∷ 0x5008 ∷ []
+unfolding type1 bench layout bytesOf littleEndian bits wordAt ofImage named wordsFrom entry mapRules admission registersBad contextReserved contextInvalid contextCheck pageReserved rootReserved rootCheck contextRules rootRules walkRules typeRules translations.requestRules
+translation-words = refl
+
+translation-answered : translations.answerOver benchRegisters translates (ofImage type1)
+    ≡ translations.translated 0x12345000 0x1000 (record { read = true; write = false })
+unfolding type1 bench layout bytesOf littleEndian bits wordAt ofImage run entry mapRules admission registersBad contextReserved contextInvalid contextCheck pageReserved rootReserved rootCheck contextRules rootRules walkRules typeRules translations.requestRules
+translation-answered = refl
+
+type1-length : length type1 ≡ 32768
+unfolding type1
+type1-length = length-set bench 0x2100 5 ∙ bench-length
+
+translation-alike : SameWords type1 (take 0x5010 type1) (0x1030 ∷ 0x1038 ∷ 0x2100 ∷ 0x2108 ∷ 0x3008 ∷ 0x4008 ∷ 0x5008 ∷ [])
+unfolding SameWords
+translation-alike = (
+  part-word type1 0x5010 0x1030 (rw type1-length (lit≤ tt)) (lit≤ tt),
+  (
+    part-word type1 0x5010 0x1038 (rw type1-length (lit≤ tt)) (lit≤ tt),
+    (
+      part-word type1 0x5010 0x2100 (rw type1-length (lit≤ tt)) (lit≤ tt),
+      (
+        part-word type1 0x5010 0x2108 (rw type1-length (lit≤ tt)) (lit≤ tt),
+        (
+          part-word type1 0x5010 0x3008 (rw type1-length (lit≤ tt)) (lit≤ tt),
+          (
+            part-word type1 0x5010 0x4008 (rw type1-length (lit≤ tt)) (lit≤ tt),
+            (
+              part-word type1 0x5010 0x5008 (rw type1-length (lit≤ tt)) (lit≤ tt),
+              tt,
+            ),
+          ),
+        ),
+      ),
+    ),
+  ),
+)
+
+type1-fits : length type1 ≤ 2 ^ 64
+type1-fits = rw type1-length (lit≤ tt)
+
+translation-requests : FlatRelated type1 (take 0x5010 type1) (TranslationPremises benchRegisters translates)
+translation-requests =
+    let good = flat-fine (length type1) type1-fits in
+    let good′ = flat-fine (length (take 0x5010 type1)) (part-fits 0x5010 type1 type1-fits) in
+    record {
+      good = good;
+      good′ = good′;
+      is =
+          record {
+            no-access-fault = ap translation.accessFault (flat-images type1 type1-fits .translations benchRegisters translates ∙ translation-answered);
+            alike = rw (seen type1, translation-words) (same-words type1 (take 0x5010 type1) good good′ _ translation-alike);
+          };
+    }
+
+-- interrupts
+interrupt-words : namedWords benchRegisters remaps (ofImage bench) ≡ 0x6020 ∷ 0x6028 ∷ []
+unfolding bench layout bytesOf littleEndian bits wordAt ofImage entry named wordsFrom mapRules admission registersBad indexRules requestRules interruptRules reservedIrte irteCheck requestCheck sourceAllowed
+interrupt-words = refl
+
+interrupt-alike : SameWords bench (take 0x6030 bench) (0x6020 ∷ 0x6028 ∷ [])
+unfolding SameWords
+interrupt-alike = (
+  part-word bench 0x6030 0x6020 (rw bench-length (lit≤ tt)) (lit≤ tt),
+  (
+    part-word bench 0x6030 0x6028 (rw bench-length (lit≤ tt)) (lit≤ tt),
+    tt,
+  ),
+)
+
+interrupt-answered : AccessFault (outcome benchRegisters remaps (ofImage bench)) → ⊥
+unfolding bench layout bytesOf littleEndian bits wordAt ofImage entry run mapRules admission registersBad indexRules requestRules interruptRules reservedIrte irteCheck requestCheck sourceAllowed
+interrupt-answered fault = fault
+
+post-answered : outcome benchRegisters posts (ofImage (take 0x6440 bench)) ≡ posted 0x6400 0x31 (notification 0xF2 7)
+unfolding bench layout bytesOf littleEndian bits wordAt ofImage entry run mapRules admission registersBad descriptorRules indexRules requestRules interruptRules reservedIrte irteCheck requestCheck sourceAllowed descriptorCheck
+post-answered = refl
+
+post-alike : SameWords (take 0x6440 bench) bench (namedWords benchRegisters posts (ofImage (take 0x6440 bench)))
+post-alike = rw (take-append-drop 0x6440 bench) at (longer (take 0x6440 bench) (drop 0x6440 bench) (interruptRules benchRegisters posts))
+
+interrupts : FlatRelated bench (take 0x6030 bench) (InterruptPremises benchRegisters remaps)
+interrupts =
+    let good = flat-fine (length bench) bench-fits in
+    let good′ = flat-fine (length (take 0x6030 bench)) (part-fits 0x6030 bench bench-fits) in
+    record {
+      good = good;
+      good′ = good′;
+      is =
+          record {
+            no-access-fault = λ fault. interrupt-answered (subst AccessFault (flat-images bench bench-fits .interrupts benchRegisters remaps) fault);
+            alike = rw (seen bench, interrupt-words) (same-words bench (take 0x6030 bench) good good′ _ interrupt-alike);
+          };
+    }
+
+post-told : interruptAnswer benchRegisters posts (flat (length (take 0x6440 bench))) (take 0x6440 bench) ≡ posted 0x6400 0x31 (notification 0xF2 7)
+post-told = flat-images (take 0x6440 bench) (part-fits 0x6440 bench bench-fits) .interrupts benchRegisters posts ∙ post-answered
+
+post : FlatRelated (take 0x6440 bench) bench (InterruptPremises benchRegisters posts)
+post =
+    let good = flat-fine (length (take 0x6440 bench)) (part-fits 0x6440 bench bench-fits) in
+    let good′ = flat-fine (length bench) bench-fits in
+    record {
+      good = good;
+      good′ = good′;
+      is =
+          record {
+            no-access-fault = λ fault. subst AccessFault post-told fault;
+            alike = rw (seen (take 0x6440 bench)) (same-words (take 0x6440 bench) bench good good′ _ post-alike);
+          };
+    }
+
+-- over two windows each
+abbrev post-words : List ℕ
+post-words = 0x2000 ∷ 0x2008 ∷ 0x5000 ∷ 0x5008 ∷ 0x5010 ∷ 0x5018 ∷ 0x5020 ∷ 0x5028 ∷ 0x5030 ∷ 0x5038 ∷ []
+
+small-words : namedWords small.registers posts31 (ofWindows small.two small.run) ≡ post-words
+unfolding small.run bytesOf littleEndian bits windowsOf spotIn entryIn ofWindows named wordsFrom entry mapRules admission registersBad descriptorRules indexRules requestRules interruptRules reservedIrte irteCheck requestCheck sourceAllowed descriptorCheck
+small-words = refl
+
+small-answered : interruptAnswer small.registers posts31 small.two small.run ≡ posted 0x5000 0x31 (notification 0 0)
+unfolding small.run bytesOf littleEndian bits badWithAny badList badWindows windowsOf spotIn entryIn ofWindows run entry mapRules admission registersBad descriptorRules indexRules requestRules interruptRules reservedIrte irteCheck requestCheck sourceAllowed descriptorCheck
+small-answered = refl
+
+small-good : badWindows small.two (length small.run) ≡ false
+unfolding small.run bytesOf windowsOf badWithAny badList badWindows
+small-good = refl
+
+reordered-good : badWindows reorderedWindows (length reordered) ≡ false
+unfolding reordered bytesOf windowsOf badWithAny badList badWindows
+reordered-good = refl
+
+small-alike : SameWordsAt (record { windows = small.two; bytes = small.run; good = small-good }) (record { windows = reorderedWindows; bytes = reordered; good = reordered-good }) post-words
+unfolding small.run reordered bytesOf windowsOf spotIn SameWordsAt
+small-alike = (
+  record { place = 64; left = 64; whole = refl; place′ = 0; left′ = 16; whole′ = refl; same = refl },
+  (
+    record { place = 72; left = 56; whole = refl; place′ = 8; left′ = 8; whole′ = refl; same = refl },
+    (
+      record { place = 0; left = 64; whole = refl; place′ = 16; left′ = 64; whole′ = refl; same = refl },
+      (
+        record { place = 8; left = 56; whole = refl; place′ = 24; left′ = 56; whole′ = refl; same = refl },
+        (
+          record { place = 16; left = 48; whole = refl; place′ = 32; left′ = 48; whole′ = refl; same = refl },
+          (
+            record { place = 24; left = 40; whole = refl; place′ = 40; left′ = 40; whole′ = refl; same = refl },
+            (
+              record { place = 32; left = 32; whole = refl; place′ = 48; left′ = 32; whole′ = refl; same = refl },
+              (
+                record { place = 40; left = 24; whole = refl; place′ = 56; left′ = 24; whole′ = refl; same = refl },
+                (
+                  record { place = 48; left = 16; whole = refl; place′ = 64; left′ = 16; whole′ = refl; same = refl },
+                  (
+                    record { place = 56; left = 8; whole = refl; place′ = 72; left′ = 8; whole′ = refl; same = refl },
+                    tt,
+                  ),
+                ),
+              ),
+            ),
+          ),
+        ),
+      ),
+    ),
+  ),
+)
+
+post-windows : Related small.two small.run reorderedWindows reordered (InterruptPremises small.registers posts31)
+post-windows =
+    record {
+      good = small-good;
+      good′ = reordered-good;
+      is = record { no-access-fault = λ fault. subst AccessFault small-answered fault; alike = rw small-words small-alike };
+    }
 
 -- rights switched on, over the image in which 4018 is only readable
 on-walked : walkedByAny benchRegisters (reads ∷ beyond ∷ []) (ofImage readable) ≡ pages
@@ -98,18 +528,41 @@ walker-faulted : accessFault (answerOver benchRegisters beyond (ofImage readable
 unfolding readable memoryFault bench layout bytesOf littleEndian bits wordAt ofImage entry run mapRules admission registersBad contextReserved contextInvalid contextCheck pageReserved pageCheck memoryRules rootReserved rootCheck widthRules contextRules rootRules walkRules
 walker-faulted = refl
 
-on-switched : SwitchedOn (walkedByAny benchRegisters (reads ∷ beyond ∷ []) (ofImage readable)) (ofImage readable) (ofImage (set (set readable 0x5008 3) 0x4018 3))
-unfolding bench layout bytesOf bits littleEndian wordAt ofImage readable
-on-switched =
-    rw on-walked
-    (record {
+readable-fits : length readable ≤ 2 ^ 64
+unfolding readable
+readable-fits = rw (length-set bench 0x4018 1) bench-fits
+
+twice-fits : (image : List ℕ) (b : ℕ) → length image ≤ 2 ^ 64 → length (set (set image 0x5008 b) 0x4018 b) ≤ 2 ^ 64
+twice-fits image b h = rw (length-set (set image 0x5008 b) 0x4018 b, length-set image 0x5008 b) h
+
+on-switched : (good : badWindows (flat (length readable)) (length readable) ≡ false)
+    (good′ : badWindows (flat (length (set (set readable 0x5008 3) 0x4018 3))) (length (set (set readable 0x5008 3) 0x4018 3)) ≡ false)
+    → SwitchedAt (λ before after. before ≤ after) pages (lent readable good) (lent (set (set readable 0x5008 3) 0x4018 3) good′)
+unfolding bench layout bytesOf bits windowsOf flat spotIn readable
+on-switched good good′ =
+    record {
       elsewhere = elsewhere readable 3;
-      switched = each (λ n. BothFetched (SwitchedEntry (λ before after. before ≤ after)) (ofImage readable n) (ofImage (set (set readable 0x5008 3) 0x4018 3) n))
+      switched = each (λ n. BothFetched (SwitchedEntry (λ before after. before ≤ after)) (flat-byte readable n) (flat-byte (set (set readable 0x5008 3) 0x4018 3) n))
           (record { other-bits = refl; read = lit≤ tt; write = lit≤ tt })
           (record { other-bits = refl; read = lit≤ tt; write = lit≤ tt })
           (record { other-bits = refl; read = lit≤ tt; write = lit≤ tt })
           (record { other-bits = refl; read = lit≤ tt; write = lit≤ tt });
-    })
+    }
+
+rights-on : FlatRelated readable (set (set readable 0x5008 3) 0x4018 3) (OnPremises benchRegisters (reads ∷ beyond ∷ []) reads 0x12345ABC)
+rights-on =
+    let good = flat-fine (length readable) readable-fits in
+    let good′ = flat-fine (length (set (set readable 0x5008 3) 0x4018 3)) (twice-fits readable 3 readable-fits) in
+    record {
+      good = good;
+      good′ = good′;
+      is =
+          record {
+            apart = rw (seen readable, on-walked, on-tables) after;
+            switched = rw (seen readable, on-walked) (on-switched good good′);
+            was-granted = flat-images readable readable-fits .memory benchRegisters reads ∙ on-granted;
+          };
+    }
 
 -- rights switched off, over the bench image
 off-walked : walkedByAny benchRegisters (writes ∷ beyond ∷ []) (ofImage bench) ≡ pages
@@ -124,60 +577,68 @@ off-blocked : (host : ℕ) → answerOver benchRegisters writes (ofImage bench) 
 unfolding bench layout bytesOf littleEndian bits wordAt ofImage entry run mapRules admission registersBad contextReserved contextInvalid contextCheck pageReserved pageCheck memoryRules rootReserved rootCheck widthRules contextRules rootRules walkRules
 off-blocked host h = let z : _≡_ {A = ℕ} 0 1 = cc in omega arith
 
-off-switched : SwitchedOff (walkedByAny benchRegisters (writes ∷ beyond ∷ []) (ofImage bench)) (ofImage bench) (ofImage (set (set bench 0x5008 0) 0x4018 0))
-unfolding bench layout bytesOf bits littleEndian wordAt ofImage
-off-switched =
-    rw off-walked
-    (record {
+off-switched : (good : badWindows (flat (length bench)) (length bench) ≡ false)
+    (good′ : badWindows (flat (length (set (set bench 0x5008 0) 0x4018 0))) (length (set (set bench 0x5008 0) 0x4018 0)) ≡ false)
+    → SwitchedAt (λ before after. after ≤ before) pages (lent bench good) (lent (set (set bench 0x5008 0) 0x4018 0) good′)
+unfolding bench layout bytesOf bits windowsOf flat spotIn
+off-switched good good′ =
+    record {
       elsewhere = elsewhere bench 0;
-      switched = each (λ n. BothFetched (SwitchedEntry (λ before after. after ≤ before)) (ofImage bench n) (ofImage (set (set bench 0x5008 0) 0x4018 0) n))
+      switched = each (λ n. BothFetched (SwitchedEntry (λ before after. after ≤ before)) (flat-byte bench n) (flat-byte (set (set bench 0x5008 0) 0x4018 0) n))
           (record { other-bits = refl; read = lit≤ tt; write = lit≤ tt })
           (record { other-bits = refl; read = lit≤ tt; write = lit≤ tt })
           (record { other-bits = refl; read = lit≤ tt; write = lit≤ tt })
           (record { other-bits = refl; read = lit≤ tt; write = lit≤ tt });
-    })
+    }
 
--- second images
-memory-answered : accessFault (answerOver benchRegisters reads (ofImage bench)) ≡ false
-unfolding bench layout bytesOf littleEndian bits wordAt ofImage entry run mapRules admission registersBad contextReserved contextInvalid contextCheck pageReserved pageCheck memoryRules rootReserved rootCheck widthRules contextRules rootRules walkRules
-memory-answered = refl
+rights-off : FlatRelated bench (set (set bench 0x5008 0) 0x4018 0) (OffPremises benchRegisters (writes ∷ beyond ∷ []) writes)
+rights-off =
+    let good = flat-fine (length bench) bench-fits in
+    let good′ = flat-fine (length (set (set bench 0x5008 0) 0x4018 0)) (twice-fits bench 0 bench-fits) in
+    record {
+      good = good;
+      good′ = good′;
+      is =
+          record {
+            apart = rw (seen bench, off-walked, off-tables) after;
+            switched = rw (seen bench, off-walked) (off-switched good good′);
+            not-granted = λ host h. off-blocked host (sym (flat-images bench bench-fits .memory benchRegisters writes) ∙ h);
+          };
+    }
 
-memory-alike : SameIn (named (memoryRules benchRegisters reads) (ofImage bench)) (ofImage bench) (ofImage (take 0x5010 bench))
-unfolding bench layout bytesOf littleEndian bits wordAt ofImage entry named wordsFrom SameIn mapRules admission registersBad contextReserved contextInvalid contextCheck pageReserved pageCheck memoryRules rootReserved rootCheck widthRules contextRules rootRules walkRules
-memory-alike = (refl, (refl, (refl, (refl, (refl, (refl, (refl, tt)))))))
+-- a longer image
+short-granted : answerOver benchRegisters reads (ofImage (take 0x5010 bench)) ≡ granted 0x12345ABC
+unfolding bench layout bytesOf littleEndian bits wordAt ofImage run entry mapRules admission registersBad contextReserved contextInvalid contextCheck pageReserved pageCheck memoryRules rootReserved rootCheck widthRules contextRules rootRules walkRules
+short-granted = refl
 
-interrupt-alike : SameWords bench (take 0x6030 bench) (namedWords benchRegisters remaps (ofImage bench))
-unfolding bench layout bytesOf littleEndian bits wordAt ofImage entry named wordsFrom SameWords mapRules admission registersBad indexRules requestRules interruptRules reservedIrte irteCheck requestCheck sourceAllowed
-interrupt-alike = (
-  record { whole = lit≤ tt; whole′ = lit≤ tt; bytes = refl },
-  (record { whole = lit≤ tt; whole′ = lit≤ tt; bytes = refl }, tt),
-)
-
-interrupt-answered : AccessFault (outcome benchRegisters remaps (ofImage bench)) → ⊥
-unfolding bench layout bytesOf littleEndian bits wordAt ofImage entry run mapRules admission registersBad indexRules requestRules interruptRules reservedIrte irteCheck requestCheck sourceAllowed
-interrupt-answered fault = fault
-
-post-answered : outcome benchRegisters posts (ofImage (take 0x6440 bench)) ≡ posted 0x6400 0x31 (notification 0xF2 7)
-unfolding bench layout bytesOf littleEndian bits wordAt ofImage entry run mapRules admission registersBad descriptorRules indexRules requestRules interruptRules reservedIrte irteCheck requestCheck sourceAllowed descriptorCheck
-post-answered = refl
-
-post-alike : SameWords (take 0x6440 bench) bench (namedWords benchRegisters posts (ofImage (take 0x6440 bench)))
-post-alike = rw (take-append-drop 0x6440 bench) at (longer (take 0x6440 bench) (drop 0x6440 bench) (interruptRules benchRegisters posts))
+more-memory : FlatRelated (take 0x5010 bench) bench (MorePremises benchRegisters reads 0x12345ABC)
+more-memory =
+    let short = part-fits 0x5010 bench bench-fits in
+    record {
+      good = flat-fine (length (take 0x5010 bench)) short;
+      good′ = flat-fine (length bench) bench-fits;
+      is =
+          record {
+            shows = more-shown bench 0x5010;
+            was-granted = flat-images (take 0x5010 bench) short .memory benchRegisters reads ∙ short-granted;
+          };
+    }
 
 pub premises-met : PremisesMet
 premises-met =
     record {
-      memory-answered = memory-answered;
-      memory-alike = memory-alike;
-      interrupt-answered = interrupt-answered;
-      interrupt-alike = interrupt-alike;
-      post-answered = post-answered;
-      post-alike = post-alike;
-      walker-faulted = walker-faulted;
-      on-apart = λ page table p t. after page table (rw on-walked at p) (rw on-tables at t);
-      on-switched = on-switched;
-      on-granted = on-granted;
-      off-apart = λ page table p t. after page table (rw off-walked at p) (rw off-tables at t);
-      off-switched = off-switched;
-      off-blocked = off-blocked;
+      memory = memory;
+      memory-windows = memory-windows;
+      memory-windows-answer = holed-answered;
+      translations = translation-requests;
+      translations-answer = flat-images type1 type1-fits .translations benchRegisters translates ∙ translation-answered;
+      interrupts = interrupts;
+      post = post;
+      post-answer = post-told;
+      post-windows = post-windows;
+      post-windows-answer = small-answered;
+      rights-on = rights-on;
+      walker-faulted = ap accessFault (flat-images readable readable-fits .memory benchRegisters beyond) ∙ walker-faulted;
+      rights-off = rights-off;
+      more-memory = more-memory;
     }
