@@ -1,6 +1,7 @@
 -- What is traced of the unit's requests and answers. A fault's record isn't: it follows from the request and the reason.
 use Prim.Native.Nat.{ℕ, _+_, _*_, _%_}
 use mathlib.Core.Bool.{Bool}
+use lib.Dec.{eqb}
 use Rattle.image.specs.Choice.{if_then_else_}
 use Rattle.image.specs.Place.{Place, noEntry, entryAt}
 use Rattle.faults.specs.Record.{FaultAnswer}
@@ -10,6 +11,8 @@ use Rattle.irte.specs.Irte.{Remapped}
 use Rattle.interrupts.specs.Descriptor.{Notification, silent, notification}
 use Rattle.interrupts.specs.Interrupts as interrupts
 use Rattle.interrupts.specs.declared.InterruptRequest.{InterruptRequest}
+use Rattle.translation.specs.Requests as translation
+use Rattle.translation.specs.declared.TranslationRequest.{TranslationRequest}
 use Rattle.traced.specs.declared.Traced.{Traced}
 
 -- a request of a kind, with an answer and its number, flags and value; no vector, no destination and nothing posted
@@ -76,3 +79,15 @@ interruptTraced q (interrupts.remapped r) place = raised q 5 (modesOf r) (r .vec
 interruptTraced q (interrupts.posted descriptor vector n) place = postTraced q descriptor vector n
 interruptTraced q (interrupts.blocked f) place = faulted 3 (q .source .id) (q .address) (q .«data») f place
 interruptTraced q (interrupts.refused number) place = plain 3 (q .source .id) (q .address) (q .«data») 1 number 0 0
+
+-- a page's size by its address bits; the empty answer's size is 0
+abbrev pub widthOf : (size : ℕ) → ℕ
+widthOf size = if eqb size 0x1000 then 12 else if eqb size 0x20_0000 then 21 else if eqb size 0x4000_0000 then 30 else 0
+
+-- with TE off the address itself is granted; of a page flag 0 is the right to read, flag 1 the right to write
+unfoldable pub translationTraced : TranslationRequest → translation.TranslationOutcome → Place → Traced
+translationTraced q (translation.passed address) place = plain 4 (q .source .id) (q .address) 0 3 0 0 address
+translationTraced q (translation.translated frame size rights) place =
+    plain 4 (q .source .id) (q .address) 0 8 (widthOf size) (flagOf (rights .read) + 2 * flagOf (rights .write)) frame
+translationTraced q (translation.blocked f) place = faulted 4 (q .source .id) (q .address) 0 f place
+translationTraced q (translation.refused number) place = plain 4 (q .source .id) (q .address) 0 1 number 0 0

@@ -8,6 +8,9 @@ ghost use Rattle.irte.specs.Answers.{remappedOf};
 ghost use Rattle.interrupts.specs.Answers as interrupts;
 ghost use Rattle.interrupts.specs.Answers.{dueOf};
 ghost use Rattle.answered.specs.Answered.{plain, faulted, flagOf, kindOf, memoryTraced, raised, modesOf, postTraced, interruptTraced};
+
+mod page;
+
 use dma::MemoryAnswer;
 use dma::MemoryRequest;
 use faults::Fault;
@@ -17,13 +20,14 @@ use interrupts::InterruptRequest;
 use interrupts::Notification;
 use interrupts::Posted;
 use interrupts::Remapped;
+pub use page::translation_entry;
 use traced::Traced;
 
-const REFUSED: u8 = 1;
+pub(crate) const REFUSED: u8 = 1;
 
 const FAULT: u8 = 2;
 
-const GRANTED: u8 = 3;
+pub(crate) const GRANTED: u8 = 3;
 
 const PASSED: u8 = 4;
 
@@ -34,7 +38,7 @@ const POSTED: u8 = 6;
 const NOTIFIED: u8 = 7;
 
 // A request with nothing but its answer's number.
-fn asked(kind: u8, source: u16, address: u64, data: u32) -> Traced
+pub(crate) fn asked(kind: u8, source: u16, address: u64, data: u32) -> Traced
     ensures { λ r. ⌜ r ≡ plain kind source address «data» 0 0 0 0 ⌝ }
 {
     Traced {
@@ -52,7 +56,7 @@ fn asked(kind: u8, source: u16, address: u64, data: u32) -> Traced
     }
 }
 
-fn flag(on: bool) -> u8
+pub(crate) fn flag(on: bool) -> u8
     ensures { λ r. ⌜ (r ≡ flagOf on) × (r < 2) ⌝ }
 {
     if on { 1 } else { 0 }
@@ -85,7 +89,7 @@ pub fn memory_entry(request: MemoryRequest, answer: MemoryAnswer) -> Traced
 }
 
 // Flag 0 that the fault may be recorded, flag 1 that the value is the address of the entry concerned.
-fn with_fault(e: Traced, fault: Fault, entry: EntryAddress) -> Traced
+pub(crate) fn with_fault(e: Traced, fault: Fault, entry: EntryAddress) -> Traced
     ensures { λ r. ⌜ r ≡ faulted (e .kind) (e .source) (e .address) (e .«data») (faultOf fault) (placeOf entry) ⌝ }
 {
     let reason = fault.reason;

@@ -7,6 +7,10 @@ use Rattle.trace.proofs.Reading.{told-in-steps}
 use Rattle.trace.proofs.Filling.{trace-handed-out}
 use Rattle.trace.proofs.RoundTrip.{read-back}
 use Rattle.refused.proofs.NoneBad.{none-bad}
+use Rattle.answered.proofs.Entries.{entries-well, entries-tell}
+use Rattle.replay.proofs.Steps.{replayed-in-steps}
+use Rattle.replay.proofs.Exactly.{replayed-in-order, named-exactly}
+use Rattle.replay.proofs.Own.{none-of-its-own}
 use Rattle.faults.proofs.Recording.{slot-counts}
 use Rattle.faults.proofs.Totals.{one-length, total}
 use Rattle.dma.proofs.Access.{locality}
@@ -120,4 +124,10 @@ everything =
       told-in-steps = told-in-steps;
       trace-handed-out = trace-handed-out;
       read-back = read-back;
+      entries-well = entries-well;
+      entries-tell = entries-tell;
+      replayed-in-steps = replayed-in-steps;
+      replayed-in-order = replayed-in-order;
+      named-exactly = named-exactly;
+      none-of-its-own = none-of-its-own;
     }

@@ -10,6 +10,9 @@ use Rattle.trace.specs.Reader.{ToldInSteps}
 use Rattle.trace.specs.Written.{ReadBack}
 use Rattle.trace.specs.Writer.{TraceHandedOut}
 use Rattle.refused.specs.FirstBad.{NoneBad}
+use Rattle.answered.specs.Claims.{EntriesWell, EntriesTell}
+use Rattle.replay.specs.Replayed.{ReplayedInSteps}
+use Rattle.replay.specs.Claims.{ReplayedInOrder, NamedExactly, NoneOfItsOwn}
 use Rattle.faults.specs.Slots.{SlotCounts}
 use Rattle.faults.specs.Total.{OneLength, Total}
 use Rattle.dma.specs.Isolation.{Locality, AlwaysAnEntry, AccessMeansUnfetched, RightsOn, RightsOff, Unshared}
@@ -118,3 +121,10 @@ pub record Everything : Type 0 where
   pub told-in-steps : ToldInSteps
   pub trace-handed-out : TraceHandedOut
   pub read-back : ReadBack
+  -- entries of the unit's answers, and replay
+  pub entries-well : EntriesWell
+  pub entries-tell : EntriesTell
+  pub replayed-in-steps : ReplayedInSteps
+  pub replayed-in-order : ReplayedInOrder
+  pub named-exactly : NamedExactly
+  pub none-of-its-own : NoneOfItsOwn

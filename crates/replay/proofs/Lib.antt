@@ -1,0 +1,5 @@
+pub mod Sames
+pub mod Asked
+pub mod Exactly
+pub mod Own
+pub mod Steps
