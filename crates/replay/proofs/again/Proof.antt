@@ -13,8 +13,8 @@ same-length c = search needs
 returns : tie.Need-returns
 unfolding again leftBy
 returns c = (
-  rw (eq-eqb _ _ (c .before .before .before .before .if1 .taken), c .before .before .interrupt-again .ensures .0),
-  rw (eq-eqb _ _ (c .before .before .before .before .if1 .taken), c .before .before .interrupt-again .ensures .1),
+  rw (eq-eqb _ 3 (c .before .before .before .before .if1 .taken), c .before .before .interrupt-again .ensures .0),
+  rw (eq-eqb _ 3 (c .before .before .before .before .if1 .taken), c .before .before .interrupt-again .ensures .1),
 )
 
 translation-again-requires : tie.Need-translation-again-requires
@@ -26,8 +26,8 @@ same-length-2 c = search needs
 returns-2 : tie.Need-returns-2
 unfolding again leftBy
 returns-2 c = (
-  rw (ne-eqb _ _ (c .before .before .before .before .if1 .left), eq-eqb _ _ (c .before .before .if2 .taken), c .translation-again .ensures),
-  rw (ne-eqb _ _ (c .before .before .before .before .if1 .left)),
+  rw (ne-eqb _ 3 (c .before .before .before .before .if1 .left), eq-eqb _ 4 (c .before .before .if2 .taken), c .translation-again .ensures),
+  rw (ne-eqb _ 3 (c .before .before .before .before .if1 .left)),
 )
 
 memory-again-requires : tie.Need-memory-again-requires
@@ -39,8 +39,8 @@ same-length-3 c = search needs
 returns-3 : tie.Need-returns-3
 unfolding again leftBy
 returns-3 c = (
-  rw (ne-eqb _ _ (c .before .before .before .before .if1 .left), ne-eqb _ _ (c .before .before .if2 .left), c .memory-again .ensures),
-  rw (ne-eqb _ _ (c .before .before .before .before .if1 .left)),
+  rw (ne-eqb _ 3 (c .before .before .before .before .if1 .left), ne-eqb _ 4 (c .before .before .if2 .left), c .memory-again .ensures),
+  rw (ne-eqb _ 3 (c .before .before .before .before .if1 .left)),
 )
 
 pub again-spec : {M : Type 1} → statement M
