@@ -1,10 +1,14 @@
 //! The line of a request and its answer, in the notation of `examples/c/bench.c`.
 
-use galitzaf::{Access, DeliveryMode, DestinationMode, Fault, Refusal, TriggerMode};
+use galitzaf::{Access, DeliveryMode, DestinationMode, Fault, FirstBad, Refusal, TriggerMode};
 use galitzaf::{InterruptAnswer, InterruptRequest, Posted, Remapped};
 use galitzaf::{MemoryAnswer, MemoryRequest, TakeAnswer};
+use galitzaf::{Page, TranslationAnswer, TranslationRequest};
 
-pub fn memory(asked: MemoryRequest, answer: MemoryAnswer) -> String {
+/// What refusal 1 would be for.
+pub type Bad = Option<FirstBad>;
+
+pub fn memory(asked: MemoryRequest, answer: MemoryAnswer, bad: Bad) -> String {
     let kind = match asked.access {
         Access::Read => "read",
         Access::Write => "write",
@@ -12,7 +16,7 @@ pub fn memory(asked: MemoryRequest, answer: MemoryAnswer) -> String {
     let answer = match answer {
         MemoryAnswer::Granted(host) => format!("granted {host:X}"),
         MemoryAnswer::Blocked(fault) => blocked(&fault),
-        MemoryAnswer::Refused(refusal) => refused(refusal),
+        MemoryAnswer::Refused(refusal) => refused(refusal, bad),
     };
     format!(
         "{:04X} {kind} {:X}: {answer}",
@@ -21,23 +25,35 @@ pub fn memory(asked: MemoryRequest, answer: MemoryAnswer) -> String {
     )
 }
 
-pub fn interrupt(asked: InterruptRequest, answer: InterruptAnswer) -> String {
+pub fn translation(asked: TranslationRequest, answer: TranslationAnswer, bad: Bad) -> String {
+    let answer = match answer {
+        TranslationAnswer::Passed(_) => "passed".to_string(),
+        TranslationAnswer::Page(page) => translated(page),
+        TranslationAnswer::Empty => "empty".to_string(),
+        TranslationAnswer::Blocked(fault) => blocked(&fault),
+        TranslationAnswer::Refused(refusal) => refused(refusal, bad),
+    };
+    let (source, address) = (u16::from(asked.source), asked.address);
+    format!("{source:04X} translate {address:X}: {answer}")
+}
+
+pub fn interrupt(asked: InterruptRequest, answer: InterruptAnswer, bad: Bad) -> String {
     let answer = match answer {
         InterruptAnswer::Passed => "passed".to_string(),
         InterruptAnswer::Remapped(to) => remapped(to),
         InterruptAnswer::Posted(post) => posted(post),
         InterruptAnswer::Blocked(fault) => blocked(&fault),
-        InterruptAnswer::Refused(refusal) => refused(refusal),
+        InterruptAnswer::Refused(refusal) => refused(refusal, bad),
     };
     let (source, InterruptRequest { address, data, .. }) = (u16::from(asked.source), asked);
     format!("{source:04X} interrupt {address:X}, data {data:X}: {answer}")
 }
 
-pub fn take(descriptor: u64, answer: TakeAnswer) -> String {
+pub fn take(descriptor: u64, answer: TakeAnswer, bad: Bad) -> String {
     let answer = match answer {
         TakeAnswer::Vector(vector) => format!("vector {vector:02X}"),
         TakeAnswer::Nothing => "nothing".to_string(),
-        TakeAnswer::Refused(refusal) => refused(refusal),
+        TakeAnswer::Refused(refusal) => refused(refusal, bad),
     };
     format!("take {descriptor:X}: {answer}")
 }
@@ -47,8 +63,12 @@ pub fn word(address: u64, word: Option<u64>) -> String {
     format!("word {address:X}: {word}")
 }
 
-fn refused(refusal: Refusal) -> String {
-    format!("refused {}", refusal.number())
+/// By its number, and refusal 1 with what it is for.
+fn refused(refusal: Refusal, bad: Bad) -> String {
+    match (refusal, bad) {
+        (Refusal::BadRegisters, Some(bad)) => format!("refused 1 ({bad})"),
+        _ => format!("refused {}", refusal.number()),
+    }
 }
 
 fn blocked(fault: &Fault) -> String {
@@ -63,6 +83,17 @@ fn blocked(fault: &Fault) -> String {
         .map_or(String::new(), |entry| format!(", entry {entry:X}"));
     let reason = fault.reason().number();
     format!("fault {reason:02X}{silent}, record {low:016X} {high:016X}{entry}")
+}
+
+fn translated(page: Page) -> String {
+    let rights = match (page.read, page.write) {
+        (true, true) => "read and write",
+        (true, false) => "read",
+        (false, true) => "write",
+        (false, false) => "no right",
+    };
+    let (frame, size) = (page.frame, page.size.bytes());
+    format!("page {frame:X}, size {size:X}, {rights}")
 }
 
 /// Vector and destination, and what isn't fixed, physical, without hint and by an edge.

@@ -3,11 +3,13 @@
 use crate::answer;
 use crate::memory::{Memory, LONGEST};
 use crate::text::{self, expected, hex, quoted, Words};
-use galitzaf::{InterruptRequest, Levels, MemoryRequest, Registers, SourceId, Unit, Window};
+use galitzaf::{InterruptRequest, Levels, MemoryRequest, Registers, SourceId};
+use galitzaf::{TranslationRequest, Unit, Window};
 
 /// What is to be answered.
 pub enum Request {
     Memory(MemoryRequest),
+    Translation(TranslationRequest),
     Interrupt(InterruptRequest),
     /// A take, from the descriptor at a host address.
     Take(u64),
@@ -57,7 +59,7 @@ impl Setting {
             "source" => self.source = source(words.word("a source id")?)?,
             "size" => self.memory.size(words.hex("a size", LONGEST)? as usize),
             "window" => self.memory.window(window(words)?)?,
-            "read" | "write" | "interrupt" | "take" | "word" => {
+            "read" | "write" | "translate" | "interrupt" | "take" | "word" => {
                 return self.request(&name, words).map(Some);
             }
             _ => self.register(word, &name, words)?,
@@ -94,6 +96,7 @@ impl Setting {
         Ok(match name {
             "read" => Request::Memory(MemoryRequest::read(source, address)),
             "write" => Request::Memory(MemoryRequest::write(source, address)),
+            "translate" => Request::Translation(TranslationRequest::new(source, address)),
             "take" => Request::Take(address),
             "word" => Request::Word(address),
             _ => {
@@ -124,14 +127,17 @@ impl Setting {
     /// The line of a request and its answer.
     fn answer(&mut self, request: &Request) -> String {
         let unit = Unit::new(&self.registers);
+        let mut memory = self.memory.lent();
+        let bad = unit.first_bad(&memory);
         match *request {
-            Request::Memory(asked) => {
-                answer::memory(asked, unit.memory(&self.memory.lent(), asked))
+            Request::Memory(asked) => answer::memory(asked, unit.memory(&memory, asked), bad),
+            Request::Translation(asked) => {
+                answer::translation(asked, unit.translation(&memory, asked), bad)
             }
             Request::Interrupt(asked) => {
-                answer::interrupt(asked, unit.interrupt(&mut self.memory.lent(), asked))
+                answer::interrupt(asked, unit.interrupt(&mut memory, asked), bad)
             }
-            Request::Take(at) => answer::take(at, unit.take(&mut self.memory.lent(), at)),
+            Request::Take(at) => answer::take(at, unit.take(&mut memory, at), bad),
             Request::Word(at) => answer::word(at, self.memory.word(at)),
         }
     }

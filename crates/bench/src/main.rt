@@ -1,5 +1,8 @@
-// Document 01's bench image and its twelve cases, asked of the proved unit one after the other.
+// Document 01's bench image and its twelve cases, asked of the proved unit one after the other. Each line is that of
+// examples/c/bench.c and of the command line.
+ghost use Prim.Native.Nat.{_≤_};
 use libc::STDOUT_FILENO;
+use unit::EntryAddress;
 use unit::Fault;
 use unit::InterruptAnswer;
 use unit::InterruptRequest;
@@ -15,8 +18,57 @@ fn text(bytes: &[u8]) {
     io::write_all(STDOUT_FILENO, bytes);
 }
 
+// The last digit of a number, in hexadecimal.
+fn glyph(n: u64) -> u8 {
+    let digit = (n % 16) as u8;
+    if digit < 10 { 48 + digit } else { 55 + digit }
+}
+
+fn quarter(bits: u32) -> usize {
+    bits as usize / 4
+}
+
+// Where in sixteen digits a number begins that is shown with so many at least.
+fn first_digit(n: u64, least: usize) -> usize
+    ensures { λ r. ⌜ r ≤ 16 ⌝ }
+{
+    let zeros = quarter(u64::leading_zeros(n));
+    if 16 < least {
+        return 0;
+    }
+    if 16 - least < zeros {
+        16 - least
+    } else {
+        zeros
+    }
+}
+
+// At least so many digits, in upper case.
+fn digits(n: u64, least: usize) {
+    let text = [
+        glyph(n >> 60),
+        glyph(n >> 56),
+        glyph(n >> 52),
+        glyph(n >> 48),
+        glyph(n >> 44),
+        glyph(n >> 40),
+        glyph(n >> 36),
+        glyph(n >> 32),
+        glyph(n >> 28),
+        glyph(n >> 24),
+        glyph(n >> 20),
+        glyph(n >> 16),
+        glyph(n >> 12),
+        glyph(n >> 8),
+        glyph(n >> 4),
+        glyph(n),
+    ];
+    let first = first_digit(n, least);
+    io::write_all(STDOUT_FILENO, &text[first..]);
+}
+
 fn hex(n: u64) {
-    io::print_hex(STDOUT_FILENO, n, 0);
+    digits(n, 1);
 }
 
 fn wide(x: u8) -> u64 {
@@ -71,104 +123,113 @@ fn lay_out_interrupts(image: &mut [u8]) {
     image::store8(image, 0x6420, 0x0000_0700_00F2_0000);
 }
 
-fn print_fault(fault: Fault) {
+fn print_entry(entry: EntryAddress) {
+    if let EntryAddress::At(address) = entry {
+        text(b", entry ");
+        hex(address);
+    }
+}
+
+fn print_fault(fault: Fault, entry: EntryAddress) {
     let reason = fault.reason;
     text(b"fault ");
-    hex(reason.number() as u64);
-    text(b"h, record ");
-    hex(fault.low);
+    digits(reason.number() as u64, 2);
+    if !fault.recordable {
+        text(b" (not recordable)");
+    }
+    text(b", record ");
+    digits(fault.low, 16);
     text(b" ");
-    hex(fault.high);
-    text(b"\n");
+    digits(fault.high, 16);
+    print_entry(entry);
 }
 
 fn print_refusal(number: u8) {
     text(b"refused ");
     hex(number as u64);
-    text(b"\n");
 }
 
+// A memory request and its answer, a line.
 fn memory(image: &[u8], source: SourceId, address: u64, write: bool) {
     let request = MemoryRequest {
         source,
         address,
         write,
     };
+    digits(source.id as u64, 4);
     if write {
-        text(b"write ");
+        text(b" write ");
     } else {
-        text(b"read ");
+        text(b" read ");
     }
     hex(address);
-    text(b" from ");
-    hex(source.id as u64);
+    if image.len() < 32768 {
+        text(b", image one byte shorter");
+    }
     text(b": ");
     // One window from host address 0 shows the whole image.
     let windows = [0u64, 0, image.len() as u64];
     match unit::memory_request(registers(), &windows, image, request) {
         MemoryAnswer::Granted(host) => {
-            text(b"host ");
+            text(b"granted ");
             hex(host);
-            text(b"\n");
         }
-        MemoryAnswer::Blocked(fault, _) => print_fault(fault),
+        MemoryAnswer::Blocked(fault, entry) => print_fault(fault, entry),
         MemoryAnswer::Refused(number) => print_refusal(number),
     }
+    text(b"\n");
 }
 
 fn print_remapped(remapped: Remapped) {
     text(b"vector ");
-    hex(remapped.vector as u64);
-    text(b" to ");
+    digits(remapped.vector as u64, 2);
+    text(b", destination ");
     hex(remapped.destination as u64);
-    text(b"\n");
 }
 
 fn print_posted(posted: Posted) {
     let notification = posted.notification;
     text(b"posted ");
-    hex(posted.vector as u64);
-    match notification {
-        Notification::Due {
-            vector,
-            destination,
-        } => {
-            text(b", notification ");
-            hex(vector as u64);
-            text(b" to ");
-            hex(destination as u64);
-            text(b"\n");
-        }
-        Notification::Silent => text(b", no notification\n"),
+    digits(posted.vector as u64, 2);
+    text(b" to ");
+    hex(posted.descriptor);
+    if let Notification::Due {
+        vector,
+        destination,
+    } = notification {
+        text(b", notification ");
+        digits(vector as u64, 2);
+        text(b" to ");
+        hex(destination as u64);
     }
 }
 
+// An interrupt and its answer, without the line's end.
 fn interrupt(image: &mut [u8], source: SourceId, address: u64, data: u32) {
     let request = InterruptRequest {
         source,
         address,
         data,
     };
-    text(b"interrupt ");
+    digits(source.id as u64, 4);
+    text(b" interrupt ");
     hex(address);
-    text(b" data ");
+    text(b", data ");
     hex(data as u64);
-    text(b" from ");
-    hex(source.id as u64);
     text(b": ");
     let windows = [0u64, 0, image.len() as u64];
     match unit::interrupt_request(registers(), &windows, image, request) {
-        InterruptAnswer::Passed => text(b"passed\n"),
+        InterruptAnswer::Passed => text(b"passed"),
         InterruptAnswer::Remapped(remapped) => print_remapped(remapped),
         InterruptAnswer::Posted(posted) => print_posted(posted),
-        InterruptAnswer::Blocked(fault, _) => print_fault(fault),
+        InterruptAnswer::Blocked(fault, entry) => print_fault(fault, entry),
         InterruptAnswer::Refused(number) => print_refusal(number),
     }
 }
 
 // The two bytes that a post of case 12 sets.
 fn print_post(image: &[u8; 32768]) {
-    text(b"    byte 6406 is ");
+    text(b"; byte 6406 is ");
     hex(wide(image[0x6406]));
     text(b", byte 6420 is ");
     hex(wide(image[0x6420]));
@@ -183,43 +244,43 @@ fn shorter_case(image: &[u8]) {
 }
 
 fn memory_cases(image: &[u8]) {
-    text(b"1. ");
+    text(b" 1. ");
     memory(image, SourceId::new(0x03, 0x10), 0x4020_1ABC, false);
-    text(b"2. ");
+    text(b" 2. ");
     memory(image, SourceId::new(0x03, 0x10), 0x4020_1ABC, true);
-    text(b"3. ");
+    text(b" 3. ");
     memory(image, SourceId::new(0x03, 0x10), 0x4020_2000, false);
-    text(b"4. ");
+    text(b" 4. ");
     memory(image, SourceId::new(0x03, 0x10), 0x4041_2345, false);
-    text(b"5. ");
+    text(b" 5. ");
     memory(image, SourceId::new(0x03, 0x10), 0x4060_0000, false);
-    text(b"6. ");
+    text(b" 6. ");
     memory(image, SourceId::new(0x03, 0x10), 0x4080_0000, false);
-    text(b"7. ");
+    text(b" 7. ");
     memory(image, SourceId::new(0x03, 0x10), 0x40BF_F000, false);
-    text(b"   one byte shorter: ");
+    text(b" 7. ");
     shorter_case(image);
-    text(b"8. ");
+    text(b" 8. ");
     memory(image, SourceId::new(0x03, 0x10), 0x7F_FFFF_FFFF, false);
-    text(b"   ");
+    text(b" 8. ");
     memory(image, SourceId::new(0x03, 0x10), 0x80_0000_0000, false);
-    text(b"9. ");
+    text(b" 9. ");
     memory(image, SourceId::new(0x04, 0x10), 0x4020_1ABC, false);
-    text(b"   ");
+    text(b" 9. ");
     memory(image, SourceId::new(0x03, 0x11), 0x4020_1ABC, false);
 }
 
 fn interrupt_cases(image: &mut [u8; 32768]) {
     text(b"10. ");
     interrupt(image, SourceId::new(0x03, 0x10), 0xFEE0_0050, 0);
-    text(b"    ");
+    text(b"\n10. ");
     interrupt(image, SourceId::new(0x03, 0x11), 0xFEE0_0050, 0);
-    text(b"11. ");
+    text(b"\n11. ");
     interrupt(image, SourceId::new(0x03, 0x10), 0xFEEF_FFFC, 3);
-    text(b"12. ");
+    text(b"\n12. ");
     interrupt(image, SourceId::new(0x03, 0x10), 0xFEE0_0090, 0);
     print_post(image);
-    text(b"    again: ");
+    text(b"12. ");
     interrupt(image, SourceId::new(0x03, 0x10), 0xFEE0_0090, 0);
     print_post(image);
 }
