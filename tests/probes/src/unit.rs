@@ -1,8 +1,37 @@
 //! The unit at the bench image, with the steps of a probe taken one after the other.
 
-use cases::{bench, Request, World};
+use cases::{bench, World};
 use galitzaf::{Levels, Registers};
 use interface::{ANSWER_SIZE, RECORDER_SIZE, RECORDS_SIZE};
+
+/// What was asked.
+pub enum Request {
+    /// A read or a write.
+    Memory {
+        /// Who asks.
+        source: u16,
+        /// The address asked for.
+        address: u64,
+        /// Whether it writes.
+        write: bool,
+    },
+    /// A translation request.
+    Translation {
+        /// Who asks.
+        source: u16,
+        /// The address asked for.
+        address: u64,
+    },
+    /// An interrupt message.
+    Interrupt {
+        /// Who asks.
+        source: u16,
+        /// The message's address.
+        address: u64,
+        /// The message's data.
+        data: u32,
+    },
+}
 
 /// What the steps have made of it.
 pub struct Unit {
@@ -89,6 +118,7 @@ impl Unit {
         match words {
             "read" => self.memory(hex(last)?, false),
             "write" => self.memory(hex(last)?, true),
+            "translate" => self.translation(hex(last)?),
             "interrupt" => self.interrupt(hex(last)?),
             "data" => self.message = hex(last)? as u32,
             "from" => self.source = hex(last)? as u16,
@@ -154,6 +184,21 @@ impl Unit {
             source,
             address,
             kind,
+            &mut self.answer,
+        );
+    }
+
+    fn translation(&mut self, address: u64) {
+        let source = self.source;
+        self.before.clone_from(&self.image);
+        self.request = Some(Request::Translation { source, address });
+        let registers = self.registers.to_bytes();
+        interface::translation_request(
+            &registers,
+            &interface::flat(self.image.len()),
+            &self.image,
+            source,
+            address,
             &mut self.answer,
         );
     }

@@ -1,7 +1,6 @@
 //! What has to come of a probe: every byte of the answer and the image, or of the recorder.
 
-use crate::unit::{hex, Unit};
-use cases::Request;
+use crate::unit::{hex, Request, Unit};
 use interface::ANSWER_SIZE;
 
 /// Compares what came with the parts of an answer.
@@ -51,15 +50,23 @@ fn add(
     let words: Vec<&str> = part.split(' ').collect();
     match words[..] {
         ["refusal", number] => answer[..2].copy_from_slice(&[2, hex(number)? as u8]),
-        ["passed"] => answer[0] = 3,
+        ["passed"] => passed(request, answer),
+        ["page", frame, "of", size] => {
+            answer[0] = 7;
+            answer[8..16].copy_from_slice(&hex(frame)?.to_le_bytes());
+            answer[16..24].copy_from_slice(&hex(size)?.to_le_bytes());
+        }
+        ["may", "read"] => answer[1] = 1,
+        ["may", "write"] => answer[2] = 1,
+        ["empty"] => answer[0] = 8,
         ["vector", vector, "to", destination] => {
             answer[..2].copy_from_slice(&[4, hex(vector)? as u8]);
             answer[4..8].copy_from_slice(&(hex(destination)? as u32).to_le_bytes());
         }
         ["level-triggered"] => answer[3] = 4,
         ["byte", at, "becomes", byte] => image[hex(at)? as usize] = hex(byte)? as u8,
-        ["no", "notice"] => answer[0] = 5,
-        ["notice", vector, "to", destination] => {
+        ["no", "notification"] => answer[0] = 5,
+        ["notification", vector, "to", destination] => {
             answer[..3].copy_from_slice(&[5, 1, hex(vector)? as u8]);
             answer[4..8].copy_from_slice(&(hex(destination)? as u32).to_le_bytes());
         }
@@ -79,21 +86,32 @@ fn add(
     Ok(())
 }
 
-/// A recordable fault, its record by the rules' list of bits.
+/// Passed unchanged: of a translation request with its address.
+fn passed(request: &Request, answer: &mut [u8; ANSWER_SIZE]) {
+    answer[0] = 3;
+    if let Request::Translation { address, .. } = request {
+        answer[8..16].copy_from_slice(&address.to_le_bytes());
+    }
+}
+
+/// A recordable fault, its record by the rules' list of bits: 126 for a read or a translation
+/// request, AT in 125:124.
 fn blocked(reason: u8, request: &Request, answer: &mut [u8; ANSWER_SIZE]) {
-    let (source, low, read) = match *request {
+    let (source, low, read, at) = match *request {
         Request::Memory {
             source,
             address,
             write,
-        } => (source, address & !0xFFF, !write),
+        } => (source, address & !0xFFF, !write, 0),
+        Request::Translation { source, address } => (source, address & !0xFFF, true, 1),
         Request::Interrupt {
             source,
             address,
             data,
-        } => (source, index(reason, address, data) << 48, false),
+        } => (source, index(reason, address, data) << 48, false, 0),
     };
-    let high = 1 << 63 | u64::from(read) << 62 | u64::from(reason) << 32 | u64::from(source);
+    let high =
+        1 << 63 | u64::from(read) << 62 | at << 60 | u64::from(reason) << 32 | u64::from(source);
     answer[..3].copy_from_slice(&[1, reason, 1]);
     answer[8..16].copy_from_slice(&low.to_le_bytes());
     answer[16..24].copy_from_slice(&high.to_le_bytes());

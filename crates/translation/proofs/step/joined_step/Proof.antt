@@ -1,5 +1,5 @@
 use mathlib.Core.Path.{refl}
-use borrow.Author.Tests.{eq-eqb, ne-eqb}
+use Rattle.translation.proofs.Joined.{no-right, reserved-set, none-left, at-page, at-table}
 use borrow.Author.Needs.{needs}
 use Rattle.translation.proofs.step.joined_step.Statement.{statement}
 use Rattle.translation.proofs.step.joined_step.Tie as tie
@@ -8,13 +8,20 @@ field-requires : tie.Need-field-requires
 field-requires c κs = search needs
 
 returns : tie.Need-returns
-returns c = (rw (← c .before .field .ensures, eq-eqb _ _ (c .if1 .taken)), refl)
+returns c =
+    let a = c .before .before .args in
+    (no-right (a .registers) (a .fpd) (a .level) (a .at) (a .above) (a .e) (c .before .field .ensures) (c .if1 .taken), refl)
 
 page-reserved-requires : tie.Need-page-reserved-requires
 page-reserved-requires c κs = search needs
 
 returns-2 : tie.Need-returns-2
-returns-2 c = (rw (← c .before .before .before .field .ensures, ne-eqb _ _ (c .before .before .if1 .left), ← c .before .page-reserved .ensures, c .if2 .taken), refl)
+returns-2 c =
+    let a = c .before .before .before .before .args in (
+      reserved-set (a .registers) (a .fpd) (a .level) (a .at) (a .above) (a .e) (c .before .before .before .field .ensures)
+          (c .before .before .if1 .left) (c .before .page-reserved .ensures) (c .if2 .taken),
+      refl,
+    )
 
 field-requires-2 : tie.Need-field-requires-2
 field-requires-2 c κs = search needs
@@ -23,18 +30,14 @@ field-requires-3 : tie.Need-field-requires-3
 field-requires-3 c κs = search needs
 
 returns-3 : tie.Need-returns-3
-returns-3 c = (
-  rw (
-    ← c .before .before .before .before .before .before .before .before .field .ensures,
-    ne-eqb _ _ (c .before .before .before .before .before .before .before .if1 .left),
-    ← c .before .before .before .before .before .before .page-reserved .ensures,
-    c .before .before .before .before .before .if2 .left,
-    ← c .before .before .before .before .field2 .ensures,
-    ← c .before .before .field3 .ensures,
-    c .if3 .taken,
-  ),
-  refl,
-)
+returns-3 c =
+    let t = c .before .before .before .before .before in
+    let a = t .before .before .before .before .args in (
+      none-left (a .registers) (a .fpd) (a .level) (a .at) (a .above) (a .e) (t .before .before .before .field .ensures)
+          (t .before .before .if1 .left) (t .before .page-reserved .ensures) (t .if2 .left) (c .before .before .before .before .field2 .ensures)
+          (c .before .before .field3 .ensures) (c .if3 .taken),
+      refl,
+    )
 
 in-place-requires : tie.Need-in-place-requires
 in-place-requires c κs = search needs
@@ -43,38 +46,26 @@ is-leaf-requires : tie.Need-is-leaf-requires
 is-leaf-requires c κs = search needs
 
 returns-4 : tie.Need-returns-4
-returns-4 c = (
-  rw (
-    ← c .before .before .before .before .before .before .before .before .before .before .before .field .ensures,
-    ne-eqb _ _ (c .before .before .before .before .before .before .before .before .before .before .if1 .left),
-    ← c .before .before .before .before .before .before .before .before .before .page-reserved .ensures,
-    c .before .before .before .before .before .before .before .before .if2 .left,
-    ← c .before .before .before .before .before .before .before .field2 .ensures,
-    ← c .before .before .before .before .before .field3 .ensures,
-    c .before .before .before .if3 .left,
-    ← c .before .is-leaf .ensures,
-    c .if4 .taken,
-    ← c .before .before .in-place .ensures,
-  ),
-  refl,
-)
+returns-4 c =
+    let s = c .before .before .before in
+    let t = s .before .before .before .before .before in
+    let a = t .before .before .before .before .args in (
+      at-page (a .registers) (a .fpd) (a .level) (a .at) (a .above) (a .e) (t .before .before .before .field .ensures)
+          (t .before .before .if1 .left) (t .before .page-reserved .ensures) (t .if2 .left) (s .before .before .before .before .field2 .ensures)
+          (s .before .before .field3 .ensures) (s .if3 .left) (c .before .is-leaf .ensures) (c .before .before .in-place .ensures) (c .if4 .taken),
+      refl,
+    )
 
 returns-5 : tie.Need-returns-5
-returns-5 c = (
-  rw (
-    ← c .before .before .before .before .before .before .before .before .before .before .before .field .ensures,
-    ne-eqb _ _ (c .before .before .before .before .before .before .before .before .before .before .if1 .left),
-    ← c .before .before .before .before .before .before .before .before .before .page-reserved .ensures,
-    c .before .before .before .before .before .before .before .before .if2 .left,
-    ← c .before .before .before .before .before .before .before .field2 .ensures,
-    ← c .before .before .before .before .before .field3 .ensures,
-    c .before .before .before .if3 .left,
-    ← c .before .is-leaf .ensures,
-    c .if4 .left,
-    ← c .before .before .in-place .ensures,
-  ),
-  refl,
-)
+returns-5 c =
+    let s = c .before .before .before in
+    let t = s .before .before .before .before .before in
+    let a = t .before .before .before .before .args in (
+      at-table (a .registers) (a .fpd) (a .level) (a .at) (a .above) (a .e) (t .before .before .before .field .ensures)
+          (t .before .before .if1 .left) (t .before .page-reserved .ensures) (t .if2 .left) (s .before .before .before .before .field2 .ensures)
+          (s .before .before .field3 .ensures) (s .if3 .left) (c .before .is-leaf .ensures) (c .before .before .in-place .ensures) (c .if4 .left),
+      refl,
+    )
 
 pub joined-step-spec : {M : Type 1} → statement M
 joined-step-spec =
