@@ -246,6 +246,12 @@ extern "C" {
 #define GALITZAF_OVERFLOW_CLEAR 0x30 /* clear overflow: it was clear */
 #define GALITZAF_OVERFLOW_CLEARED 0x31 /* clear overflow: it was set */
 #define GALITZAF_NONE_STANDS 0x40    /* take: no request bit stands */
+#define GALITZAF_TRACE_BLOCK 0x50    /* trace: the buffer holds a block, to be taken before the next call */
+#define GALITZAF_TRACE_ENTRY 0x51    /* trace: an entry is handed out */
+#define GALITZAF_TRACE_DAMAGED 0x52  /* trace: the block at this place is damaged */
+#define GALITZAF_TRACE_END 0x53      /* trace: there is no more */
+#define GALITZAF_TRACE_SAME 0x54     /* replay: the answer is the one that was traced */
+#define GALITZAF_TRACE_DIFFERS 0x55  /* replay: the answer differs */
 #define GALITZAF_METERS_REFUSED 0x60 /* meters: something in row, counts or bytes is bad */
 #define GALITZAF_NONE_BAD 0x70       /* first bad: no register and no window */
 #define GALITZAF_FIRST_BAD_HAW 0x71  /* first bad: this register, 71h to 76h */
@@ -256,11 +262,14 @@ extern "C" {
 #define GALITZAF_FIRST_BAD_S 0x76
 #define GALITZAF_FIRST_BAD_WINDOW 0x78 /* first bad: 78h to 7Ch, the window's place in the array is added */
 #define GALITZAF_BAD_REGISTERS 0x101 /* not 24 bytes, or a bit set that has to be zero */
-#define GALITZAF_BAD_ANSWER 0x102    /* not 32 bytes, or, to be recorded, of no kind above */
+#define GALITZAF_BAD_ANSWER 0x102    /* not 32 bytes, or, to be recorded, of no kind above, or, to be traced, no
+                                        answer to a request of this kind */
 #define GALITZAF_BAD_KIND 0x103      /* write is neither 0 nor 1 */
 #define GALITZAF_BAD_RECORDER 0x104  /* overflow is neither 0 nor 1 */
 #define GALITZAF_BAD_WINDOWS 0x105   /* the count of numbers is no multiple of three */
 #define GALITZAF_BAD_METERS 0x106    /* parts of different lengths, or a kind above 2 */
+#define GALITZAF_BAD_TRACE 0x107     /* trace: a writer or a place that isn't two numbers in range, or a block that
+                                        isn't 512 bytes */
 #define GALITZAF_TAKEN 0x200         /* take: 200h to 2FFh, the vector handed out is added */
 
 /* Requests and takes tell what is malformed in this order: registers, windows, answer, write; then comes
@@ -354,6 +363,73 @@ uint32_t galitzaf_tick_meters(const uint8_t *kinds, size_t kinds_len,
 
 /* Makes all loads 0. */
 uint32_t galitzaf_reset_meters(double *loads, size_t loads_len);
+
+/* Traces: requests with their answers in blocks of 512 bytes, each with its number and a sum, so that every block
+ * changed by one byte is named as damaged. docs/TRACE.md has blocks and entries byte by byte. An entry has 32 bytes:
+ *
+ *   byte 0       kind of the request
+ *   byte 1       answer: 1 refused, 2 a fault, 3 granted (a translation request with TE off too), 4 passed on,
+ *                5 remapped, 6 posted, 7 posted with a notification, 8 a page or the empty answer
+ *   byte 2       number: of a refusal, a fault's reason; of a page 12, 21 or 30
+ *   byte 3       flags: of a fault bit 0 it may be recorded, bit 1 the value is an entry's address; of a remapped
+ *                interrupt bits 2:0 as its answer's byte 3, bits 5:3 delivery mode; of a page bit 0 read, bit 1 write
+ *   bytes 5:4    source
+ *   byte 6       vector, of a remapped interrupt or of the notification
+ *   byte 7       posted vector
+ *   bytes 15:8   address of the request
+ *   bytes 19:16  data of an interrupt
+ *   bytes 23:20  destination, of a remapped interrupt or of the notification
+ *   bytes 31:24  value: host address, frame, descriptor or entry's address
+ */
+#define GALITZAF_TRACE_BLOCK_SIZE 512
+#define GALITZAF_TRACE_ENTRY_SIZE 32
+#define GALITZAF_TRACE_NUMBERS 2 /* of a writer, and of a place */
+
+/* Kinds of traced requests. */
+#define GALITZAF_TRACE_READ 1
+#define GALITZAF_TRACE_WRITE 2
+#define GALITZAF_TRACE_INTERRUPT 3
+#define GALITZAF_TRACE_TRANSLATION 4
+
+/* Appends the entry of a request with its answer to the block, to be put behind a request's call. writer is two numbers,
+ * 0 and 0 for a new trace, and only these calls change it; block is the buffer of the block that is being filled, whose
+ * bytes nobody else writes meanwhile. GALITZAF_OK, or GALITZAF_TRACE_BLOCK with the 15th entry: then the 512 bytes are
+ * the trace's next block. data is 0 but for interrupts. A malformed writer or block is told first, then a malformed
+ * answer, and nothing is changed. */
+GALITZAF_CHECK
+uint32_t galitzaf_trace_append(uint64_t *writer, size_t writer_len,
+                               uint8_t *block, size_t block_len,
+                               uint8_t kind, uint16_t source, uint64_t address, uint32_t data,
+                               const uint8_t *answer, size_t answer_len);
+
+/* Ends a trace: GALITZAF_TRACE_BLOCK with the last block, of fewer than 15 entries, or GALITZAF_OK where none waits. */
+GALITZAF_CHECK
+uint32_t galitzaf_trace_close(uint64_t *writer, size_t writer_len,
+                              uint8_t *block, size_t block_len);
+
+/* Whether the block at a place of a trace, which is a run of blocks from place 0 on, is laid out well: GALITZAF_OK or
+ * GALITZAF_TRACE_DAMAGED. A short last block is damaged. */
+GALITZAF_CHECK
+uint32_t galitzaf_trace_check(const uint8_t *trace, size_t trace_len, uint64_t place);
+
+/* Reads on: place is two numbers, a block's place and an entry's in it, 0 and 0 at first, and becomes the next one.
+ * GALITZAF_TRACE_ENTRY with the entry there; GALITZAF_TRACE_DAMAGED, and nothing of that block is handed out;
+ * GALITZAF_TRACE_END. A malformed place is told first, then an entry's buffer that isn't 32 bytes. */
+GALITZAF_CHECK
+uint32_t galitzaf_trace_next(const uint8_t *trace, size_t trace_len,
+                             uint64_t *place, size_t place_len,
+                             uint8_t *entry, size_t entry_len);
+
+/* Replays on: asks the request of the entry at a place again, a post made as by galitzaf_interrupt_request, and compares.
+ * GALITZAF_TRACE_SAME; GALITZAF_TRACE_DIFFERS with the entry of the answer now; GALITZAF_TRACE_DAMAGED, and nothing
+ * of that block is asked; GALITZAF_TRACE_END. Malformed registers are told first, then windows, place and entry. */
+GALITZAF_CHECK
+uint32_t galitzaf_trace_replay(const uint8_t *registers, size_t registers_len,
+                               const uint64_t *windows, size_t windows_len,
+                               uint8_t *image, size_t image_len,
+                               const uint8_t *trace, size_t trace_len,
+                               uint64_t *place, size_t place_len,
+                               uint8_t *entry, size_t entry_len);
 
 #ifdef __cplusplus
 }

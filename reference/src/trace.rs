@@ -9,6 +9,7 @@ use crate::interrupts::interrupt_request_in;
 use crate::memory::memory_request_in;
 use crate::registers::Registers;
 use crate::slips::Slip;
+use crate::translation::{translation_request_in, Translation};
 use crate::{Notice, Outcome};
 
 /// Bytes of a block.
@@ -41,6 +42,13 @@ pub enum TracedRequest {
         /// The message's data.
         data: u32,
     },
+    /// A translation request (Ask 1).
+    Translation {
+        /// Who asks.
+        source: u16,
+        /// The address asked for.
+        address: u64,
+    },
 }
 
 /// An answer as traced.
@@ -57,8 +65,21 @@ pub enum TracedAnswer {
         /// The host address of the entry concerned, or none.
         entry: Option<u64>,
     },
-    /// A memory request's host address.
+    /// A memory request's host address, or with TE off a translation request's
+    /// own address.
     Granted(u64),
+    /// A translation request's page; the empty answer has frame and size 0 and
+    /// no rights.
+    Page {
+        /// The page's first byte.
+        frame: u64,
+        /// Its address bits: 12, 21 or 30; 0 in the empty answer.
+        width: u8,
+        /// Whether it may be read.
+        read: bool,
+        /// Whether it may be written.
+        write: bool,
+    },
     /// An interrupt passed unchanged.
     Passed,
     /// An interrupt remapped.
@@ -137,6 +158,11 @@ pub fn encode_entry(entry: &TraceEntry) -> [u8; ENTRY] {
             bytes[8..16].copy_from_slice(&address.to_le_bytes());
             bytes[16..20].copy_from_slice(&data.to_le_bytes());
         }
+        TracedRequest::Translation { source, address } => {
+            bytes[0] = 4;
+            bytes[4..6].copy_from_slice(&source.to_le_bytes());
+            bytes[8..16].copy_from_slice(&address.to_le_bytes());
+        }
     }
     match &entry.answer {
         TracedAnswer::Refused(number) => {
@@ -159,6 +185,18 @@ pub fn encode_entry(entry: &TraceEntry) -> [u8; ENTRY] {
         TracedAnswer::Granted(address) => {
             bytes[1] = 3;
             bytes[24..32].copy_from_slice(&address.to_le_bytes());
+        }
+        TracedAnswer::Page {
+            frame,
+            width,
+            read,
+            write,
+        } => {
+            bytes[1] = 8;
+            bytes[2] = *width;
+            put(&mut bytes[3..4], 0, 0, u128::from(*read));
+            put(&mut bytes[3..4], 1, 1, u128::from(*write));
+            bytes[24..32].copy_from_slice(&frame.to_le_bytes());
         }
         TracedAnswer::Passed => bytes[1] = 4,
         TracedAnswer::Remapped {
@@ -212,9 +250,12 @@ pub fn decode_entry(bytes: &[u8; ENTRY]) -> Option<TraceEntry> {
             address,
             data: number(16, 19) as u32,
         },
+        4 => TracedRequest::Translation { source, address },
         _ => return None,
     };
+    // Of a translation request, too, but for its own answers.
     let memory = bytes[0] != 3;
+    let translation = bytes[0] == 4;
     let flag = |n: usize| bit(&bytes[3..4], n);
     let value = number(24, 31) as u64;
     let notice = Notice {
@@ -225,9 +266,14 @@ pub fn decode_entry(bytes: &[u8; ENTRY]) -> Option<TraceEntry> {
         // Refusals 1 and 2, of a memory request also 4.
         (1, true) if matches!(bytes[2], 1 | 2 | 4) => TracedAnswer::Refused(bytes[2]),
         (1, false) if matches!(bytes[2], 1 | 2) => TracedAnswer::Refused(bytes[2]),
-        // Reasons 01h to 0Ch of a memory request, 20h to 28h of an interrupt.
+        // Reasons 01h to 0Ch of a memory request, also 0Dh of a translation
+        // request, 20h to 28h of an interrupt.
         (2, _) => {
-            let good = if memory { 0x01..=0x0C } else { 0x20..=0x28 };
+            let good = match (memory, translation) {
+                (true, true) => 0x01..=0x0D,
+                (true, false) => 0x01..=0x0C,
+                _ => 0x20..=0x28,
+            };
             if !good.contains(&bytes[2]) {
                 return None;
             }
@@ -256,6 +302,21 @@ pub fn decode_entry(bytes: &[u8; ENTRY]) -> Option<TraceEntry> {
             vector: bytes[7],
             descriptor: value,
             notice: Some(notice),
+        },
+        // A page of 4 KiB, 2 MiB or 1 GiB.
+        (8, true) if translation && matches!(bytes[2], 12 | 21 | 30) => TracedAnswer::Page {
+            frame: value,
+            width: bytes[2],
+            read: flag(0),
+            write: flag(1),
+        },
+        // The empty answer: size, frame and rights are 0, which is looked at
+        // below.
+        (8, true) if translation && bytes[2] == 0 => TracedAnswer::Page {
+            frame: 0,
+            width: 0,
+            read: false,
+            write: false,
         },
         _ => return None,
     };
@@ -371,6 +432,11 @@ pub fn traced_answer(
             address,
             data,
         } => interrupt_request_in(none, registers, windows, run, source, address, data),
+        TracedRequest::Translation { source, address } => {
+            return traced_translation(translation_request_in(
+                registers, windows, run, source, address,
+            ));
+        }
     };
     match outcome {
         Outcome::Granted(address) => TracedAnswer::Granted(address),
@@ -405,6 +471,35 @@ pub fn traced_answer(
             descriptor,
             notice,
         },
+    }
+}
+
+/// A translation request's answer as traced.
+fn traced_translation(answer: Translation) -> TracedAnswer {
+    match answer {
+        Translation::Answered {
+            frame,
+            size,
+            read,
+            write,
+        } => TracedAnswer::Page {
+            frame,
+            width: match size {
+                0x1000 => 12,
+                0x20_0000 => 21,
+                0x4000_0000 => 30,
+                _ => 0,
+            },
+            read,
+            write,
+        },
+        Translation::Blocked(fault) => TracedAnswer::Fault {
+            reason: fault.reason,
+            recordable: fault.recordable,
+            entry: fault.entry,
+        },
+        Translation::Refused(number) => TracedAnswer::Refused(number),
+        Translation::Passed(address) => TracedAnswer::Granted(address),
     }
 }
 

@@ -247,7 +247,7 @@ fn malformed_entries() {
     let (granted, fault, refused) = (good(0), good(1), good(11));
     let (remapped, early, posted) = (good(12), good(14), good(16));
     for kind in 0..=255 {
-        assert_eq!(with(granted, &[(0, kind)]), matches!(kind, 1 | 2));
+        assert_eq!(with(granted, &[(0, kind)]), matches!(kind, 1 | 2 | 4));
         assert_eq!(with(remapped, &[(0, kind)]), kind == 3);
         assert_eq!(with(refused, &[(2, kind)]), matches!(kind, 1 | 2 | 4));
         assert_eq!(
@@ -257,6 +257,18 @@ fn malformed_entries() {
         );
         assert_eq!(with(fault, &[(2, kind)]), (0x01..=0x0C).contains(&kind));
         assert_eq!(with(early, &[(2, kind)]), (0x20..=0x28).contains(&kind));
+        // Of a translation request 0Dh too; a page has one of three sizes and
+        // two rights, the empty answer neither.
+        let translation = with(fault, &[(0, 4), (2, kind)]);
+        assert_eq!(translation, (0x01..=0x0D).contains(&kind));
+        let page = |number, flags, low| {
+            with([0; 32], &[(0, 4), (1, 8), (2, number), (3, flags), (24, low)])
+        };
+        assert_eq!(page(kind, 0, 0), matches!(kind, 0 | 12 | 21 | 30));
+        assert_eq!(page(kind, 3, 1), matches!(kind, 12 | 21 | 30));
+        assert_eq!(page(12, kind, 0), kind < 4);
+        assert_eq!(page(0, kind, 0), kind == 0);
+        assert_eq!(page(0, 0, kind), kind == 0);
         // Flags: 1:0 of a fault whose value isn't 0 with flag 1 alone, of one
         // whose value is 0 with any; 5:0 remapped; else none.
         assert_eq!(with(fault, &[(3, kind)]), matches!(kind, 2 | 3));
@@ -277,6 +289,9 @@ fn malformed_entries() {
             || with(empty, &[(0, 3), (1, answer), number[0]])
             || numbered;
         assert_eq!(interrupt, matches!(answer, 1 | 2 | 4..=7), "{answer}");
+        let translation =
+            with(empty, &[(0, 4), (1, answer)]) || with(empty, &[(0, 4), (1, answer), number[0]]);
+        assert_eq!(translation, matches!(answer, 1..=3 | 8), "{answer}");
     }
     // Bytes not used.
     for at in [2, 3, 6, 7, 16, 17, 18, 19, 20, 23] {

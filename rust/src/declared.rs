@@ -15,6 +15,18 @@ pub const RECORDS_SIZE: usize = 128;
 /// Bytes of the recorder's state.
 pub const RECORDER_SIZE: usize = 2;
 
+/// Bytes of a trace's block.
+pub const TRACE_BLOCK_SIZE: usize = 512;
+/// Bytes of a trace's entry.
+pub const TRACE_ENTRY_SIZE: usize = 32;
+/// Numbers of a trace's writer, and of a place in a trace.
+pub const TRACE_NUMBERS: usize = 2;
+
+pub const TRACE_READ: u8 = 1;
+pub const TRACE_WRITE: u8 = 2;
+pub const TRACE_INTERRUPT: u8 = 3;
+pub const TRACE_TRANSLATION: u8 = 4;
+
 pub const BLOCKED: u8 = 1;
 pub const REFUSED: u8 = 2;
 pub const PASSED: u8 = 3;
@@ -36,6 +48,12 @@ pub const SLOT_CLEARED: u32 = 0x21;
 pub const OVERFLOW_CLEAR: u32 = 0x30;
 pub const OVERFLOW_CLEARED: u32 = 0x31;
 pub const NONE_STANDS: u32 = 0x40;
+pub const TRACE_BLOCK: u32 = 0x50;
+pub const TRACE_ENTRY: u32 = 0x51;
+pub const TRACE_DAMAGED: u32 = 0x52;
+pub const TRACE_END: u32 = 0x53;
+pub const TRACE_SAME: u32 = 0x54;
+pub const TRACE_DIFFERS: u32 = 0x55;
 pub const METERS_REFUSED: u32 = 0x60;
 pub const NONE_BAD: u32 = 0x70;
 pub const FIRST_BAD_HAW: u32 = 0x71;
@@ -45,6 +63,8 @@ pub const FIRST_BAD_ROOT_TABLE: u32 = 0x74;
 pub const FIRST_BAD_INTERRUPT_TABLE: u32 = 0x75;
 pub const FIRST_BAD_S: u32 = 0x76;
 pub const FIRST_BAD_WINDOW: u32 = 0x78;
+pub const BAD_ANSWER: u32 = 0x102;
+pub const BAD_TRACE: u32 = 0x107;
 pub const TAKEN: u32 = 0x200;
 
 extern "C" {
@@ -147,4 +167,50 @@ extern "C" {
     ) -> u32;
 
     pub fn galitzaf_reset_meters(loads: *mut f64, loads_len: usize) -> u32;
+
+    pub fn galitzaf_trace_append(
+        writer: *mut u64,
+        writer_len: usize,
+        block: *mut u8,
+        block_len: usize,
+        kind: u8,
+        source: u16,
+        address: u64,
+        data: u32,
+        answer: *const u8,
+        answer_len: usize,
+    ) -> u32;
+
+    pub fn galitzaf_trace_close(
+        writer: *mut u64,
+        writer_len: usize,
+        block: *mut u8,
+        block_len: usize,
+    ) -> u32;
+
+    pub fn galitzaf_trace_check(trace: *const u8, trace_len: usize, place: u64) -> u32;
+
+    pub fn galitzaf_trace_next(
+        trace: *const u8,
+        trace_len: usize,
+        place: *mut u64,
+        place_len: usize,
+        entry: *mut u8,
+        entry_len: usize,
+    ) -> u32;
+
+    pub fn galitzaf_trace_replay(
+        registers: *const u8,
+        registers_len: usize,
+        windows: *const u64,
+        windows_len: usize,
+        image: *mut u8,
+        image_len: usize,
+        trace: *const u8,
+        trace_len: usize,
+        place: *mut u64,
+        place_len: usize,
+        entry: *mut u8,
+        entry_len: usize,
+    ) -> u32;
 }

@@ -225,3 +225,103 @@ pub(crate) fn reset_meters(loads: &mut [f64]) {
     // There is nothing that it could say but OK.
     unsafe { galitzaf_reset_meters(loads.as_mut_ptr(), loads.len()) };
 }
+
+/// Appends an entry to a trace's block.
+pub(crate) fn trace_append(
+    writer: &mut [u64; TRACE_NUMBERS],
+    block: &mut [u8; TRACE_BLOCK_SIZE],
+    kind: u8,
+    source: u16,
+    address: u64,
+    data: u32,
+    answer: &[u8; ANSWER_SIZE],
+) -> u32 {
+    // SAFETY: each pointer and length is that of a live array. `writer` and `block`, which are written,
+    // are lent by `&mut`, so that neither overlaps another. None is kept after the call.
+    unsafe {
+        galitzaf_trace_append(
+            writer.as_mut_ptr(),
+            writer.len(),
+            block.as_mut_ptr(),
+            block.len(),
+            kind,
+            source,
+            address,
+            data,
+            answer.as_ptr(),
+            answer.len(),
+        )
+    }
+}
+
+/// Ends a trace.
+pub(crate) fn trace_close(
+    writer: &mut [u64; TRACE_NUMBERS],
+    block: &mut [u8; TRACE_BLOCK_SIZE],
+) -> u32 {
+    // SAFETY: as for `trace_append`.
+    unsafe {
+        galitzaf_trace_close(
+            writer.as_mut_ptr(),
+            writer.len(),
+            block.as_mut_ptr(),
+            block.len(),
+        )
+    }
+}
+
+/// Whether the block at a place is damaged.
+pub(crate) fn trace_check(trace: &[u8], place: u64) -> u32 {
+    // SAFETY: pointer and length are those of a live slice, which is neither written nor kept.
+    unsafe { galitzaf_trace_check(trace.as_ptr(), trace.len(), place) }
+}
+
+/// Reads on from a place.
+pub(crate) fn trace_next(
+    trace: &[u8],
+    place: &mut [u64; TRACE_NUMBERS],
+    entry: &mut [u8; TRACE_ENTRY_SIZE],
+) -> u32 {
+    // SAFETY: each pointer and length is that of a live slice or array. `place` and `entry`, which are
+    // written, are lent by `&mut`, so that neither overlaps another. None is kept after the call.
+    unsafe {
+        galitzaf_trace_next(
+            trace.as_ptr(),
+            trace.len(),
+            place.as_mut_ptr(),
+            place.len(),
+            entry.as_mut_ptr(),
+            entry.len(),
+        )
+    }
+}
+
+/// Replays on from a place.
+pub(crate) fn trace_replay(
+    registers: &[u8; REGISTERS_SIZE],
+    windows: &[Window],
+    image: &mut [u8],
+    trace: &[u8],
+    place: &mut [u64; TRACE_NUMBERS],
+    entry: &mut [u8; TRACE_ENTRY_SIZE],
+) -> u32 {
+    // SAFETY: each pointer and length is that of a live slice or array, windows taken as numbers.
+    // `image`, `place` and `entry`, which are written, are lent by `&mut`, so that none overlaps another.
+    // None is kept after the call.
+    unsafe {
+        galitzaf_trace_replay(
+            registers.as_ptr(),
+            registers.len(),
+            windows.as_ptr().cast(),
+            numbers(windows),
+            image.as_mut_ptr(),
+            image.len(),
+            trace.as_ptr(),
+            trace.len(),
+            place.as_mut_ptr(),
+            place.len(),
+            entry.as_mut_ptr(),
+            entry.len(),
+        )
+    }
+}

@@ -73,6 +73,7 @@ mod recorder;
 mod registers;
 mod request;
 mod source;
+mod trace;
 mod unit;
 
 pub use answer::{
@@ -87,4 +88,7 @@ pub use recorder::{Recorded, Recorder, RecorderState};
 pub use registers::{Levels, Registers};
 pub use request::{Access, InterruptRequest, MemoryRequest, TranslationRequest};
 pub use source::SourceId;
+pub use trace::{
+    Block, Named, Replay, TraceError, TraceItem, TracePlace, TraceReader, TraceWriter, Traced,
+};
 pub use unit::Unit;

@@ -14,7 +14,7 @@ use crate::{Memory, Refusal, Registers, TakeAnswer, TranslationAnswer, Translati
 /// that share the memory have to be kept off it meanwhile.
 #[derive(Clone, Copy, PartialEq, Eq, Hash)]
 pub struct Unit {
-    registers: [u8; REGISTERS_SIZE],
+    pub(crate) registers: [u8; REGISTERS_SIZE],
 }
 
 impl Unit {

@@ -7,4 +7,5 @@ pub mod Recording
 pub mod Registers
 pub mod Status
 pub mod Takes
+pub mod Traces
 pub mod Translations

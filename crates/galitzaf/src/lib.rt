@@ -7,6 +7,7 @@ mod recorder;
 mod requests;
 mod status;
 mod taking;
+mod traces;
 mod translating;
 mod unpack;
 
@@ -19,4 +20,9 @@ pub use recorder::galitzaf_record;
 pub use requests::galitzaf_interrupt_request;
 pub use requests::galitzaf_memory_request;
 pub use taking::galitzaf_take;
+pub use traces::galitzaf_trace_append;
+pub use traces::galitzaf_trace_check;
+pub use traces::galitzaf_trace_close;
+pub use traces::galitzaf_trace_next;
+pub use traces::galitzaf_trace_replay;
 pub use translating::galitzaf_translation_request;
