@@ -149,14 +149,24 @@ fn print_refusal(number: u8) {
     hex(number as u64);
 }
 
+// The number of a case.
+fn number(case: u64) {
+    if case < 10 {
+        text(b" ");
+    }
+    io::print_decimal(STDOUT_FILENO, case);
+    text(b". ");
+}
+
 // A memory request and its answer, a line.
-fn memory(image: &[u8], source: SourceId, address: u64, write: bool) {
+fn memory(case: u64, image: &[u8], source: u16, address: u64, write: bool) {
     let request = MemoryRequest {
-        source,
+        source: SourceId::from_number(source),
         address,
         write,
     };
-    digits(source.id as u64, 4);
+    number(case);
+    digits(source as u64, 4);
     if write {
         text(b" write ");
     } else {
@@ -205,13 +215,14 @@ fn print_posted(posted: Posted) {
 }
 
 // An interrupt and its answer, without the line's end.
-fn interrupt(image: &mut [u8], source: SourceId, address: u64, data: u32) {
+fn interrupt(case: u64, image: &mut [u8], source: u16, address: u64, data: u32) {
     let request = InterruptRequest {
-        source,
+        source: SourceId::from_number(source),
         address,
         data,
     };
-    digits(source.id as u64, 4);
+    number(case);
+    digits(source as u64, 4);
     text(b" interrupt ");
     hex(address);
     text(b", data ");
@@ -239,49 +250,35 @@ fn print_post(image: &[u8; 32768]) {
 fn shorter_case(image: &[u8]) {
     if 0 < image.len() {
         let end = image.len() - 1;
-        memory(&image[..end], SourceId::new(0x03, 0x10), 0x40BF_F000, false);
+        memory(7, &image[..end], 0x0310, 0x40BF_F000, false);
     }
 }
 
 fn memory_cases(image: &[u8]) {
-    text(b" 1. ");
-    memory(image, SourceId::new(0x03, 0x10), 0x4020_1ABC, false);
-    text(b" 2. ");
-    memory(image, SourceId::new(0x03, 0x10), 0x4020_1ABC, true);
-    text(b" 3. ");
-    memory(image, SourceId::new(0x03, 0x10), 0x4020_2000, false);
-    text(b" 4. ");
-    memory(image, SourceId::new(0x03, 0x10), 0x4041_2345, false);
-    text(b" 5. ");
-    memory(image, SourceId::new(0x03, 0x10), 0x4060_0000, false);
-    text(b" 6. ");
-    memory(image, SourceId::new(0x03, 0x10), 0x4080_0000, false);
-    text(b" 7. ");
-    memory(image, SourceId::new(0x03, 0x10), 0x40BF_F000, false);
-    text(b" 7. ");
+    memory(1, image, 0x0310, 0x4020_1ABC, false);
+    memory(2, image, 0x0310, 0x4020_1ABC, true);
+    memory(3, image, 0x0310, 0x4020_2000, false);
+    memory(4, image, 0x0310, 0x4041_2345, false);
+    memory(5, image, 0x0310, 0x4060_0000, false);
+    memory(6, image, 0x0310, 0x4080_0000, false);
+    memory(7, image, 0x0310, 0x40BF_F000, false);
     shorter_case(image);
-    text(b" 8. ");
-    memory(image, SourceId::new(0x03, 0x10), 0x7F_FFFF_FFFF, false);
-    text(b" 8. ");
-    memory(image, SourceId::new(0x03, 0x10), 0x80_0000_0000, false);
-    text(b" 9. ");
-    memory(image, SourceId::new(0x04, 0x10), 0x4020_1ABC, false);
-    text(b" 9. ");
-    memory(image, SourceId::new(0x03, 0x11), 0x4020_1ABC, false);
+    memory(8, image, 0x0310, 0x7F_FFFF_FFFF, false);
+    memory(8, image, 0x0310, 0x80_0000_0000, false);
+    memory(9, image, 0x0410, 0x4020_1ABC, false);
+    memory(9, image, 0x0311, 0x4020_1ABC, false);
 }
 
 fn interrupt_cases(image: &mut [u8; 32768]) {
-    text(b"10. ");
-    interrupt(image, SourceId::new(0x03, 0x10), 0xFEE0_0050, 0);
-    text(b"\n10. ");
-    interrupt(image, SourceId::new(0x03, 0x11), 0xFEE0_0050, 0);
-    text(b"\n11. ");
-    interrupt(image, SourceId::new(0x03, 0x10), 0xFEEF_FFFC, 3);
-    text(b"\n12. ");
-    interrupt(image, SourceId::new(0x03, 0x10), 0xFEE0_0090, 0);
+    interrupt(10, image, 0x0310, 0xFEE0_0050, 0);
+    text(b"\n");
+    interrupt(10, image, 0x0311, 0xFEE0_0050, 0);
+    text(b"\n");
+    interrupt(11, image, 0x0310, 0xFEEF_FFFC, 3);
+    text(b"\n");
+    interrupt(12, image, 0x0310, 0xFEE0_0090, 0);
     print_post(image);
-    text(b"12. ");
-    interrupt(image, SourceId::new(0x03, 0x10), 0xFEE0_0090, 0);
+    interrupt(12, image, 0x0310, 0xFEE0_0090, 0);
     print_post(image);
 }
 

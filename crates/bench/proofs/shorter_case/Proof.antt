@@ -11,9 +11,6 @@ sub-end c = search needs
 slice-aggregate-memory : tie.Need-slice-aggregate-memory
 slice-aggregate-memory c = sym (length-take-le _ _ (omega arith))
 
-new-requires : tie.Need-new-requires
-new-requires c κs = search needs
-
 memory-requires : tie.Need-memory-requires
 memory-requires c κs = search needs
 
@@ -25,4 +22,4 @@ returns-2 c = search needs
 
 pub shorter-case-spec : {M : Type 1} → statement M
 shorter-case-spec =
-    tie.close (tie.spec sub-end slice-aggregate-memory new-requires memory-requires returns returns-2)
+    tie.close (tie.spec sub-end slice-aggregate-memory memory-requires returns returns-2)
