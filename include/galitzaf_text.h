@@ -1,4 +1,4 @@
-/* A fault in words, in the style of Linux's log:
+/* Faults and refusals in words. A fault is told in the style of Linux's log:
  *
  *   [DMA Write] Request device [03:02.0] fault addr 40201000 [fault reason 05h] write permission missing, entry 5008
  *   [DMA Translation] Request device [03:02.0] fault addr 40201000 [fault reason 0Dh] translation request blocked, entry 2100
@@ -46,6 +46,19 @@ static inline const char *galitzaf_reason_text(uint8_t reason)
     case GALITZAF_REASON_DESCRIPTOR_ACCESS: return "posted descriptor not fetched";
     case GALITZAF_REASON_DESCRIPTOR_RESERVED: return "reserved bit set in posted descriptor";
     default: return "unknown reason";
+    }
+}
+
+/* A refusal in words: of an answer's byte, or of the recorder and takes. */
+static inline const char *galitzaf_refusal_text(uint32_t refusal)
+{
+    switch (refusal) {
+    case GALITZAF_REFUSAL_BAD_REGISTERS: return "bad registers or windows";
+    case GALITZAF_REFUSAL_WRONG_ADDRESS: return "address of the wrong kind";
+    case GALITZAF_REFUSED_3: return "bad recorder, record buffer or slot";
+    case GALITZAF_REFUSAL_PAGE_IN_INTERRUPT_RANGE: return "page in the interrupt range";
+    case GALITZAF_REFUSED_5: return "descriptor misaligned or outside memory";
+    default: return "unknown refusal";
     }
 }
 

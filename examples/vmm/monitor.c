@@ -104,7 +104,7 @@ static uint8_t records[GALITZAF_RECORDS_SIZE], recorder[GALITZAF_RECORDER_SIZE];
 /* Refusal 1 is told with what it is for. */
 static void refused(void)
 {
-    printf("  refused %d", answer[GALITZAF_REFUSAL]);
+    printf("  refused: %s", galitzaf_refusal_text(answer[GALITZAF_REFUSAL]));
     if (answer[GALITZAF_REFUSAL] == GALITZAF_REFUSAL_BAD_REGISTERS)
         printf(" (%s)", galitzaf_first_bad_text(galitzaf_first_bad(registers, sizeof registers, GALITZAF_WINDOWS(windows, 2),
                                                                    RUN_SIZE)));
