@@ -59,34 +59,34 @@ static void print_answer(uint32_t status)
         printf("malformed call, %03" PRIX32 "\n", status);
         return;
     }
-    switch (answer[0]) {
+    switch (answer[GALITZAF_KIND]) {
     case GALITZAF_GRANTED:
-        printf("granted %" PRIX64 "\n", load(answer + 8, 8));
+        printf("granted %" PRIX64 "\n", load(answer + GALITZAF_HOST_ADDRESS, 8));
         break;
     case GALITZAF_BLOCKED:
-        printf("fault %02X%s, record ", answer[1], answer[2] ? "" : " (not recordable)");
-        print_record(answer + 8);
+        printf("fault %02X%s, record ", answer[GALITZAF_REASON], answer[GALITZAF_RECORDABLE] ? "" : " (not recordable)");
+        print_record(answer + GALITZAF_RECORD);
         if (answer[GALITZAF_HAS_ENTRY])
             printf(", entry %" PRIX64, load(answer + GALITZAF_ENTRY, 8));
         printf("\n");
         break;
     case GALITZAF_REFUSED:
-        printf("refused %d\n", answer[1]);
+        printf("refused %d\n", answer[GALITZAF_REFUSAL]);
         break;
     case GALITZAF_PASSED:
         printf("passed\n");
         break;
     case GALITZAF_REMAPPED:
-        printf("vector %02X, destination %" PRIX64 "\n", answer[1], load(answer + 4, 4));
+        printf("vector %02X, destination %" PRIX64 "\n", answer[GALITZAF_VECTOR], load(answer + GALITZAF_DESTINATION, 4));
         break;
     case GALITZAF_POSTED:
-        printf("posted %02X to %" PRIX64, answer[3], load(answer + 8, 8));
-        if (answer[1])
-            printf(", notification %02X to %" PRIX64, answer[2], load(answer + 4, 4));
+        printf("posted %02X to %" PRIX64, answer[GALITZAF_POSTED_VECTOR], load(answer + GALITZAF_DESCRIPTOR, 8));
+        if (answer[GALITZAF_NOTIFIES])
+            printf(", notification %02X to %" PRIX64, answer[GALITZAF_NOTIFICATION], load(answer + GALITZAF_DESTINATION, 4));
         printf("; byte 6406 is %d, byte 6420 is %d\n", image[0x6406], image[0x6420]);
         break;
     default:
-        printf("unknown kind %d\n", answer[0]);
+        printf("unknown kind %d\n", answer[GALITZAF_KIND]);
     }
 }
 
