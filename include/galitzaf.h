@@ -9,8 +9,8 @@
  *
  * - Pointers are not null, and each has as many elements behind it as its length says; a length of 0 may
  *   come with any such pointer. Buffers of one call don't overlap where one of them is written.
- * - Bytes need no alignment: registers, answers, records and guest memory may begin anywhere. Windows and
- *   what meters take are numbers, aligned as C has it for their type.
+ * - Bytes need no alignment: registers, answers, records, traces and guest memory may begin anywhere. Arrays of
+ *   numbers, such as windows and what meters take, are aligned as C has it for their type.
  * - Nobody else changes what is lent, guest memory among it, while the call runs, and nobody reads what it
  *   writes. Stop the virtual processors and devices that share this memory, or keep them off it by a lock.
  * - So a post is no atomic operation, and neither is a take: each reads and writes plain bytes.

@@ -5,7 +5,7 @@ mod common;
 use common::{bench_image, BENCH, SOURCE};
 use galitzaf::{
     DeliveryMode, DestinationMode, Fault, InterruptAnswer, InterruptRequest, Memory, MemoryAnswer,
-    MemoryRequest, Notification, Posted, Reason, Remapped, SourceId, TriggerMode, Unit,
+    MemoryRequest, Notification, Posted, Reason, Remapped, SourceId, TakeAnswer, TriggerMode, Unit,
 };
 
 fn read(source: SourceId, address: u64) -> MemoryAnswer {
@@ -144,4 +144,27 @@ fn case_12() {
     post.notification = None;
     assert_eq!(answer, InterruptAnswer::Posted(post));
     assert_eq!(*memory.run(), posted);
+}
+
+/// Guest memory may begin anywhere: the header promises that no alignment is needed.
+#[test]
+fn memory_of_any_alignment() {
+    let unit = Unit::new(&BENCH);
+    for from in 0..16 {
+        let mut buffer = [vec![0xFF; from], bench_image(), vec![0xFF; 8]].concat();
+        let memory = Memory::flat(&buffer[from..from + 32_768]);
+        for address in (0x4020_0000..0x4100_0000).step_by(0x7_FABC) {
+            let request = MemoryRequest::read(SOURCE, address);
+            assert_eq!(unit.memory(&memory, request), read(SOURCE, address));
+        }
+
+        let mut memory = Memory::flat(&mut buffer[from..from + 32_768]);
+        let post = InterruptRequest::new(SOURCE, 0xFEE0_0090, 0);
+        let answer = unit.interrupt(&mut memory, post);
+        assert!(matches!(answer, InterruptAnswer::Posted(_)), "{answer:?}");
+        assert_eq!(unit.take(&mut memory, 0x6400), TakeAnswer::Vector(0x31));
+        assert_eq!(*memory.into_run(), bench_image());
+        let around = buffer[..from].iter().chain(&buffer[from + 32_768..]);
+        assert!(around.into_iter().all(|byte| *byte == 0xFF));
+    }
 }
