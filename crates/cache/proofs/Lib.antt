@@ -5,3 +5,11 @@ pub mod Runs
 pub mod Holding
 pub mod PageWords
 pub mod History
+pub mod Numbered
+pub mod Caches
+pub mod Answered
+pub mod Looked
+pub mod Holds
+pub mod Sifted
+pub mod Found
+pub mod AsDefined

@@ -15,7 +15,7 @@ pub enum Check {
     Go(u64),
 }
 
-pub(crate) fn present(e: Entry16) -> bool
+pub fn present(e: Entry16) -> bool
     ensures { λ r. ⌜ r ≡ bit (number16 e) 0 ⌝ }
 {
     bit16(e, 0)

@@ -16,23 +16,34 @@ mod walk;
 
 pub use context::Context;
 pub use context::Lookup;
+pub use context::context_invalid;
+pub use context::context_of;
+pub use context::context_reserved;
+pub use context::fault_processing_disabled;
 pub use device::find_device_context;
+pub use entry::Check;
+pub use entry::present;
 use faults::Fault;
 use faults::memory_fault;
 pub use image::EntryAddress;
 use image::bad_windows;
-use page::host_address;
+pub use lookup::stopped;
+pub use page::Step;
+pub use page::host_address;
 pub use page::is_leaf;
 pub use page::meets_interrupt_range;
+pub use page::page_check;
 pub use page::page_reserved;
 use registers::Admission;
 use registers::Registers;
 use registers::SourceId;
 use registers::admit;
 use registers::in_interrupt_range;
-use translation::Translation;
+pub use root::root_check;
+pub use translation::Translation;
 pub use translation::overflows;
 use translation::translate;
+pub use translation::without_context;
 
 pub struct MemoryRequest {
     pub source: SourceId,

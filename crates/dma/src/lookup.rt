@@ -20,7 +20,7 @@ use registers::Registers;
 use registers::SourceId;
 
 // A root entry's check that stopped, told as a lookup: a root entry has no FPD. The other arm is never taken.
-pub(crate) fn stopped(check: Check) -> Lookup
+pub fn stopped(check: Check) -> Lookup
     ensures { λ r. ⌜ lookupOf r ≡ stoppedLookup (checkOf check) ⌝ }
     ensures { λ r. ⌜ lookupPlace r ≡ checkPlace check ⌝ }
 {

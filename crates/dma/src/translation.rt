@@ -77,7 +77,7 @@ fn translate_in(
 }
 
 // A lookup that found no context, told as a translation. The other arm is never taken.
-fn without_context(found: Lookup) -> Translation
+pub fn without_context(found: Lookup) -> Translation
     ensures { λ r. ⌜ translationOf r ≡ withoutContext (lookupOf found) ⌝ }
     ensures { λ r. ⌜ Names r (lookupPlace found) ⌝ }
 {

@@ -1,0 +1,32 @@
+-- No change alters the length of the state.
+use Prim.Native.Nat.{ℕ, zero, suc, _+_, _%_}
+use mathlib.Core.Bool.{Bool, true, false, _||_}
+use mathlib.Core.List.{List}
+use mathlib.Core.Path.{_≡_, refl, sym, _∙_}
+use lib.Dec.{eqb}
+use lib.ListN.{length, length-set, set}
+use Rattle.image.specs.Choice.{if_then_else_}
+use Rattle.places.specs.Layout.{keyIn, frameIn, domainIn, bucketIn, bucketOf, levelOf}
+use Rattle.places.specs.Changes.{beforeOf, unless, released, linked, filled, holding, freed, resettled, sifted}
+
+pub length-released : (state : List ℕ) (place : ℕ) → length (released state place) ≡ length state
+unfolding released
+length-released state place = length-set state (264 + bucketOf (keyIn state place)) _
+
+pub length-linked : (state : List ℕ) (key place : ℕ) → length (linked state key place) ≡ length state
+unfolding linked
+length-linked state key place = simp length-set
+
+pub length-filled : (state : List ℕ) (key frame domain place : ℕ) → length (filled state key frame domain place) ≡ length state
+unfolding filled
+length-filled state key frame domain place = simp length-set
+
+pub length-holding : (state : List ℕ) (key frame domain : ℕ) → length (holding state key frame domain) ≡ length state
+unfolding holding
+length-holding state key frame domain =
+    let p = beforeOf state in
+    length-filled (linked (released state p) key p) key frame domain p ∙ length-linked (released state p) key p ∙ length-released state p
+
+pub length-freed : (state : List ℕ) (place : ℕ) → length (freed state place) ≡ length state
+unfolding freed
+length-freed state place = length-set state (8 + place) 0
