@@ -270,6 +270,7 @@ extern "C" {
 #define GALITZAF_BAD_METERS 0x106    /* parts of different lengths, or a kind above 2 */
 #define GALITZAF_BAD_TRACE 0x107     /* trace: a writer or a place that isn't two numbers in range, or a block that
                                         isn't 512 bytes */
+#define GALITZAF_BAD_CACHE 0x108     /* not 776 numbers */
 #define GALITZAF_TAKEN 0x200         /* take: 200h to 2FFh, the vector handed out is added */
 
 /* Requests and takes tell what is malformed in this order: registers, windows, answer, write; then comes
@@ -302,6 +303,30 @@ uint32_t galitzaf_interrupt_request(const uint8_t *registers, size_t registers_l
                                     uint8_t *image, size_t image_len,
                                     uint16_t source, uint64_t address, uint32_t data,
                                     uint8_t *answer, size_t answer_len);
+
+/* The same as galitzaf_memory_request through a cache of 64 translations: cache is 776 numbers that the caller lends and
+ * leaves alone between calls. All zero is an empty one. A page that a walk reached and that was granted is held, with the
+ * request's source and kind and the domain of its context entry (87:72), until it is invalidated or pushed out: the oldest
+ * goes at a 65th. What is held answers the requests for its page, source and kind that refusals 1 and 2 and TE let past,
+ * the newest where two could, and no table is read for them. So each write to a table entry that a held translation went
+ * through, by the guest, a post, a take or whatever else, has to be followed by an invalidation before the next request:
+ * then every answer is that of galitzaf_memory_request. With other registers or windows, invalidate all. Any numbers get
+ * an answer: nothing is read or written outside the buffers. A malformed cache is told after windows. */
+#define GALITZAF_CACHE_WORDS 776
+
+GALITZAF_CHECK
+uint32_t galitzaf_cached_request(const uint8_t *registers, size_t registers_len,
+                                 const uint64_t *windows, size_t windows_len,
+                                 const uint8_t *image, size_t image_len,
+                                 uint64_t *cache, size_t cache_len,
+                                 uint16_t source, uint64_t address, uint8_t write,
+                                 uint8_t *answer, size_t answer_len);
+
+/* Takes all translations out: it makes an empty cache of any numbers. */
+uint32_t galitzaf_invalidate_all(uint64_t *cache, size_t cache_len);
+
+/* Takes those of a domain out, as it was when they were cached. */
+uint32_t galitzaf_invalidate_domain(uint64_t *cache, size_t cache_len, uint16_t domain);
 
 /* Takes from the posted interrupt descriptor at a host address: its highest request bit is cleared and the
  * vector answered, or that none stands; the ON bit is cleared either way. A refused call leaves the run

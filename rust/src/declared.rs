@@ -10,6 +10,8 @@
 pub const REGISTERS_SIZE: usize = 24;
 /// Bytes of an answer.
 pub const ANSWER_SIZE: usize = 32;
+/// Numbers of a cache of translations.
+pub const CACHE_WORDS: usize = 776;
 /// Bytes of a buffer of 8 records.
 pub const RECORDS_SIZE: usize = 128;
 /// Bytes of the recorder's state.
@@ -94,6 +96,26 @@ extern "C" {
         answer: *mut u8,
         answer_len: usize,
     ) -> u32;
+
+    pub fn galitzaf_cached_request(
+        registers: *const u8,
+        registers_len: usize,
+        windows: *const u64,
+        windows_len: usize,
+        image: *const u8,
+        image_len: usize,
+        cache: *mut u64,
+        cache_len: usize,
+        source: u16,
+        address: u64,
+        write: u8,
+        answer: *mut u8,
+        answer_len: usize,
+    ) -> u32;
+
+    pub fn galitzaf_invalidate_all(cache: *mut u64, cache_len: usize) -> u32;
+
+    pub fn galitzaf_invalidate_domain(cache: *mut u64, cache_len: usize, domain: u16) -> u32;
 
     pub fn galitzaf_interrupt_request(
         registers: *const u8,

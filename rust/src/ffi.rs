@@ -74,6 +74,52 @@ pub(crate) fn translation_request(
 }
 
 /// The answer bytes, or none where the library called an argument malformed.
+pub(crate) fn cached_request(
+    registers: &[u8; REGISTERS_SIZE],
+    windows: &[Window],
+    image: &[u8],
+    cache: &mut [u64; CACHE_WORDS],
+    source: u16,
+    address: u64,
+    write: bool,
+) -> Option<[u8; ANSWER_SIZE]> {
+    let mut answer = [0; ANSWER_SIZE];
+    // SAFETY: each pointer and length is that of a live slice or array, windows taken as numbers.
+    // `cache` and `answer` are written: the one is lent by `&mut`, the other a local, so that neither
+    // overlaps another. None is kept.
+    let status = unsafe {
+        galitzaf_cached_request(
+            registers.as_ptr(),
+            registers.len(),
+            windows.as_ptr().cast(),
+            numbers(windows),
+            image.as_ptr(),
+            image.len(),
+            cache.as_mut_ptr(),
+            cache.len(),
+            source,
+            address,
+            u8::from(write),
+            answer.as_mut_ptr(),
+            answer.len(),
+        )
+    };
+    (status == OK).then_some(answer)
+}
+
+/// Takes all translations out.
+pub(crate) fn invalidate_all(cache: &mut [u64; CACHE_WORDS]) {
+    // SAFETY: the pointer and length are those of an array that is lent by `&mut`. It isn't kept.
+    unsafe { galitzaf_invalidate_all(cache.as_mut_ptr(), cache.len()) };
+}
+
+/// Takes those of a domain out.
+pub(crate) fn invalidate_domain(cache: &mut [u64; CACHE_WORDS], domain: u16) {
+    // SAFETY: as for `invalidate_all`.
+    unsafe { galitzaf_invalidate_domain(cache.as_mut_ptr(), cache.len(), domain) };
+}
+
+/// The answer bytes, or none where the library called an argument malformed.
 pub(crate) fn interrupt_request(
     registers: &[u8; REGISTERS_SIZE],
     windows: &[Window],

@@ -63,6 +63,7 @@
 
 mod answer;
 mod bytes;
+mod cached;
 mod declared;
 mod fault;
 mod ffi;
@@ -80,6 +81,7 @@ pub use answer::{
     DeliveryMode, DestinationMode, InterruptAnswer, MemoryAnswer, Notification, Page, PageSize,
     Posted, Refusal, Remapped, TakeAnswer, TranslationAnswer, TriggerMode,
 };
+pub use cached::CachedUnit;
 pub use fault::{Fault, FaultRecord, Reason};
 pub use first_bad::FirstBad;
 pub use memory::{Memory, Window};

@@ -23,6 +23,11 @@ use Rattle.dma.proofs.Unfetched.{access-means-unfetched}
 use Rattle.translation.proofs.Agree.{engines-agree}
 use Rattle.translation.proofs.Local.{translation-locality, translation-access-means-unfetched, translation-at-most-nine, translation-none-untaken, translation-reads-words, translation-always-an-entry}
 use Rattle.translation.proofs.Types.{only-type-1}
+use Rattle.cache.proofs.AsDefined.{as-defined, equal-calls}
+use Rattle.cache.proofs.History.{when-cached, domain-as-cached}
+use Rattle.cache.proofs.Holding.{only-pages, at-most-64, held64, pushed-out, by-domain, newest, must-answer, just-those}
+use Rattle.cache.proofs.PageWords.{page-words}
+use Rattle.cache.proofs.Runs.{equal, as-cached, as-now}
 use Rattle.interrupts.proofs.Exact.{sets-exactly, leaves-all, stays-inside}
 use Rattle.interrupts.proofs.Isolation.{isolated, same-bits}
 use Rattle.interrupts.proofs.Named.{index-bound, entry-of-index, no-wrap, at-most-ten, none-before-table}
@@ -99,6 +104,22 @@ everything =
       engines-agree = engines-agree;
       only-type-1 = only-type-1;
       translation-cases = translation-cases;
+      equal = equal;
+      equal-calls = equal-calls;
+      as-defined = as-defined;
+      as-cached = as-cached;
+      when-cached = when-cached;
+      as-now = as-now;
+      only-pages = only-pages;
+      at-most-64 = at-most-64;
+      held64 = held64;
+      pushed-out = pushed-out;
+      by-domain = by-domain;
+      domain-as-cached = domain-as-cached;
+      newest = newest;
+      must-answer = must-answer;
+      just-those = just-those;
+      page-words = page-words;
       first-ticks = first-ticks;
       decay = decay;
       never-above = never-above;

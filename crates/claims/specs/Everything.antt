@@ -20,6 +20,8 @@ use Rattle.dma.specs.Named.{AtMostNine, NoneUntaken}
 use Rattle.dma.specs.NoInterrupt.{NoInterruptGranted, WholeFrameTested}
 use Rattle.dma.specs.Reached.{GrantedByOwnWalk}
 use Rattle.translation.specs.Claims.{TranslationLocality, TranslationAccessMeansUnfetched, TranslationAtMostNine, TranslationNoneUntaken, TranslationReadsWords, TranslationAlwaysAnEntry, EnginesAgree, OnlyType1}
+use Rattle.cache.specs.Claims.{Equal, AsCached, AsNow, OnlyPages, AtMost64, Held64, PushedOut, ByDomain, Newest, MustAnswer, JustThose, PageWords, WhenCached, DomainAsCached}
+use Rattle.cache.specs.Lent.{AsDefined, EqualCalls}
 use Rattle.interrupts.specs.Claims.{SetsExactly, NotificationExactly, LeavesAll, StaysInside, IndexBound, EntryOfIndex, NoWrap, AtMostTen, NoneBeforeTable, InterruptAccessMeansUnfetched, Isolated, SameBits}
 use Rattle.interrupts.specs.RaisedBy.{RemappedByEntry, PostedByEntry, OneSource, ExactSource}
 use Rattle.takes.specs.Claims.{ClearsExactly, TakesStayInside, HandsHighest, NoneStands, FewerUntilHandedOut, HandedOutWithin, HandedOutWithin256, Conserved, NoneInvented, EitherOrder}
@@ -93,6 +95,23 @@ pub record Everything : Type 0 where
   pub engines-agree : EnginesAgree
   pub only-type-1 : OnlyType1
   pub translation-cases : TranslationCases
+  -- document 02, Ask 11: the second engine, with a cache of 64 translations
+  pub equal : Equal
+  pub equal-calls : EqualCalls
+  pub as-defined : AsDefined
+  pub as-cached : AsCached
+  pub when-cached : WhenCached
+  pub as-now : AsNow
+  pub only-pages : OnlyPages
+  pub at-most-64 : AtMost64
+  pub held64 : Held64
+  pub pushed-out : PushedOut
+  pub by-domain : ByDomain
+  pub domain-as-cached : DomainAsCached
+  pub newest : Newest
+  pub must-answer : MustAnswer
+  pub just-those : JustThose
+  pub page-words : PageWords
   -- meters: exact at first, bounded always, and a byte for each
   pub first-ticks : FirstTicks
   pub decay : Decays

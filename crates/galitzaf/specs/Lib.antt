@@ -1,5 +1,6 @@
 pub mod Answer
 pub mod Buffer
+pub mod Caches
 pub mod Calls
 pub mod FirstBad
 pub mod Meters

@@ -1,6 +1,7 @@
 // The C interface that include/galitzaf.h fixes: arguments are unpacked, the unit is asked, and its answer is packed.
 mod answer;
 mod buffer;
+mod caching;
 mod first_bad;
 mod meters;
 mod recorder;
@@ -11,6 +12,9 @@ mod traces;
 mod translating;
 mod unpack;
 
+pub use caching::galitzaf_cached_request;
+pub use caching::galitzaf_invalidate_all;
+pub use caching::galitzaf_invalidate_domain;
 pub use first_bad::galitzaf_first_bad;
 pub use meters::galitzaf_reset_meters;
 pub use meters::galitzaf_tick_meters;
