@@ -70,11 +70,19 @@ pub enum Flaw {
     EmptyDenied,
     /// The record of a translation request has AT 0.
     AddressTypeLost,
+    /// A held translation answers requests of the other kind too.
+    HeldForAnyKind,
+    /// A held translation answers requests of other sources too.
+    HeldForAnySource,
+    /// Where two that are held could answer, the older does.
+    OldestAnswers,
+    /// An invalidation by domain takes nothing out.
+    DomainKept,
 }
 
 impl Flaw {
     /// Each of them.
-    pub const ALL: [Flaw; 34] = [
+    pub const ALL: [Flaw; 38] = [
         Flaw::Known(Slip::Index16),
         Flaw::Known(Slip::LastEntryRights),
         Flaw::Known(Slip::MaskLargeFrame),
@@ -109,6 +117,10 @@ impl Flaw {
         Flaw::LeafRights,
         Flaw::EmptyDenied,
         Flaw::AddressTypeLost,
+        Flaw::HeldForAnyKind,
+        Flaw::HeldForAnySource,
+        Flaw::OldestAnswers,
+        Flaw::DomainKept,
     ];
 
     /// Whether it can make a difference in a part.
@@ -149,6 +161,13 @@ impl Flaw {
             (Flaw::LeafRights | Flaw::EmptyDenied | Flaw::AddressTypeLost, part) => {
                 matches!(part, Part::Translations)
             }
+            (
+                Flaw::HeldForAnyKind
+                | Flaw::HeldForAnySource
+                | Flaw::OldestAnswers
+                | Flaw::DomainKept,
+                part,
+            ) => matches!(part, Part::Caches),
             (_, part) => matches!(part, Part::Recorder),
         }
     }

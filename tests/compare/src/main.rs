@@ -11,6 +11,7 @@
 #![forbid(unsafe_code)]
 
 mod bytes;
+mod caches;
 mod classify;
 mod flaw;
 mod judge;

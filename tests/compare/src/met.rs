@@ -1,5 +1,6 @@
 //! What was met: each outcome that document 01 has, told apart further by how it came about.
 
+use crate::caches;
 use crate::meters::Seen;
 use crate::translations;
 use crate::windows;
@@ -84,6 +85,8 @@ pub enum Met {
     Windows(windows::Seen),
     /// A translation request.
     Translations(translations::Seen),
+    /// A step of a run through a cache.
+    Caches(caches::Seen),
 }
 
 /// A call of the C interface.
@@ -210,6 +213,7 @@ impl fmt::Display for Met {
             Met::Meters(seen) => write!(f, "meters: {seen}"),
             Met::Windows(seen) => write!(f, "windows: {seen}"),
             Met::Translations(seen) => write!(f, "translation: {seen}"),
+            Met::Caches(seen) => write!(f, "cache: {seen}"),
         }
     }
 }

@@ -1,6 +1,7 @@
 //! The parts of a run: the suites of worlds, the recorder's sequences, runs of posts and takes, the
-//! malformed calls, the rows of meters, the translation requests.
+//! malformed calls, the rows of meters, the translation requests, the runs through a cache.
 
+use crate::caches;
 use crate::flaw::Flaw;
 use crate::judge::Judge;
 use crate::malformed;
@@ -28,6 +29,8 @@ pub enum Part {
     Meters,
     /// Translation requests.
     Translations,
+    /// Requests through a cache.
+    Caches,
 }
 
 impl Part {
@@ -39,6 +42,7 @@ impl Part {
             Part::Malformed,
             Part::Meters,
             Part::Translations,
+            Part::Caches,
         ];
         SUITES.iter().map(Part::Worlds).chain(others)
     }
@@ -52,6 +56,7 @@ impl Part {
             Part::Malformed => malformed::NAME,
             Part::Meters => meters::NAME,
             Part::Translations => translations::NAME,
+            Part::Caches => caches::NAME,
         }
     }
 
@@ -64,6 +69,7 @@ impl Part {
             Part::Malformed => malformed::CALLS,
             Part::Meters => meters::ROWS,
             Part::Translations => translations::worlds(),
+            Part::Caches => caches::RUNS,
         }
     }
 }
@@ -107,6 +113,7 @@ impl Runner {
                 translations::build(number, &mut self.world);
                 translations::run(&self.world, self.flaw, tally)
             }
+            Part::Caches => caches::Run::build(number).run(self.flaw, tally),
         }
     }
 
@@ -122,6 +129,7 @@ impl Runner {
             Part::Malformed => {}
             Part::Meters => Row::build(number).print(),
             Part::Translations => translations::print(number, &mut self.world),
+            Part::Caches => caches::Run::build(number).print(),
         }
     }
 }

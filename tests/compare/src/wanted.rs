@@ -1,5 +1,6 @@
 //! All that has to be met: the outcomes of documents 01 and 02, and entries in each form.
 
+use crate::caches;
 use crate::met::{Call, Kind, Met};
 use crate::meters::Seen;
 use crate::recorder::SLOTS;
@@ -155,5 +156,6 @@ pub fn all() -> Vec<Met> {
     wanted.extend(windows::Seen::all().into_iter().map(Met::Windows));
     let translations = translations::Seen::all().into_iter();
     wanted.extend(translations.map(Met::Translations));
+    wanted.extend(caches::Seen::all().into_iter().map(Met::Caches));
     wanted
 }

@@ -1,16 +1,20 @@
 //! Measures the proved unit beside the ordinary translator, in one process, over the same registers,
-//! images and requests, and prints a table; then rows of meters beside a plain loop.
+//! images and requests, and prints a table; then reads through a cache of translations, and rows of meters
+//! beside a plain loop.
 //!
 //!     figures                    the tables
 //!     figures --rows FROM TO     of the first table, rows from one number up to another, from 0
 //!     figures --meters           the meters' table alone
+//!     figures --caches           the caches' table alone
 //!     figures --counts           instructions alone, without times
 //!     figures --load ROW SIDE    one row's requests, some thousand of them, for valgrind to count
 //!     figures --meters ROW SIDE  one row's ticks, likewise
+//!     figures --caches ROW SIDE  one row's reads through a cache, likewise
 
 #![forbid(unsafe_code)]
 
 mod agree;
+mod caches;
 mod count;
 mod load;
 mod meters;
@@ -84,6 +88,8 @@ fn main() -> ExitCode {
             println!("{HEAD}");
             let good = ROWS.iter().enumerate().all(|(n, row)| print(n, row));
             println!();
+            let good = caches::print(true) && good;
+            println!();
             status(meters::print() && good)
         }
         ["--rows", from, to] => {
@@ -101,6 +107,11 @@ fn main() -> ExitCode {
             println!("{COUNTS}");
             ROWS.iter().enumerate().for_each(|(n, row)| counts(n, row));
             ExitCode::SUCCESS
+        }
+        [caches::ARGUMENT] => status(caches::print(true)),
+        [caches::ARGUMENT, row, side] => {
+            let read = row.parse().ok().and_then(|n| caches::count_row(n, side));
+            read.map_or(ExitCode::from(2), |()| ExitCode::SUCCESS)
         }
         [meters::ARGUMENT] => status(meters::print()),
         [meters::ARGUMENT, row, side] => {

@@ -94,7 +94,7 @@ const FOUR: [u64; 4] = [0, 0x2000, 0x3000, 0x5000];
 /// Another order in the run.
 const PERMUTED: [usize; 4] = [2, 0, 3, 1];
 
-const SOURCE: u16 = 0x0310;
+pub const SOURCE: u16 = 0x0310;
 
 /// How often a row of one request has it, so that a round's loop is long.
 const REPEATED: usize = 1000;
@@ -198,7 +198,7 @@ fn posted_with_notice() -> Load {
 }
 
 /// Guest addresses that are streamed over: 64 MiB from 1 GiB on.
-const START: u64 = 1 << 30;
+pub const START: u64 = 1 << 30;
 const SPAN: u64 = 64 << 20;
 
 /// Where the tables of a source with 4 levels stand: the root table is at 1000h.
@@ -243,6 +243,21 @@ fn tables(places: &Places) -> Load {
     load.set(places.context + 0x108, 2);
     load.set(top, third | 3);
     load.set(third + 8 * (START >> 30), second | 3);
+    load
+}
+
+/// The same in pages of 4 KiB, of which every page of 2 MiB from 128 MiB on is one of that size; and the
+/// context of seven more devices of the bus.
+pub fn for_caches() -> Load {
+    let mut load = pages_4k(&IN_ORDER);
+    let [top, _, second] = IN_ORDER.upper;
+    for n in SPAN >> 20..(SPAN >> 20) + (SPAN >> 21) {
+        load.set(second + 8 * n, (0x20_0000_0000 + (n << 21)) | 0x83);
+    }
+    for device in 1..8 {
+        load.set(IN_ORDER.context + 0x100 + 16 * device, top | 1);
+        load.set(IN_ORDER.context + 0x108 + 16 * device, device << 8 | 2);
+    }
     load
 }
 

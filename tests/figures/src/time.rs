@@ -27,7 +27,7 @@ fn put_aside() -> Option<u64> {
 }
 
 /// Seconds of one round in which the thread wasn't put aside, if there was such a one.
-fn round(mut work: impl FnMut()) -> f64 {
+pub fn round(mut work: impl FnMut()) -> f64 {
     let mut seconds = 0.0;
     for _ in 0..AGAIN {
         let before = put_aside();

@@ -15,10 +15,11 @@ mod meters;
 
 pub use meters::{reset_meters, tick_meters, Gates};
 
-pub use declared::{ANSWER_SIZE, RECORDER_SIZE, RECORDS_SIZE, REGISTERS_SIZE};
+pub use declared::{ANSWER_SIZE, CACHE_WORDS, RECORDER_SIZE, RECORDS_SIZE, REGISTERS_SIZE};
 
 use declared::{
-    galitzaf_clear_overflow, galitzaf_clear_slot, galitzaf_first_bad, galitzaf_interrupt_request,
+    galitzaf_cached_request, galitzaf_clear_overflow, galitzaf_clear_slot, galitzaf_first_bad,
+    galitzaf_interrupt_request, galitzaf_invalidate_all, galitzaf_invalidate_domain,
     galitzaf_memory_request, galitzaf_record, galitzaf_take, galitzaf_translation_request,
 };
 
@@ -98,6 +99,52 @@ pub fn translation_request(
             answer.len(),
         )
     }
+}
+
+/// `galitzaf_cached_request`.
+#[inline(always)]
+#[allow(clippy::too_many_arguments)]
+pub fn cached_request(
+    registers: &[u8],
+    windows: &[u64],
+    image: &[u8],
+    cache: &mut [u64],
+    source: u16,
+    address: u64,
+    write: u8,
+    answer: &mut [u8],
+) -> u32 {
+    // SAFETY: each pointer and length is that of a live slice. `cache` and `answer`, which are written,
+    // are lent by `&mut`, so that neither overlaps another. None is kept after the call.
+    unsafe {
+        galitzaf_cached_request(
+            registers.as_ptr(),
+            registers.len(),
+            windows.as_ptr(),
+            windows.len(),
+            image.as_ptr(),
+            image.len(),
+            cache.as_mut_ptr(),
+            cache.len(),
+            source,
+            address,
+            write,
+            answer.as_mut_ptr(),
+            answer.len(),
+        )
+    }
+}
+
+/// `galitzaf_invalidate_all`.
+pub fn invalidate_all(cache: &mut [u64]) -> u32 {
+    // SAFETY: the pointer and length are those of a slice lent by `&mut`. It isn't kept.
+    unsafe { galitzaf_invalidate_all(cache.as_mut_ptr(), cache.len()) }
+}
+
+/// `galitzaf_invalidate_domain`.
+pub fn invalidate_domain(cache: &mut [u64], domain: u16) -> u32 {
+    // SAFETY: as for `invalidate_all`.
+    unsafe { galitzaf_invalidate_domain(cache.as_mut_ptr(), cache.len(), domain) }
 }
 
 /// `galitzaf_interrupt_request`.

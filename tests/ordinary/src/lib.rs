@@ -7,6 +7,7 @@
 
 #![deny(unsafe_code)]
 
+mod cached;
 mod fault;
 mod fetch;
 mod interrupt;
@@ -17,6 +18,7 @@ mod unit;
 #[allow(unsafe_code)]
 mod windows;
 
+pub use cached::{cached_request, Cache};
 pub use fault::Fault;
 pub use interrupt::{interrupt_request, InterruptAnswer, Notice, Remapped};
 pub use memory::{memory_request, MemoryAnswer};

@@ -27,10 +27,16 @@ const CONTEXT_RESERVED: (u64, u64) = (0xFF0, 0xFFFF_FFFF_FF00_0080);
 
 /// A device's request.
 #[derive(Clone, Copy)]
-struct Request {
-    source: u16,
-    address: u64,
-    write: bool,
+pub(crate) struct Request {
+    pub(crate) source: u16,
+    pub(crate) address: u64,
+    pub(crate) write: bool,
+}
+
+/// Where a request that is granted goes: its own address, or a page of 2^`shift` bytes.
+pub(crate) enum Reached {
+    Through,
+    Page { frame: u64, shift: u32, domain: u16 },
 }
 
 /// Why a request isn't granted.
@@ -39,6 +45,15 @@ enum Stop {
     Fault(u8, u64),
     /// Refusal 4: the page lies on interrupts.
     OnInterrupts,
+}
+
+/// The host address of an address in a page.
+#[inline(always)]
+fn host(page: &Reached, address: u64) -> u64 {
+    match *page {
+        Reached::Through => address,
+        Reached::Page { frame, shift, .. } => frame | address & !(u64::MAX << shift),
+    }
 }
 
 /// Answers a memory request, registers and windows checked first.
@@ -81,7 +96,25 @@ impl Unit<'_> {
     }
 
     #[inline(always)]
-    fn answer(&self, memory: Memory, request: Request) -> MemoryAnswer {
+    pub(crate) fn answer(&self, memory: Memory, request: Request) -> MemoryAnswer {
+        if let Some(answer) = self.admit(request) {
+            return answer;
+        }
+        self.walked(memory, request).0
+    }
+
+    /// What is answered before any table is read.
+    #[inline(always)]
+    pub(crate) fn admit(&self, request: Request) -> Option<MemoryAnswer> {
+        if in_interrupt_range(request.address) {
+            return Some(MemoryAnswer::Refused(2));
+        }
+        (!self.registers.te).then_some(MemoryAnswer::Granted(request.address))
+    }
+
+    /// What a walk makes of a request, and where it ended.
+    #[inline(always)]
+    pub(crate) fn walked(&self, memory: Memory, request: Request) -> (MemoryAnswer, Reached) {
         match Single::of(memory) {
             Some(window) => self.answer_over(window, request),
             None => self.answer_over(memory, request),
@@ -89,17 +122,12 @@ impl Unit<'_> {
     }
 
     #[inline(always)]
-    fn answer_over(&self, memory: impl Entries, request: Request) -> MemoryAnswer {
-        if in_interrupt_range(request.address) {
-            return MemoryAnswer::Refused(2);
-        }
-        if !self.registers.te {
-            return MemoryAnswer::Granted(request.address);
-        }
+    fn answer_over(&self, memory: impl Entries, request: Request) -> (MemoryAnswer, Reached) {
         let mut fpd = false;
         match self.translate(memory, request, &mut fpd) {
-            Ok(host) => MemoryAnswer::Granted(host),
-            Err(Stop::OnInterrupts) => MemoryAnswer::Refused(4),
+            Ok(Reached::Through) => (MemoryAnswer::Granted(request.address), Reached::Through),
+            Ok(page) => (MemoryAnswer::Granted(host(&page, request.address)), page),
+            Err(Stop::OnInterrupts) => (MemoryAnswer::Refused(4), Reached::Through),
             Err(Stop::Fault(reason, entry)) => {
                 let Request {
                     source,
@@ -108,7 +136,8 @@ impl Unit<'_> {
                 } = request;
                 let entry = Some(entry);
                 let stop = fault::Stop { reason, fpd, entry };
-                MemoryAnswer::Blocked(Fault::memory(stop, source, address, write))
+                let fault = Fault::memory(stop, source, address, write);
+                (MemoryAnswer::Blocked(fault), Reached::Through)
             }
         }
     }
@@ -120,7 +149,7 @@ impl Unit<'_> {
         memory: impl Entries,
         request: Request,
         fpd: &mut bool,
-    ) -> Result<u64, Stop> {
+    ) -> Result<Reached, Stop> {
         let bus = u64::from(request.source >> 8);
         let devfn = u64::from(request.source & 0xFF);
 
@@ -153,9 +182,9 @@ impl Unit<'_> {
             return Err(Stop::Fault(0x04, context));
         }
         if kind == 2 {
-            return Ok(request.address);
+            return Ok(Reached::Through);
         }
-        self.walk(memory, request, low & !0xFFF, levels)
+        self.walk(memory, request, low & !0xFFF, levels, (high >> 8) as u16)
     }
 
     #[inline(always)]
@@ -165,7 +194,8 @@ impl Unit<'_> {
         request: Request,
         top: u64,
         levels: u32,
-    ) -> Result<u64, Stop> {
+        domain: u16,
+    ) -> Result<Reached, Stop> {
         let (right, denied) = if request.write {
             (WRITE, 0x05)
         } else {
@@ -193,7 +223,11 @@ impl Unit<'_> {
                 if meets_interrupt_range(frame, shift) {
                     return Err(Stop::OnInterrupts);
                 }
-                return Ok(frame | request.address & !(u64::MAX << shift));
+                return Ok(Reached::Page {
+                    frame,
+                    shift,
+                    domain,
+                });
             }
             table = frame;
             shift -= 9;
