@@ -28,6 +28,7 @@ use Rattle.cache.proofs.History.{when-cached, domain-as-cached}
 use Rattle.cache.proofs.Holding.{only-pages, at-most-64, held64, pushed-out, by-domain, newest, must-answer, just-those}
 use Rattle.cache.proofs.PageWords.{page-words}
 use Rattle.cache.proofs.Runs.{equal, as-cached, as-now}
+use Rattle.agreement.proofs.Agreement.{windows-tell, listed-where-walked, spans-agree, others-lack, spans-in-order}
 use Rattle.interrupts.proofs.Exact.{sets-exactly, leaves-all, stays-inside}
 use Rattle.interrupts.proofs.Isolation.{isolated, same-bits}
 use Rattle.interrupts.proofs.Named.{index-bound, entry-of-index, no-wrap, at-most-ten, none-before-table}
@@ -120,6 +121,11 @@ everything =
       must-answer = must-answer;
       just-those = just-those;
       page-words = page-words;
+      windows-tell = windows-tell;
+      listed-where-walked = listed-where-walked;
+      spans-agree = spans-agree;
+      others-lack = others-lack;
+      spans-in-order = spans-in-order;
       first-ticks = first-ticks;
       decay = decay;
       never-above = never-above;

@@ -1,0 +1,5 @@
+pub mod Laid
+pub mod SpanLaws
+pub mod NextSpan
+pub mod Outcomes
+pub mod RowByRow

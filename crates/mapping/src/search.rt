@@ -1,0 +1,107 @@
+// The next span that is listed.
+ghost use mathlib.Core.Bool.{false};
+ghost use mathlib.Core.Path.{_≡_};
+ghost use lib.ListN.{length};
+ghost use Prim.Native.Nat.{_+_, _-_, _%_, _^_, _<_, _≤_};
+ghost use Rattle.image.specs.Windows.{ofWindows, badWindows};
+ghost use Rattle.dma.specs.InterruptRange.{spanAt};
+ghost use Rattle.regions.specs.Answers.{whatOf, regionOf};
+ghost use Rattle.regions.specs.Known.{Sound};
+ghost use Rattle.regions.specs.Outside.{tableOutside};
+ghost use Rattle.regions.specs.Region.{listed};
+ghost use Rattle.mapping.specs.Answers.{nextOf};
+ghost use Rattle.mapping.specs.Mapping.{regionsOver};
+ghost use Rattle.mapping.specs.Search.{Fresh, Tells, IsNext};
+use regions::Region;
+use regions::What;
+use regions::known_level;
+use regions::region_at;
+use regions::remember_tables;
+use regions::table_span;
+use registers::Registers;
+use translation::Rights;
+
+pub enum Found {
+    // Where it begins.
+    At(u64, Region),
+    None,
+}
+
+fn is_listed(what: What) -> bool
+    ensures { λ r. ⌜ r ≡ listed (whatOf what) ⌝ }
+{
+    match what {
+        What::Page(_) => true,
+        What::Fault(_) => true,
+        What::Refused(_) => true,
+        What::Nothing => false,
+    }
+}
+
+// The address behind the block of a level that an address is in.
+fn block_end(address: u64, level: u32) -> u64
+    requires { ⌜ (address < 2 ^ 58) × (0 < level) × (level ≤ 6) ⌝ }
+    ensures { λ r. ⌜ (r ≡ address - address % spanAt level + spanAt level) × (r ≤ address + 2 ^ 57) ⌝ }
+{
+    let span = table_span(level - 1);
+    address - address % span + span
+}
+
+// A table that is known to list nothing stands for all of its span.
+fn quick_region(
+    windows: &[u64],
+    image: &[u8],
+    registers: Registers,
+    address: u64,
+    levels: u32,
+    top: u64,
+    known: &[u64],
+) -> Region
+    requires { ⌜ (badWindows (now windows) (length (now image)) ≡ false) × (0 < levels) × (levels ≤ 5) × (top % 4096 ≡ 0)
+        × Sound registers (ofWindows (now windows) (now image)) (tableOutside (now windows)) (now known) ⌝ }
+    ensures { λ r. ⌜ Tells (regionsOver registers (now (windows .entry)) (now (image .entry)) levels top) address (regionOf r) ⌝ }
+{
+    let level = known_level(windows, image, registers, address, levels, top, known);
+    if 0 < level {
+        return Region {
+            level: level + 1,
+            what: What::Nothing,
+            rights: Rights {
+                read: false,
+                write: false,
+            },
+        };
+    }
+    region_at(windows, image, registers, address, levels, top)
+}
+
+pub(crate) fn next_span(
+    windows: &[u64],
+    image: &[u8],
+    registers: Registers,
+    levels: u32,
+    top: u64,
+    end: u64,
+    from: u64,
+    known: &mut [u64],
+) -> Found
+    requires { ⌜ (badWindows (now windows) (length (now image)) ≡ false) × (0 < levels) × (levels ≤ 5) × (top % 4096 ≡ 0)
+        × (end ≤ 2 ^ 57) × (end % 4096 ≡ 0) × (from % 4096 ≡ 0) × (from < 2 ^ 59)
+        × Fresh (regionsOver registers (now windows) (now image) levels top) from
+        × Sound registers (ofWindows (now windows) (now image)) (tableOutside (now windows)) (now known) ⌝ }
+    ensures { λ r. ⌜ IsNext (regionsOver registers (now (windows .entry)) (now (image .entry)) levels top) end from (nextOf r) ⌝ }
+    ensures { λ r. ⌜ (length (now (known .exit)) ≡ length (now (known .entry)))
+        × Sound registers (ofWindows (now (windows .entry)) (now (image .entry))) (tableOutside (now (windows .entry))) (now (known .exit)) ⌝ }
+{
+    let mut at = from;
+    while at < end {
+        let region = quick_region(windows, image, registers, at, levels, top, known);
+        let what = region.what;
+        if is_listed(what) {
+            return Found::At(at, region);
+        }
+        at = block_end(at, region.level);
+        remember_tables(windows, image, registers, from, at - 1, levels, top, known);
+    }
+    Found::None
+}

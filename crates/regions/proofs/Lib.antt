@@ -1,0 +1,4 @@
+pub mod KnownTables
+pub mod Lists
+pub mod Regions
+pub mod TableOutside

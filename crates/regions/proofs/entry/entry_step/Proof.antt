@@ -1,0 +1,90 @@
+use Prim.Native.Nat.{ℕ, _+_, _*_, _/_, _%_, _^_}
+use mathlib.Core.Bool.{false}
+use mathlib.Core.Path.{_≡_, ap, sym, _∙_}
+use native.Mathlib.Omega.{arith}
+use native.Mathlib.Numerals.{add-one}
+use Rattle.image.specs.Entries.{fetched8}
+use Rattle.image.specs.Memory.{entry}
+use Rattle.image.specs.Windows.{ofWindows}
+use Rattle.dma.specs.Walk.{placeIn}
+use Rattle.dma.proofs.Steps.{index-of}
+use Rattle.translation.proofs.Stepped.{unfetched, fetched}
+use borrow.Author.Needs.{needs}
+use Rattle.regions.proofs.entry.entry_step.Statement.{statement}
+use Rattle.regions.proofs.entry.entry_step.Tie as tie
+
+mul-offset : tie.Need-mul-offset
+mul-offset c = search needs
+
+add-offset : tie.Need-add-offset
+add-offset c = search needs
+
+cast-offset : tie.Need-cast-offset
+cast-offset c = search needs
+
+shr-offset : tie.Need-shr-offset
+shr-offset c = search needs
+
+mul-offset-2 : tie.Need-mul-offset-2
+mul-offset-2 c = search needs
+
+page-entry8-requires : tie.Need-page-entry8-requires
+page-entry8-requires c κs = let p = c .before .before .pre in (p .0, p .2, omega arith, omega arith)
+
+enum-known-e : tie.Need-enum-known-e
+enum-known-e c = search needs
+
+enum-told : tie.Need-enum-told
+enum-told c = search needs
+
+-- the entry's place
+at-place : (c : tie.After-page-entry8)
+    → _≡_ {A = ℕ} (c .before .before .before .args .table + 8 * (c .before .before .before .args .address / 2 ^ (12 + 9 * c .before .before .before .args .below) % 512))
+    (placeIn (c .before .before .before .args .address) (c .before .before .before .args .table) (c .before .before .before .args .below))
+at-place c =
+    let a = c .before .before .before .args in
+    ap (λ (i : ℕ). a .table + 8 * i) (index-of (a .address) (a .below))
+
+place : (c : tie.After-page-entry8)
+    → fetched8 (c .page-entry8 .result)
+    ≡ entry 1 (ofWindows (c .before .before .before .args .windows .now) (c .before .before .before .args .image .now))
+    (placeIn (c .before .before .before .args .address) (c .before .before .before .args .table) (c .before .before .before .args .below))
+place c =
+    let a = c .before .before .before .args in
+    c .page-entry8 .ensures .0 ∙ ap (entry 1 (ofWindows (a .windows .now) (a .image .now))) (at-place c)
+
+returns : tie.Need-returns
+returns c =
+    let a = c .before .before .before .before .before .args in
+    unfetched (a .registers) (a .address) false (ofWindows (a .windows .now) (a .image .now)) (a .below) (a .table) (a .above)
+    (sym (ap fetched8 (c .enum-told .given .1)) ∙ place (c .before .before))
+
+add-joined-step : tie.Need-add-joined-step
+add-joined-step c = search needs
+
+joined-step-requires : tie.Need-joined-step-requires
+joined-step-requires c κs = search needs
+
+returns-2 : tie.Need-returns-2
+returns-2 c =
+    let a = c .before .before .before .before .before .before .before .args in
+    let found = sym (ap fetched8 (c .before .before .e .given .1)) ∙ place (c .before .before .before .before) in
+    let stepped = fetched (a .registers) (a .address) false (ofWindows (a .windows .now) (a .image .now)) (a .below) (a .table) (a .above) found in
+    c .joined-step .ensures (placeIn (a .address) (a .table) (a .below)) ∙ rw (add-one (a .below)) stepped
+
+pub entry-step-spec : {M : Type 1} → statement M
+entry-step-spec =
+    tie.close
+    (tie.spec
+    mul-offset
+    add-offset
+    cast-offset
+    shr-offset
+    mul-offset-2
+    page-entry8-requires
+    enum-known-e
+    enum-told
+    returns
+    add-joined-step
+    joined-step-requires
+    returns-2)

@@ -1,0 +1,189 @@
+// Tables below which nothing is listed, remembered in lent memory, so that tables which point to each other are not walked again and again.
+// A number for each, at a place that it shares with few others: one that is overwritten is worked out once more.
+ghost use mathlib.Core.Bool.{Bool, true, false, _&&_};
+ghost use mathlib.Core.Path.{_≡_};
+ghost use lib.Dec.{eqb, ltb};
+ghost use lib.ListN.{length, replicate, set, getD};
+ghost use Prim.Native.Nat.{ℕ, _+_, _*_, _/_, _%_, _^_, _<_, _≤_};
+ghost use Rattle.image.specs.Windows.{ofWindows, badWindows};
+ghost use Rattle.regions.specs.Known.{rightsNumber, keyOf, Holds, Remembers, Sound, QuietAround, QuietTo};
+ghost use Rattle.regions.specs.Outside.{tableOutside};
+use crate::walk::Onward;
+use crate::walk::table_step;
+use image::place64;
+use registers::Registers;
+use translation::Rights;
+
+// Bit 0 read, bit 1 write.
+pub fn rights_number(rights: Rights) -> u64
+    ensures { λ r. ⌜ (r ≡ rightsNumber rights) × (r < 4) ⌝ }
+{
+    let read = rights.read;
+    let write = rights.write;
+    if read {
+        if write {
+            return 3;
+        }
+        return 1;
+    }
+    if write {
+        return 2;
+    }
+    0
+}
+
+fn key(table: u64, level: u32, rights: Rights) -> u64
+    requires { ⌜ (table % 4096 ≡ 0) × (level ≤ 5) ⌝ }
+    ensures { λ r. ⌜ r ≡ keyOf table level rights ⌝ }
+{
+    table + (4 * level as u64 + rights_number(rights))
+}
+
+// Where a key stands: by its table's place in the run, so that no two whole tables share a place where there is room for all.
+fn slot(windows: &[u64], run: usize, table: u64, key: u64, room: usize) -> usize
+    requires { ⌜ (badWindows (now windows) run ≡ false) × (0 < room) ⌝ }
+    ensures { λ r. ⌜ r < room ⌝ }
+{
+    let page = place64(windows, run, table) / 4096;
+    (16 * page + (key % 16) as usize) % room
+}
+
+// Nothing is known at first, and nothing is left in the lent memory at last.
+pub fn forget(known: &mut [u64])
+    ensures { λ r. ⌜ now (known .exit) ≡ replicate (length (now (known .entry))) 0 ⌝ }
+{
+    let mut i = 0;
+    while i < known.len() {
+        known[i] = 0;
+        i += 1;
+    }
+}
+
+// Whether a table is known.
+fn is_known(
+    windows: &[u64],
+    run: usize,
+    known: &[u64],
+    table: u64,
+    level: u32,
+    rights: Rights,
+) -> bool
+    requires { ⌜ (badWindows (now windows) run ≡ false) × (table % 4096 ≡ 0) × (level ≤ 5) ⌝ }
+    ensures { λ r. ⌜ (r ≡ true → Holds (now (known .entry)) (keyOf table level rights)) ⌝ }
+{
+    if known.len() == 0 {
+        return false;
+    }
+    let key = key(table, level, rights);
+    let at = slot(windows, run, table, key, known.len());
+    known[at] == key
+}
+
+// The bytes that a table of a level spans.
+pub fn table_span(level: u32) -> u64
+    requires { ⌜ level ≤ 5 ⌝ }
+    ensures { λ r. ⌜ (r ≡ 2 ^ (12 + 9 * level)) × (0 < r) × (r ≤ 2 ^ 57) ⌝ }
+{
+    1u64 << (12 + 9 * level)
+}
+
+// A table that lists nothing, where its span ends with an address and begins no earlier than from.
+fn remember(
+    windows: &[u64],
+    run: usize,
+    from: u64,
+    last: u64,
+    table: u64,
+    level: u32,
+    rights: Rights,
+    known: &mut [u64],
+)
+    requires { ⌜ (badWindows (now windows) run ≡ false) × (table % 4096 ≡ 0) × (level ≤ 5) × (from < 2 ^ 60) × (last < 2 ^ 60) ⌝ }
+    ensures { λ r. ⌜ Remembers (now (known .entry)) (now (known .exit)) (keyOf table level rights) from last level ⌝ }
+{
+    let span = table_span(level);
+    if (last + 1) % span != 0 {
+        return;
+    }
+    if last + 1 < from + span {
+        return;
+    }
+    if known.len() == 0 {
+        return;
+    }
+    let key = key(table, level, rights);
+    let at = slot(windows, run, table, key, known.len());
+    known[at] = key;
+}
+
+// The level of the highest known table on the walk of an address; 0 where there is none.
+pub fn known_level(
+    windows: &[u64],
+    image: &[u8],
+    registers: Registers,
+    address: u64,
+    levels: u32,
+    top: u64,
+    known: &[u64],
+) -> u32
+    requires { ⌜ (badWindows (now windows) (length (now image)) ≡ false) × (0 < levels) × (levels ≤ 5) × (top % 4096 ≡ 0)
+        × Sound registers (ofWindows (now windows) (now image)) (tableOutside (now windows)) (now known) ⌝ }
+    ensures { λ r. ⌜ (r ≤ 5) × QuietAround registers (ofWindows (now (windows .entry)) (now (image .entry))) (tableOutside (now (windows .entry))) levels top r address ⌝ }
+{
+    let mut level = levels;
+    let mut table = top;
+    let mut read = true;
+    let mut write = true;
+    while 0 < level {
+        let above = Rights { read, write };
+        if is_known(windows, image.len(), known, table, level, above) {
+            return level;
+        }
+        let step = table_step(windows, image, registers, address, level, table, above);
+        let Onward::Down(next, r, w) = step else {
+            return 0;
+        };
+        table = next;
+        read = r;
+        write = w;
+        level -= 1;
+    }
+    0
+}
+
+// Nothing is listed from an address up to the last one: of the tables on the walk of the last, those that begin no earlier and end there
+// list nothing.
+pub fn remember_tables(
+    windows: &[u64],
+    image: &[u8],
+    registers: Registers,
+    from: u64,
+    last: u64,
+    levels: u32,
+    top: u64,
+    known: &mut [u64],
+)
+    requires { ⌜ (badWindows (now windows) (length (now image)) ≡ false) × (0 < levels) × (levels ≤ 5) × (top % 4096 ≡ 0)
+        × (from < 2 ^ 60) × (last < 2 ^ 60)
+        × QuietTo registers (ofWindows (now windows) (now image)) (tableOutside (now windows)) levels top from (last + 1)
+        × Sound registers (ofWindows (now windows) (now image)) (tableOutside (now windows)) (now known) ⌝ }
+    ensures { λ r. ⌜ (length (now (known .exit)) ≡ length (now (known .entry)))
+        × Sound registers (ofWindows (now (windows .entry)) (now (image .entry))) (tableOutside (now (windows .entry))) (now (known .exit)) ⌝ }
+{
+    let mut level = levels;
+    let mut table = top;
+    let mut read = true;
+    let mut write = true;
+    while 0 < level {
+        let above = Rights { read, write };
+        remember(windows, image.len(), from, last, table, level, above, known);
+        let step = table_step(windows, image, registers, last, level, table, above);
+        let Onward::Down(next, r, w) = step else {
+            return;
+        };
+        table = next;
+        read = r;
+        write = w;
+        level -= 1;
+    }
+}
