@@ -1,6 +1,6 @@
 -- A memory request by what becomes of it at admission.
 use Prim.Native.Nat.{ℕ, _%_}
-use mathlib.Core.Bool.{Bool}
+use mathlib.Core.Bool.{Bool, true}
 use mathlib.Core.Path.{_≡_, refl, ap, sym, _∙_}
 use Rattle.image.specs.Memory.{Memory}
 use Rattle.image.specs.Place.{noEntry, stoppedAt}
@@ -9,6 +9,7 @@ use Rattle.image.proofs.Places.{tried-map}
 use Rattle.image.proofs.Trees.{run-map}
 use Rattle.registers.proofs.Good.{taken-good}
 use Rattle.registers.specs.Admission.{Admitted, refusal, pass, takenUp, admission, inInterruptRange}
+use Rattle.registers.specs.Registers.{registersBad}
 use Rattle.registers.specs.declared.Registers.{Registers}
 use Rattle.dma.specs.Requests.{MemoryOutcome, granted, refused, memoryOutcome, memoryRules}
 use Rattle.dma.specs.Translation.{translationRules}
@@ -22,6 +23,10 @@ module _ (registers : Registers) (request : MemoryRequest) (m : Memory) where
   -- admission with the address's kind as the code found it
   abbrev admitted : Bool → Admitted
   admitted wrong = admission registers wrong (registers .te)
+
+  pub refuses-bad : registersBad registers ≡ true → refused 1 ≡ run (memoryRules registers request) m
+  unfolding memoryRules run admission
+  refuses-bad h = rw h
 
   module _ {wrong : Bool} (kind : wrong ≡ inInterruptRange (request .address)) where
     pub refuses : {n : ℕ} → refusal n ≡ admitted wrong → refused n ≡ run (memoryRules registers request) m

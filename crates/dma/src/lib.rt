@@ -27,6 +27,7 @@ use faults::Fault;
 use faults::memory_fault;
 pub use image::EntryAddress;
 use image::bad_windows;
+use image::first_span;
 pub use lookup::stopped;
 pub use page::Step;
 pub use page::host_address;
@@ -100,9 +101,19 @@ pub fn memory_request(
     if bad_windows(windows, image.len()) {
         return MemoryAnswer::Refused(1);
     }
+    // `admit` tests them too, which the compiler sees: here refusal 1 is told before there is another number to choose.
+    if registers.bad() {
+        return MemoryAnswer::Refused(1);
+    }
     match admit(registers, in_interrupt_range(request.address), registers.te) {
         Admission::Refused(number) => MemoryAnswer::Refused(number),
         Admission::Passed => MemoryAnswer::Granted(request.address),
-        Admission::Taken => answer(request, translate(windows, image, registers, request)),
+        Admission::Taken => {
+            let first = first_span(windows);
+            answer(
+                request,
+                translate(first, windows, image, registers, request),
+            )
+        },
     }
 }

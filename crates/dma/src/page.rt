@@ -5,7 +5,8 @@ ghost use lib.ListN.{length};
 ghost use Prim.Native.Nat.{_+_, _*_, _-_, _%_, _^_, _<_, _≤_};
 ghost use Rattle.image.specs.Bits.{bits};
 ghost use Rattle.image.specs.Place.{entryAt};
-ghost use Rattle.image.specs.Windows.{ofWindows, badWindows};
+ghost use Rattle.image.specs.Spans.{Opened};
+ghost use Rattle.image.specs.Windows.{ofWindows};
 ghost use Rattle.dma.specs.InterruptRange.{meetsInterruptRange, spanAt};
 ghost use Rattle.dma.specs.Page.{denied, ownRight, leafAt, pageReserved, pageCheck, hostAddress};
 ghost use Rattle.faults.specs.Reason.{numberOf};
@@ -15,9 +16,10 @@ ghost use Rattle.dma.specs.Walk.{placeIn};
 use crate::MemoryRequest;
 use faults::Reason;
 use image::Found8;
+use image::Span;
 use image::field;
 use image::in_place;
-use image::page_entry8;
+use image::page_entry8_by;
 use registers::Page1G;
 use registers::Page4K;
 use registers::Registers;
@@ -96,6 +98,7 @@ pub fn page_check(registers: Registers, write: bool, fpd: bool, level: u32, at: 
 
 // One level of the walk: below is how many levels come after it.
 pub(crate) fn page_step(
+    first: Span,
     windows: &[u64],
     image: &[u8],
     registers: Registers,
@@ -104,14 +107,14 @@ pub(crate) fn page_step(
     below: u32,
     table: u64,
 ) -> Step
-    requires { ⌜ (badWindows (now windows) (length (now image)) ≡ false) × (below < 5) × (table % 4096 ≡ 0) ⌝ }
+    requires { ⌜ Opened first (now windows) (length (now image)) × (below < 5) × (table % 4096 ≡ 0) ⌝ }
     ensures { λ r. ⌜ stepOf r ≡ pageOver registers (request .address) (request .write) fpd (ofWindows (now (windows .entry)) (now (image .entry))) below table ⌝ }
     ensures { λ r. ⌜ StepNames r (entryAt (placeIn (request .address) table below)) ⌝ }
 {
     let address = request.address;
     let offset = 8 * ((address >> (Page4K::SHIFT + 9 * below)) % 512);
     let at = table + offset;
-    let Found8::Entry(e) = page_entry8(windows, image, table, offset) else {
+    let Found8::Entry(e) = page_entry8_by(first, windows, image, table, offset) else {
         return Step::Fault(Reason::PageEntryAccess, fpd, at);
     };
     let level = below + 1;

@@ -6,7 +6,8 @@ ghost use Prim.Native.Nat.{_%_, _≤_, min};
 ghost use Rattle.dma.specs.Context.{Usable};
 ghost use Rattle.image.specs.Place.{entryAt, lastTried, stoppedAt};
 ghost use Rattle.image.specs.Rules.{run};
-ghost use Rattle.image.specs.Windows.{ofWindows, badWindows};
+ghost use Rattle.image.specs.Spans.{Opened};
+ghost use Rattle.image.specs.Windows.{ofWindows};
 ghost use Rattle.dma.specs.Answers.{lookupOf, lookupPlace, translationOf, Names};
 ghost use Rattle.dma.specs.Translation.{overflows as addressOverflows, withoutContext, widthRules, translationRules};
 use crate::MemoryRequest;
@@ -15,6 +16,7 @@ use crate::context::Lookup;
 use crate::lookup::find_context;
 use crate::walk::walk;
 use faults::Reason;
+use image::Span;
 use registers::Page4K;
 use registers::Registers;
 use registers::at_or_above_power;
@@ -47,6 +49,7 @@ pub fn overflows(registers: Registers, levels: u32, address: u64) -> bool
 
 // In a context, whose entry is at an address: the width, then pass-through or the walk.
 fn translate_in(
+    first: Span,
     windows: &[u64],
     image: &[u8],
     registers: Registers,
@@ -54,7 +57,7 @@ fn translate_in(
     context: Context,
     at: u64,
 ) -> Translation
-    requires { ⌜ (badWindows (now windows) (length (now image)) ≡ false) × Usable context ⌝ }
+    requires { ⌜ Opened first (now windows) (length (now image)) × Usable context ⌝ }
     ensures { λ r. ⌜ translationOf r ≡ run (widthRules registers (request .address) (request .write) context) (ofWindows (now (windows .entry)) (now (image .entry))) ⌝ }
     ensures { λ r. ⌜ Names r (lastTried (entryAt at) (widthRules registers (request .address) (request .write) context) (ofWindows (now (windows .entry)) (now (image .entry)))) ⌝ }
 {
@@ -66,6 +69,7 @@ fn translate_in(
         return Translation::Through;
     }
     walk(
+        first,
         windows,
         image,
         registers,
@@ -88,18 +92,19 @@ pub fn without_context(found: Lookup) -> Translation
 }
 
 pub(crate) fn translate(
+    first: Span,
     windows: &[u64],
     image: &[u8],
     registers: Registers,
     request: MemoryRequest,
 ) -> Translation
-    requires { ⌜ (badWindows (now windows) (length (now image)) ≡ false) × (registers .«root_table» % 4096 ≡ 0) ⌝ }
+    requires { ⌜ Opened first (now windows) (length (now image)) × (registers .«root_table» % 4096 ≡ 0) ⌝ }
     ensures { λ r. ⌜ translationOf r ≡ run (translationRules registers (request .address) (request .write) (request .source .id)) (ofWindows (now (windows .entry)) (now (image .entry))) ⌝ }
     ensures { λ r. ⌜ Names r (stoppedAt (translationRules registers (request .address) (request .write) (request .source .id)) (ofWindows (now (windows .entry)) (now (image .entry)))) ⌝ }
 {
-    let found = find_context(windows, image, registers, request.source);
+    let found = find_context(first, windows, image, registers, request.source);
     let Lookup::Found(context, at) = found else {
         return without_context(found);
     };
-    translate_in(windows, image, registers, request, context, at)
+    translate_in(first, windows, image, registers, request, context, at)
 }

@@ -5,7 +5,8 @@ ghost use lib.ListN.{length};
 ghost use Prim.Native.Nat.{_%_, _<_, _≤_};
 ghost use Rattle.image.specs.Place.{Place, lastTried};
 ghost use Rattle.image.specs.Rules.{run};
-ghost use Rattle.image.specs.Windows.{ofWindows, badWindows};
+ghost use Rattle.image.specs.Spans.{Opened};
+ghost use Rattle.image.specs.Windows.{ofWindows};
 ghost use Rattle.dma.specs.Answers.{translationOf, Names};
 ghost use Rattle.dma.specs.Translation.{pageRules};
 use crate::MemoryRequest;
@@ -13,9 +14,11 @@ use crate::page::Step;
 use crate::page::page_step;
 use crate::translation::Translation;
 use faults::Reason;
+use image::Span;
 use registers::Registers;
 
 pub(crate) fn walk(
+    first: Span,
     windows: &[u64],
     image: &[u8],
     registers: Registers,
@@ -24,14 +27,23 @@ pub(crate) fn walk(
     levels: u32,
     table: u64,
 ) -> Translation
-    requires { ⌜ (badWindows (now windows) (length (now image)) ≡ false) × (0 < levels) × (levels ≤ 5) × (table % 4096 ≡ 0) ⌝ }
+    requires { ⌜ Opened first (now windows) (length (now image)) × (0 < levels) × (levels ≤ 5) × (table % 4096 ≡ 0) ⌝ }
     ensures { λ r. ⌜ translationOf r ≡ run (pageRules registers (request .address) (request .write) fpd levels table) (ofWindows (now (windows .entry)) (now (image .entry))) ⌝ }
     ensures { λ r. ⌜ ((before : Place) → Names r (lastTried before (pageRules registers (request .address) (request .write) fpd levels table) (ofWindows (now (windows .entry)) (now (image .entry))))) ⌝ }
 {
     let mut level = levels;
     let mut at = table;
     while 0 < level {
-        let step = page_step(windows, image, registers, request, fpd, level - 1, at);
+        let step = page_step(
+            first,
+            windows,
+            image,
+            registers,
+            request,
+            fpd,
+            level - 1,
+            at,
+        );
         match step {
             Step::Leaf(frame, of) => return Translation::Leaf(frame, of),
             Step::Fault(reason, fpd, entry) => return Translation::Fault(reason, fpd, entry),

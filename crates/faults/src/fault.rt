@@ -10,12 +10,13 @@ use crate::slots::write_record;
 use registers::Page4K;
 use registers::SourceId;
 
-// The record's 128 bits are two words, bit 64 the lowest of high.
+// The record's 128 bits are two words, bit 64 the lowest of high. They come first: in an answer that holds a fault or an address, no word is
+// then moved that holds parts of two fields.
 pub struct Fault {
-    pub reason: Reason,
-    pub recordable: bool,
     pub low: u64,
     pub high: u64,
+    pub reason: Reason,
+    pub recordable: bool,
 }
 
 fn lies_within(low: u8, high: u8, n: u8) -> bool
@@ -34,11 +35,14 @@ fn is_silenced(number: u8) -> bool
         | lies_within(0x26, 0x28, number)
 }
 
-// A reason that FPD doesn't silence is always recordable.
+// A reason that FPD doesn't silence is always recordable. Without FPD, the usual case, none is looked at.
 fn may_record(fpd: bool, number: u8) -> bool
     ensures { λ r. ⌜ r ≡ recordable fpd number ⌝ }
 {
-    !(fpd & is_silenced(number))
+    if !fpd {
+        return true;
+    }
+    !is_silenced(number)
 }
 
 // Bits 127:64 of a record.

@@ -4,7 +4,7 @@ use mathlib.Core.Path.{_≡_, refl, ap, sym, _∙_}
 use mathlib.Core.Bool.{Bool, true, false, not, _||_}
 use mathlib.Core.List.{List, [], _∷_}
 use native.Mathlib.Omega.{arith}
-use borrow.Author.Tests.{eq-eqb, eqb-true, not-false}
+use borrow.Author.Tests.{eq-eqb, ne-eqb, eqb-true, not-false}
 use lib.Dec.{eqb, lit<}
 use lib.ListN.{length, take, drop, getD}
 use lib.Seq.{getD-take, getD-drop}
@@ -42,6 +42,16 @@ module _ (b : List ℕ) (are : AreBytes b) (sized : length b ≡ 24) where
   unfolding malformedRegisters
   told-malformed =
       rw (eq-eqb (length b) 24 sized, in-head 2 7 6 (lit< tt) (lit< tt), in-head 3 7 4 (lit< tt) (lit< tt), zero-bytes)
+
+  -- field by field
+  pub first-set : (bits (wordOr0 b 0) 23 22 ≡ 0 → ⊥) → true ≡ malformedRegisters b
+  first-set h = rw (ne-eqb (bits (wordOr0 b 0) 23 22) 0 h) at told-malformed
+
+  pub second-set : bits (wordOr0 b 0) 23 22 ≡ 0 → (bits (wordOr0 b 0) 31 28 ≡ 0 → ⊥) → true ≡ malformedRegisters b
+  second-set e h = rw (eq-eqb (bits (wordOr0 b 0) 23 22) 0 e, ne-eqb (bits (wordOr0 b 0) 31 28) 0 h) at told-malformed
+
+  pub third-tells : bits (wordOr0 b 0) 23 22 ≡ 0 → bits (wordOr0 b 0) 31 28 ≡ 0 → not (eqb (bits (wordOr0 b 0) 63 40) 0) ≡ malformedRegisters b
+  third-tells e f = rw (eq-eqb (bits (wordOr0 b 0) 23 22) 0 e, eq-eqb (bits (wordOr0 b 0) 31 28) 0 f) at told-malformed
 
   pub told-unpacked :
       _≡_ {A = Registers}

@@ -20,7 +20,13 @@ pub(crate) fn malformed(registers: &[u8]) -> bool
         return true;
     }
     let head = word(registers, 0);
-    (field(head, 23, 22) != 0) | (field(head, 31, 28) != 0) | (field(head, 63, 40) != 0)
+    if field(head, 23, 22) != 0 {
+        return true;
+    }
+    if field(head, 31, 28) != 0 {
+        return true;
+    }
+    field(head, 63, 40) != 0
 }
 
 pub(crate) fn unpack(registers: &[u8]) -> Registers

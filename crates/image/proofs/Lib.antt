@@ -10,6 +10,7 @@ pub mod OneByte
 pub mod Pages
 pub mod Places
 pub mod Same
+pub mod Spans
 pub mod Stages
 pub mod Stores
 pub mod Trees

@@ -8,13 +8,14 @@ use native.Mathlib.Omega.{arith}
 use native.Mathlib.Decide.{decLe}
 use borrow.Author.Tests.{le-leb, lt-leb}
 use lib.Dec.{leb}
-use lib.ListN.{length, take, drop, length-take}
+use lib.ListN.{length, take, drop, length-take, length-drop}
 use Rattle.image.specs.Bytes.{littleEndian}
 use Rattle.image.specs.Choice.{if_then_else_}
 use Rattle.image.specs.Entries.{spell}
 use Rattle.image.specs.Memory.{Memory, Fetched, missing, found, join, wordAt, ofImage, entry}
-use Rattle.image.specs.Windows.{Window, windowsOf, endOf, holdsAll, Spot, nowhere, here, onSpot, spotIn, entryIn, ofWindows, pageIn, badWindows}
-use Rattle.image.proofs.GoodWindows.{GoodWindow, GoodWithAll, Good, good, held, holding, before-it, past-it, spot-first, spot-next}
+use Rattle.image.specs.Windows.{Window, windowsOf, endOf, holdsAll, Spot, nowhere, here, onSpot, spotIn, entryIn, ofWindows, pageFrom, badWindows}
+use Rattle.image.specs.Spans.{Holds}
+use Rattle.image.proofs.GoodWindows.{GoodWindow, GoodWithAll, Good, good, good-window, held, holding, before-it, past-it, spot-first, spot-next}
 use Rattle.image.proofs.Pages.{in-page}
 use Rattle.image.proofs.Words.{wordsIn, inside, outside, join-missing, spell-run}
 
@@ -161,39 +162,6 @@ module _ (run : List ℕ) where
       ∙ inside run (suc n) (k + offset) (omega arith)
       ∙ ap (λ (x : ℕ). found (spell (wordsIn run (suc n) x))) there
 
-  beyond : (size k n offset : ℕ) → size < offset + 8 * suc n → entry (suc n) (ofImage (take size (drop k run))) offset ≡ missing
-  beyond size k n offset h = outside (take size (drop k run)) n offset (rw (length-take size (drop k run)) (omega arith))
-
-  abbrev page-of : Spot → List ℕ
-  page-of spot = onSpot spot [] (λ place left. take (min 4096 left) (drop place run))
-
-  page-words : (ws : List Window) (n table offset : ℕ) → Good ws (length run) → table % 4096 ≡ 0 → offset + 8 * suc n ≤ 4096
-      → entry (suc n) (ofImage (page-of (spotIn ws 1 table))) offset ≡ told (suc n) (spotIn ws (8 * suc n) (table + offset))
-  unfolding Good AllFrom
-  page-words [] n table offset g aligned page =
-      rw (spot-none [] 1 table tt, spot-none [] (8 * suc n) (table + offset) tt) (outside [] n offset (omega arith))
-  page-words (w ∷ ws) n table offset g aligned page =
-      split (page-words ws n table offset (g .2) aligned page) (decLe (w .start) table) (decLe (endOf w) table) (decLe (table + offset + 8 * suc n) (endOf w))
-    where
-      Holds : List Window → Type 0
-      Holds l = entry (suc n) (ofImage (page-of (spotIn l 1 table))) offset ≡ told (suc n) (spotIn l (8 * suc n) (table + offset))
-
-      split : Holds ws → Dec (w .start ≤ table) → Dec (endOf w ≤ table) → Dec (table + offset + 8 * suc n ≤ endOf w) → Holds (w ∷ ws)
-      split rest (no o) past to =
-          rw (spot-next w 1 table ws (before-it w 1 table (omega arith)), spot-next w (8 * suc n) (table + offset) ws (before-it w (8 * suc n) (table + offset) (omega (arith, g .0 .aligned)))) rest
-      split rest (yes from) (yes past) to =
-          rw (spot-next w 1 table ws (past-it w 1 table (omega arith)), spot-next w (8 * suc n) (table + offset) ws (past-it w (8 * suc n) (table + offset) (omega arith))) rest
-      split rest (yes from) (no past) (yes to) =
-          rw (spot-first w 1 table ws (holding w 1 table from (omega arith)), spot-first w (8 * suc n) (table + offset) ws (holding w (8 * suc n) (table + offset) (omega arith) to))
-          (within w n table offset (g .0 .inRun) from (omega arith) page to)
-      split rest (yes from) (no past) (no to) =
-          rw (
-            spot-first w 1 table ws (holding w 1 table from (omega arith)),
-            spot-next w (8 * suc n) (table + offset) ws (past-it w (8 * suc n) (table + offset) (omega arith)),
-            spot-none ws (8 * suc n) (table + offset) (next-page (length run) w ws table 4096 (table + offset) (g .2) (g .1) (omega arith) (omega arith) (omega arith)),
-          )
-          (beyond (min 4096 (endOf w - table)) (w .place + (table - w .start)) n offset (omega arith))
-
 -- windows that aren't refused
 module _ (numbers run : List ℕ) (fine : badWindows numbers (length run) ≡ false) where
   by-words : (n at : ℕ) → told run n (spotIn (windowsOf numbers) (8 * n) at) ≡ entryIn numbers run (8 * n) at
@@ -212,79 +180,100 @@ module _ (numbers run : List ℕ) (fine : badWindows numbers (length run) ≡ fa
   unfolding ofWindows entryIn
   single n at page = single-words run (length run) (windowsOf numbers) n at (good numbers (length run) fine) page ∙ by-words (suc n) at
 
-  -- an entry taken from its table's page
-  pub in-its-page : (n table offset : ℕ) → table % 4096 ≡ 0 → offset + 8 * suc n ≤ 4096
-      → entry (suc n) (ofImage (pageIn numbers run table)) offset ≡ entry (suc n) (ofWindows numbers run) (table + offset)
-  unfolding pageIn
-  in-its-page n table offset aligned page =
-      page-words run (windowsOf numbers) n table offset (good numbers (length run) fine) aligned page
-      ∙ by-words (suc n) (table + offset)
-      ∙ sym (single n (table + offset) (omega arith))
+-- where so many bytes stand that don't leave their page, by where the last of them stands
+by-last : (run : ℕ) (ws : List Window) (at more : ℕ) → Good ws run → at % 4096 + more < 4096
+    → spotIn ws (more + 1) at ≡ onSpot (spotIn ws 1 (at + more)) nowhere (λ place left. here (place - more) (left + more))
+unfolding spotIn Good
+by-last run [] at more g page = refl
+by-last run (w ∷ ws) at more g page = go (decLe (w .start) at) (decLe (at + (more + 1)) (endOf w)) (by-last run ws at more (g .2) page)
+  where
+    all : List Window → Type 0
+    all l = spotIn l (more + 1) at ≡ onSpot (spotIn l 1 (at + more)) nowhere (λ place left. here (place - more) (left + more))
 
--- the part of the run from a byte to its window's end, as the code holds it
-module _ (numbers : List ℕ) (len : ℕ) (fine : badWindows numbers len ≡ false) (at : ℕ) {place size : ℕ}
-    (starts : place ≡ onSpot (spotIn (windowsOf numbers) 1 at) 0 (λ place left. place))
-    (has : size ≡ onSpot (spotIn (windowsOf numbers) 1 at) 0 (λ place left. left)) where
-  by-first : (n : ℕ) → 0 < n
-      → spotIn (windowsOf numbers) n at
-      ≡ onSpot (spotIn (windowsOf numbers) 1 at) nowhere (λ place left. if leb n left then here place left else nowhere)
-  by-first n some = wider len (windowsOf numbers) n at (good numbers len fine) some
+    go : Dec (w .start ≤ at) → Dec (at + (more + 1) ≤ endOf w) → all ws → all (w ∷ ws)
+    go (no from) to rest = rw (before-it w (more + 1) at (omega arith), before-it w 1 (at + more) (omega (arith, g .0 .aligned))) rest
+    go (yes from) (no to) rest = rw (past-it w (more + 1) at (omega arith), past-it w 1 (at + more) (omega arith)) rest
+    go (yes from) (yes to) rest =
+        let starts : w .place + (at - w .start) ≡ (w .place + (at + more - w .start)) - more = omega arith in
+        let has : endOf w - at ≡ (endOf w - (at + more)) + more = omega arith in
+        rw (holding w (more + 1) at from to, holding w 1 (at + more) (omega arith) (omega arith))
+        (ap (λ (k : ℕ). here k (endOf w - at)) starts ∙ ap (λ (k : ℕ). here ((w .place + (at + more - w .start)) - more) k) has)
 
-  pub part-in-run : place + size ≤ len
-  part-in-run = go (spotIn (windowsOf numbers) 1 at) refl starts has
-    where
-      go : (spot : Spot) → spotIn (windowsOf numbers) 1 at ≡ spot → place ≡ onSpot spot 0 (λ place left. place)
-          → size ≡ onSpot spot 0 (λ place left. left) → place + size ≤ len
-      go nowhere h p q = omega arith
-      go (here k l) h p q =
-          let lies = spot-in len (windowsOf numbers) 1 at (good numbers len fine) h in
-          omega (arith, lies .0)
+-- a window that holds the last of them holds them all
+module _ (numbers : List ℕ) (len : ℕ) (fine : badWindows numbers len ≡ false) {w : Window} (at more : ℕ) (page : at % 4096 + more < 4096)
+    (h : Holds w (windowsOf numbers) len (at + more)) where
+  from-its-start : w .start ≤ at
+  from-its-start =
+      let g = good-window w len (h .good) in
+      let lies = held w 1 (at + more) (h .byte) in
+      omega (arith, g .aligned, lies .0)
 
-  pub part-spot : (n : ℕ) → 0 < n → n ≤ size → spotIn (windowsOf numbers) n at ≡ here place size
-  part-spot n some fits = by-first n some ∙ go (spotIn (windowsOf numbers) 1 at) starts has
-    where
-      go : (spot : Spot) → place ≡ onSpot spot 0 (λ place left. place) → size ≡ onSpot spot 0 (λ place left. left)
-          → onSpot spot nowhere (λ place left. if leb n left then here place left else nowhere) ≡ here place size
-      go nowhere p q = absurd (omega arith)
-      go (here k l) p q = rw (← p, ← q, le-leb n size fits)
+  pub holds-first : holdsAll w 1 at ≡ true
+  holds-first = let lies = held w 1 (at + more) (h .byte) in holding w 1 at from-its-start (omega (arith, lies .1))
 
-  pub part-nowhere : (n : ℕ) → 0 < n → size < n → spotIn (windowsOf numbers) n at ≡ nowhere
-  part-nowhere n some short = by-first n some ∙ go (spotIn (windowsOf numbers) 1 at) starts has
-    where
-      go : (spot : Spot) → place ≡ onSpot spot 0 (λ place left. place) → size ≡ onSpot spot 0 (λ place left. left)
-          → onSpot spot nowhere (λ place left. if leb n left then here place left else nowhere) ≡ nowhere
-      go nowhere p q = refl
-      go (here k l) p q = rw (← q, lt-leb n size short)
+  pub holds-room : w .place + (at - w .start) + (more + 1) ≤ len
+  holds-room =
+      let g = good-window w len (h .good) in
+      let lies = held w 1 (at + more) (h .byte) in
+      omega (arith, g .inRun, lies .1, from-its-start)
 
-  pub part-place : (n : ℕ) → 0 < n → n ≤ size → place ≡ onSpot (spotIn (windowsOf numbers) n at) 0 (λ place left. place)
-  part-place n some fits = rw (part-spot n some fits)
+  pub holds-spot : spotIn (windowsOf numbers) (more + 1) at ≡ here (w .place + (at - w .start)) (endOf w - at)
+  holds-spot =
+      let lies = held w 1 (at + more) (h .byte) in
+      let from = from-its-start in
+      let starts : (w .place + (at + more - w .start)) - more ≡ w .place + (at - w .start) = omega arith in
+      let has : (endOf w - (at + more)) + more ≡ endOf w - at = omega (arith, lies .1) in
+      by-last len (windowsOf numbers) at more (good numbers len fine) page
+      ∙ rw (h .spot)
+      (ap (λ (k : ℕ). here k ((endOf w - (at + more)) + more)) starts ∙ ap (λ (k : ℕ). here (w .place + (at - w .start)) k) has)
 
-  pub part-no-place : (n : ℕ) → 0 < n → size < n → 0 ≡ onSpot (spotIn (windowsOf numbers) n at) 0 (λ place left. place)
-  part-no-place n some short = rw (part-nowhere n some short)
+pub lacks-spot : (numbers : List ℕ) (len : ℕ) → badWindows numbers len ≡ false → (at more : ℕ) → at % 4096 + more < 4096
+    → spotIn (windowsOf numbers) 1 (at + more) ≡ nowhere → spotIn (windowsOf numbers) (more + 1) at ≡ nowhere
+lacks-spot numbers len fine at more page h = by-last len (windowsOf numbers) at more (good numbers len fine) page ∙ rw h
 
--- a page and an entry as such a part
-module _ (numbers run : List ℕ) (fine : badWindows numbers (length run) ≡ false) (at : ℕ) {place size : ℕ}
-    (starts : place ≡ onSpot (spotIn (windowsOf numbers) 1 at) 0 (λ place left. place))
-    (has : size ≡ onSpot (spotIn (windowsOf numbers) 1 at) 0 (λ place left. left)) where
-  pub part-page : {held : ℕ} → held ≡ min 4096 size → take ((place + held) - place) (drop place run) ≡ pageIn numbers run at
-  unfolding pageIn
-  part-page {held} is = go (spotIn (windowsOf numbers) 1 at) starts has
-    where
-      go : (spot : Spot) → place ≡ onSpot spot 0 (λ place left. place) → size ≡ onSpot spot 0 (λ place left. left)
-          → take ((place + held) - place) (drop place run) ≡ onSpot spot [] (λ place left. take (min 4096 left) (drop place run))
-      go nowhere p q = let none : (place + held) - place ≡ 0 = omega arith in rw none
-      go (here k l) p q = let all : (place + held) - place ≡ min 4096 size = omega arith in rw (all, p, q)
-
-  module _ (n : ℕ) (page : at % 4096 + 8 * suc n ≤ 4096) where
-    pub part-entry : 8 * suc n ≤ size → found (littleEndian (take (8 * suc n) (drop place run))) ≡ entry (suc n) (ofWindows numbers run) at
+-- an entry of the run, and one of its table's page
+module _ (numbers run : List ℕ) (fine : badWindows numbers (length run) ≡ false) (n : ℕ) where
+  module _ (at : ℕ) (page : at % 4096 + 8 * suc n ≤ 4096) where
+    pub held-missing : spotIn (windowsOf numbers) 1 (at + (8 * suc n - 1)) ≡ nowhere → missing ≡ entry (suc n) (ofWindows numbers run) at
     unfolding entryIn
-    part-entry fits =
-        sym (single numbers run fine n at page ∙ rw (part-spot numbers (length run) fine at starts has (8 * suc n) (omega arith) fits))
+    held-missing h =
+        let all : (8 * suc n - 1) + 1 ≡ 8 * suc n = omega arith in
+        sym (single numbers run fine n at page
+        ∙ rw (rw all at (lacks-spot numbers (length run) fine at (8 * suc n - 1) (omega arith) h)))
 
-    pub part-missing : size < 8 * suc n → missing ≡ entry (suc n) (ofWindows numbers run) at
+    pub held-entry : {w : Window} → Holds w (windowsOf numbers) (length run) (at + (8 * suc n - 1))
+        → found (littleEndian (take (8 * suc n) (drop (w .place + (at - w .start)) run))) ≡ entry (suc n) (ofWindows numbers run) at
     unfolding entryIn
-    part-missing short =
-        sym (single numbers run fine n at page ∙ rw (part-nowhere numbers (length run) fine at starts has (8 * suc n) (omega arith) short))
+    held-entry h =
+        let all : (8 * suc n - 1) + 1 ≡ 8 * suc n = omega arith in
+        sym (single numbers run fine n at page
+        ∙ rw (rw all at (holds-spot numbers (length run) fine at (8 * suc n - 1) (omega arith) h)))
+
+  module _ (table offset : ℕ) (aligned : table % 4096 ≡ 0) (page : offset + 8 * suc n ≤ 4096) {w : Window}
+      (h : Holds w (windowsOf numbers) (length run) (table + offset + (8 * suc n - 1))) where
+    begins : (w .start ≤ table) × (table + offset + 8 * suc n ≤ endOf w)
+    begins =
+        let g = good-window w (length run) (h .good) in
+        let lies = held w 1 (table + offset + (8 * suc n - 1)) (h .byte) in
+        (omega (arith, g .aligned, lies .0), omega (arith, lies .1))
+
+    pub page-begins : holdsAll w 1 table ≡ true
+    page-begins = holding w 1 table (begins .0) (omega (arith, begins .1))
+
+    pub page-room : offset + 8 * suc n ≤ length (pageFrom w run table)
+    unfolding pageFrom
+    page-room =
+        let g = good-window w (length run) (h .good) in
+        rw (length-take (min 4096 (endOf w - table)) (drop (w .place + (table - w .start)) run), length-drop (w .place + (table - w .start)) run)
+        (omega (arith, g .inRun, begins .0, begins .1))
+
+    pub page-entry : entry (suc n) (ofImage (pageFrom w run table)) offset ≡ entry (suc n) (ofWindows numbers run) (table + offset)
+    unfolding pageFrom
+    page-entry =
+        let g = good-window w (length run) (h .good) in
+        within run w n table offset (g .inRun) (begins .0) (omega (arith, begins .1)) page (begins .1)
+        ∙ ap found (spell-run run (suc n) (w .place + (table + offset - w .start)) (omega (arith, g .inRun, begins .0, begins .1)))
+        ∙ held-entry (table + offset) (omega arith) h
 
 -- what an entry that was fetched tells of its place, and one that couldn't be
 pub record WholeAt (numbers run : List ℕ) (size at e : ℕ) : Type 0 where

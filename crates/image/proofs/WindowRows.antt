@@ -152,6 +152,14 @@ module _ (numbers : List ℕ) (i : ℕ) where
       rw (first-two h, first-of numbers (i + 3) (omega arith))
       (row-go _ _ (windowsOf (drop (i + 3 + 3) numbers)) run fine)
 
+  pub row-part-at : (run : ℕ) → i + 6 ≤ length numbers → badRow (windowsOf (drop i numbers)) run ≡ false
+      → (windowAt numbers i .place + windowAt numbers i .size ≤ run) × (badRow (windowsOf (drop (i + 3) numbers)) run ≡ false)
+  unfolding badRow
+  row-part-at run h fine =
+      let parts = neither (badNext (windowAt numbers i) (windowAt numbers (i + 3)) run) _ (rw (first-two h) at fine) in
+      let part = neither (badPart (windowAt numbers i) run) _ (parts .0) .0 in
+      (good-part (windowAt numbers i) run part .2, rw (first-of numbers (i + 3) (omega arith)) (parts .1))
+
   pub row-last-at : (run : ℕ) → i + 3 ≡ length numbers → badWindow (windowAt numbers i) run ≡ badRow (windowsOf (drop i numbers)) run
   unfolding badRow
   row-last-at run h = rw (only-one h)
@@ -319,13 +327,9 @@ by-rows ws run =
 
 -- the whole test
 module _ (numbers : List ℕ) (run : ℕ) where
-  pub too-many : 12 < length numbers → true ≡ badWindows numbers run
+  pub counts-badly : badCount (length numbers) ≡ true → true ≡ badWindows numbers run
   unfolding badWindows
-  too-many h = rw (lt-ltb 12 (length numbers) h)
-
-  pub not-threes : length numbers ≤ 12 → (length numbers % 3 ≡ 0 → ⊥) → true ≡ badWindows numbers run
-  unfolding badWindows
-  not-threes few h = rw (le-ltb 12 (length numbers) few, ne-eqb (length numbers % 3) 0 h)
+  counts-badly h = rw h
 
   module _ (few : length numbers ≤ 12) (threes : length numbers % 3 ≡ 0) where
     counted : (badRow (windowsOf numbers) run || sharing (windowsOf numbers)) ≡ badWindows numbers run
@@ -353,3 +357,16 @@ one-tells numbers run h = row-last-at numbers 0 run (omega arith) ∙ go (badRow
     go : (b : Bool) → badRow (windowsOf numbers) run ≡ b → b ≡ badWindows numbers run
     go true is = row-tells numbers run (omega arith) (omega arith) is
     go false is = one-shares numbers h ∙ sharing-tells numbers run (omega arith) (omega arith) is
+
+-- a count of numbers, as the code tells it
+pub few-threes : (n : ℕ) → badCount n ≡ false → (n ≤ 12) × (n % 3 ≡ 0)
+few-threes n h =
+    let both = neither (ltb 12 n) _ h in
+    (ltb-false 12 n (both .0), eqb-true _ _ (not-false _ (both .1)))
+
+pub no-count : (n : ℕ) → (n ≡ 0 → ⊥) → (n ≡ 3 → ⊥) → (n ≡ 6 → ⊥) → (n ≡ 9 → ⊥) → (n ≡ 12 → ⊥) → true ≡ badCount n
+no-count n n0 n3 n6 n9 n12 = go (decLe n 12)
+  where
+    go : Dec (n ≤ 12) → true ≡ badCount n
+    go (no many) = rw (lt-ltb 12 n (omega arith))
+    go (yes few) = let isnt : n % 3 ≡ 0 → ⊥ = λ e. omega arith in rw (le-ltb 12 n few, ne-eqb (n % 3) 0 isnt)

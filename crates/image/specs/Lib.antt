@@ -8,6 +8,7 @@ pub mod EntryKind
 pub mod Memory
 pub mod Place
 pub mod Rules
+pub mod Spans
 pub mod Stage
 pub mod Unfetched
 pub mod WindowRow

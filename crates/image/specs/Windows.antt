@@ -61,10 +61,9 @@ ofWindows numbers run at = entryIn numbers run 8 at
 unfoldable pub byteAt : (numbers run : List ℕ) → (at : ℕ) → ℕ
 byteAt numbers run at = onSpot (spotIn (windowsOf numbers) 1 at) 0 (λ place left. getD run place 0)
 
--- the page of a table, as much of it as the window in which it begins holds; none where no window does
-unfoldable pub pageIn : (numbers run : List ℕ) → (table : ℕ) → List ℕ
-pageIn numbers run table =
-    onSpot (spotIn (windowsOf numbers) 1 table) [] (λ place left. take (min 4096 left) (drop place run))
+-- the page of a table that begins in a window: as much of it as the window holds
+unfoldable pub pageFrom : (w : Window) (run : List ℕ) → (table : ℕ) → List ℕ
+pageFrom w run table = take (min 4096 (endOf w - table)) (drop (w .place + (table - w .start)) run)
 
 -- Refusal 1's part on windows. One alone: a start that is no multiple of 4096, an empty part, an end past the run or past 2^64.
 abbrev pub badWindow : Window → (run : ℕ) → Bool

@@ -1,94 +1,121 @@
-// Entries of guest memory through its windows. Every fetch asks for windows that aren't refused.
+// Entries of guest memory through its windows. Every fetch asks for windows that aren't refused, and one test tells whether an entry can be
+// fetched: windows begin at multiples of 4096, so that one with an entry's last byte has all of it.
 ghost use mathlib.Core.Bool.{true, false};
 ghost use mathlib.Core.Path.{_≡_};
 ghost use Prim.Native.Nat.{_+_, _-_, _%_, _^_, _≤_, _<_};
 ghost use lib.ListN.{length, take, drop};
 ghost use Rattle.image.specs.Bytes.{littleEndian};
 ghost use Rattle.image.specs.Entries.{number16, number64, fetched8, fetched16, fetched64, missed8, missed16, missed64};
-ghost use Rattle.image.specs.Memory.{ofImage, entry};
-ghost use Rattle.image.specs.Windows.{windowsOf, windowAt, endOf, holdsAll, onSpot, spotIn, ofWindows, pageIn, badWindows};
+ghost use Rattle.image.specs.Memory.{entry};
+ghost use Rattle.image.specs.Spans.{windowBy, Opened, HeldBy};
+ghost use Rattle.image.specs.Windows.{windowsOf, windowAt, endOf, holdsAll, onSpot, spotIn, ofWindows, pageFrom, badWindow, badWindows};
 use crate::Entry16;
 use crate::Entry64;
 use crate::Found8;
 use crate::Found16;
 use crate::Found64;
+use crate::Span;
 use crate::buffer::word;
 use std::num::wrapping_add_u64;
 use std::num::wrapping_sub_u64;
 
-// The part of the run from a host address's byte to the end of its window; empty where no window holds that byte.
-struct Part {
-    place: usize,
-    size: usize,
+// The window that holds a byte.
+pub enum Held {
+    In(Span),
+    Nowhere,
+}
+
+fn span_at(windows: &[u64], i: usize) -> Span
+    requires { ⌜ i + 3 ≤ length (now windows) ⌝ }
+    ensures { λ r. ⌜ windowBy r ≡ windowAt (now (windows .entry)) i ⌝ }
+{
+    let start = windows[i];
+    let size = windows[i + 2];
+    let shift = wrapping_sub_u64(windows[i + 1], start);
+    Span { start, size, shift }
+}
+
+// The first window; an empty one where there is none. A request hands it to its fetches: it is the only one of most guests, and read once.
+pub fn first_span(windows: &[u64]) -> Span
+    requires { ⌜ length (now windows) % 3 ≡ 0 ⌝ }
+    ensures { λ r. ⌜ windowBy r ≡ windowAt (now (windows .entry)) 0 ⌝ }
+{
+    if windows.len() < 3 {
+        return Span {
+            start: 0,
+            size: 0,
+            shift: 0,
+        };
+    }
+    span_at(windows, 0)
 }
 
 // One test: the difference wraps past every window's size where the window begins behind the address.
-fn holds(windows: &[u64], i: usize, at: u64) -> bool
-    requires { ⌜ (i + 3 ≤ length (now windows)) × (endOf (windowAt (now windows) i) ≤ 2 ^ 64) ⌝ }
-    ensures { λ r. ⌜ r ≡ holdsAll (windowAt (now (windows .entry)) i) 1 at ⌝ }
+fn contains(span: Span, at: u64) -> bool
+    requires { ⌜ endOf (windowBy span) ≤ 2 ^ 64 ⌝ }
+    ensures { λ r. ⌜ r ≡ holdsAll (windowBy span) 1 at ⌝ }
 {
-    wrapping_sub_u64(at, windows[i]) < windows[i + 2]
-}
-
-// Place less start depends on the window alone, so that a single sum stands between address and load.
-fn part_in(windows: &[u64], i: usize, at: u64) -> Part
-    requires { ⌜ (i + 3 ≤ length (now windows)) × (holdsAll (windowAt (now windows) i) 1 at ≡ true)
-        × (windowAt (now windows) i .place + windowAt (now windows) i .size < 2 ^ 64) ⌝ }
-    ensures { λ r. ⌜ r .place ≡ windowAt (now (windows .entry)) i .place + (at - windowAt (now (windows .entry)) i .start) ⌝ }
-    ensures { λ r. ⌜ r .size ≡ endOf (windowAt (now (windows .entry)) i) - at ⌝ }
-{
-    let start = windows[i];
-    Part {
-        place: wrapping_add_u64(at, wrapping_sub_u64(windows[i + 1], start)) as usize,
-        size: (windows[i + 2] - (at - start)) as usize,
-    }
+    wrapping_sub_u64(at, span.start) < span.size
 }
 
 // Unrolled: a loop over the windows is slower than their tests.
-fn part_from(windows: &[u64], run: usize, at: u64) -> Part
+fn later_window(windows: &[u64], run: usize, at: u64) -> Held
     requires { ⌜ badWindows (now windows) run ≡ false ⌝ }
-    ensures { λ r. ⌜ r .place ≡ onSpot (spotIn (windowsOf (now (windows .entry))) 1 at) 0 (λ place left. place) ⌝ }
-    ensures { λ r. ⌜ r .size ≡ onSpot (spotIn (windowsOf (now (windows .entry))) 1 at) 0 (λ place left. left) ⌝ }
+    ensures { λ r. ⌜ HeldBy r (windowsOf (drop 3 (now (windows .entry)))) run at ⌝ }
 {
     let count = windows.len();
-    if count < 3 {
-        return Part { place: 0, size: 0 };
-    }
-    if holds(windows, 0, at) {
-        return part_in(windows, 0, at);
-    }
     if count < 6 {
-        return Part { place: 0, size: 0 };
+        return Held::Nowhere;
     }
-    if holds(windows, 3, at) {
-        return part_in(windows, 3, at);
+    let second = span_at(windows, 3);
+    if contains(second, at) {
+        return Held::In(second);
     }
     if count < 9 {
-        return Part { place: 0, size: 0 };
+        return Held::Nowhere;
     }
-    if holds(windows, 6, at) {
-        return part_in(windows, 6, at);
+    let third = span_at(windows, 6);
+    if contains(third, at) {
+        return Held::In(third);
     }
     if count < 12 {
-        return Part { place: 0, size: 0 };
+        return Held::Nowhere;
     }
-    if holds(windows, 9, at) {
-        return part_in(windows, 9, at);
+    let fourth = span_at(windows, 9);
+    if contains(fourth, at) {
+        return Held::In(fourth);
     }
-    Part { place: 0, size: 0 }
+    Held::Nowhere
 }
 
-// The 4 KiB page of a table, as a part of the run: as much of it as the window in which it begins holds, which may be none.
-pub fn table_page<'a>(windows: &[u64], image: &'a [u8], table: u64) -> &'a [u8]
-    requires { ⌜ badWindows (now windows) (length (now image)) ≡ false ⌝ }
-    ensures { λ r. ⌜ now r ≡ pageIn (now (windows .entry)) (now (image .entry)) table ⌝ }
+fn window_of(first: Span, windows: &[u64], run: usize, at: u64) -> Held
+    requires { ⌜ Opened first (now windows) run ⌝ }
+    ensures { λ r. ⌜ HeldBy r (windowsOf (now (windows .entry))) run at ⌝ }
 {
-    let part = part_from(windows, image.len(), table);
-    let from = part.place;
-    if 4096 <= part.size {
+    if contains(first, at) {
+        return Held::In(first);
+    }
+    later_window(windows, run, at)
+}
+
+fn place_in(span: Span, at: u64) -> usize
+    requires { ⌜ (holdsAll (windowBy span) 1 at ≡ true) × (windowBy span .place + windowBy span .size < 2 ^ 64) ⌝ }
+    ensures { λ r. ⌜ r ≡ windowBy span .place + (at - windowBy span .start) ⌝ }
+{
+    wrapping_add_u64(at, span.shift) as usize
+}
+
+// The 4 KiB page of a table, as a part of the run: as much of it as the window in which it begins holds.
+pub fn table_page<'a>(span: Span, image: &'a [u8], table: u64) -> &'a [u8]
+    requires { ⌜ (badWindow (windowBy span) (length (now image)) ≡ false) × (holdsAll (windowBy span) 1 table ≡ true) ⌝ }
+    ensures { λ r. ⌜ now r ≡ pageFrom (windowBy span) (now (image .entry)) table ⌝ }
+{
+    let from = place_in(span, table);
+    let left = (span.size - (table - span.start)) as usize;
+    if 4096 <= left {
         return &image[from..from + 4096];
     }
-    &image[from..from + part.size]
+    &image[from..from + left]
 }
 
 // The words of an entry that lies whole in a run of bytes.
@@ -118,16 +145,16 @@ fn load64(image: &[u8], from: usize) -> Entry64
     }
 }
 
-// The entry at an offset of a table's page: one test of its last byte, which the compiler makes of the window's rest and not of the page.
-fn entry8_of(page: &[u8], table: u64, offset: u64) -> Found8
-    requires { ⌜ (table % 4096 ≡ 0) × (offset + 8 ≤ 4096) ⌝ }
-    ensures { λ r. ⌜ fetched8 r ≡ entry 1 (ofImage (now (page .entry))) offset ⌝ }
+// The entry at an offset of a table's page, which is handed on where a window has the entry's last byte.
+pub fn page_entry8_by(first: Span, windows: &[u64], image: &[u8], table: u64, offset: u64) -> Found8
+    requires { ⌜ Opened first (now windows) (length (now image)) × (table % 4096 ≡ 0) × (offset < 4096) × (offset % 8 ≡ 0) ⌝ }
+    ensures { λ r. ⌜ fetched8 r ≡ entry 1 (ofWindows (now (windows .entry)) (now (image .entry))) (table + offset) ⌝ }
     ensures { λ r. ⌜ missed8 r (table + offset) ≡ table + offset ⌝ }
 {
-    if (page.len() as u64) <= offset + 7 {
-        return Found8::Missing(table + offset);
+    match window_of(first, windows, image.len(), table + offset + 7) {
+        Held::In(span) => Found8::Entry(word(table_page(span, image, table), offset as usize)),
+        Held::Nowhere => Found8::Missing(table + offset),
     }
-    Found8::Entry(word(page, offset as usize))
 }
 
 pub fn page_entry8(windows: &[u64], image: &[u8], table: u64, offset: u64) -> Found8
@@ -135,18 +162,24 @@ pub fn page_entry8(windows: &[u64], image: &[u8], table: u64, offset: u64) -> Fo
     ensures { λ r. ⌜ fetched8 r ≡ entry 1 (ofWindows (now (windows .entry)) (now (image .entry))) (table + offset) ⌝ }
     ensures { λ r. ⌜ missed8 r (table + offset) ≡ table + offset ⌝ }
 {
-    entry8_of(table_page(windows, image, table), table, offset)
+    page_entry8_by(first_span(windows), windows, image, table, offset)
 }
 
-fn entry16_of(page: &[u8], table: u64, offset: u64) -> Found16
-    requires { ⌜ (table % 4096 ≡ 0) × (offset + 16 ≤ 4096) ⌝ }
-    ensures { λ r. ⌜ fetched16 r ≡ entry 2 (ofImage (now (page .entry))) offset ⌝ }
+pub fn page_entry16_by(
+    first: Span,
+    windows: &[u64],
+    image: &[u8],
+    table: u64,
+    offset: u64,
+) -> Found16
+    requires { ⌜ Opened first (now windows) (length (now image)) × (table % 4096 ≡ 0) × (offset < 4096) × (offset % 16 ≡ 0) ⌝ }
+    ensures { λ r. ⌜ fetched16 r ≡ entry 2 (ofWindows (now (windows .entry)) (now (image .entry))) (table + offset) ⌝ }
     ensures { λ r. ⌜ missed16 r (table + offset) ≡ table + offset ⌝ }
 {
-    if (page.len() as u64) <= offset + 15 {
-        return Found16::Missing(table + offset);
+    match window_of(first, windows, image.len(), table + offset + 15) {
+        Held::In(span) => Found16::Entry(load16(table_page(span, image, table), offset as usize)),
+        Held::Nowhere => Found16::Missing(table + offset),
     }
-    Found16::Entry(load16(page, offset as usize))
 }
 
 pub fn page_entry16(windows: &[u64], image: &[u8], table: u64, offset: u64) -> Found16
@@ -154,7 +187,7 @@ pub fn page_entry16(windows: &[u64], image: &[u8], table: u64, offset: u64) -> F
     ensures { λ r. ⌜ fetched16 r ≡ entry 2 (ofWindows (now (windows .entry)) (now (image .entry))) (table + offset) ⌝ }
     ensures { λ r. ⌜ missed16 r (table + offset) ≡ table + offset ⌝ }
 {
-    entry16_of(table_page(windows, image, table), table, offset)
+    page_entry16_by(first_span(windows), windows, image, table, offset)
 }
 
 pub fn fetch16(windows: &[u64], image: &[u8], at: u64) -> Found16
@@ -162,11 +195,10 @@ pub fn fetch16(windows: &[u64], image: &[u8], at: u64) -> Found16
     ensures { λ r. ⌜ fetched16 r ≡ entry 2 (ofWindows (now (windows .entry)) (now (image .entry))) at ⌝ }
     ensures { λ r. ⌜ missed16 r at ≡ at ⌝ }
 {
-    let part = part_from(windows, image.len(), at);
-    if part.size < 16 {
-        return Found16::Missing(at);
+    match window_of(first_span(windows), windows, image.len(), at + 15) {
+        Held::In(span) => Found16::Entry(load16(image, place_in(span, at))),
+        Held::Nowhere => Found16::Missing(at),
     }
-    Found16::Entry(load16(image, part.place))
 }
 
 pub fn fetch64(windows: &[u64], image: &[u8], at: u64) -> Found64
@@ -174,21 +206,19 @@ pub fn fetch64(windows: &[u64], image: &[u8], at: u64) -> Found64
     ensures { λ r. ⌜ fetched64 r ≡ entry 8 (ofWindows (now (windows .entry)) (now (image .entry))) at ⌝ }
     ensures { λ r. ⌜ missed64 r at ≡ at ⌝ }
 {
-    let part = part_from(windows, image.len(), at);
-    if part.size < 64 {
-        return Found64::Missing(at);
+    match window_of(first_span(windows), windows, image.len(), at + 63) {
+        Held::In(span) => Found64::Entry(load64(image, place_in(span, at))),
+        Held::Nowhere => Found64::Missing(at),
     }
-    Found64::Entry(load64(image, part.place))
 }
 
 // Where in the run an entry of 64 bytes stands, for a store: 0 where it doesn't lie whole in a window.
 pub fn place64(windows: &[u64], run: usize, at: u64) -> usize
-    requires { ⌜ badWindows (now windows) run ≡ false ⌝ }
+    requires { ⌜ (badWindows (now windows) run ≡ false) × (at % 64 ≡ 0) ⌝ }
     ensures { λ r. ⌜ r ≡ onSpot (spotIn (windowsOf (now (windows .entry))) 64 at) 0 (λ place left. place) ⌝ }
 {
-    let part = part_from(windows, run, at);
-    if 64 <= part.size {
-        return part.place;
+    match window_of(first_span(windows), windows, run, at + 63) {
+        Held::In(span) => place_in(span, at),
+        Held::Nowhere => 0,
     }
-    0
 }

@@ -12,8 +12,11 @@ pub use buffer::fetch8;
 pub use buffer::store8;
 pub use entries::fetch16;
 pub use entries::fetch64;
+pub use entries::first_span;
 pub use entries::page_entry8;
+pub use entries::page_entry8_by;
 pub use entries::page_entry16;
+pub use entries::page_entry16_by;
 pub use entries::place64;
 pub use entries::table_page;
 pub use entry_fields::any_set16;
@@ -21,6 +24,7 @@ pub use entry_fields::any_set64;
 pub use entry_fields::bit16;
 pub use entry_fields::bits16;
 pub use entry_fields::bits64;
+pub use windows::bad_several;
 pub use windows::bad_windows;
 
 // An entry of 16 bytes: bits 63:0 and 127:64.
@@ -39,6 +43,14 @@ pub struct Entry64 {
     pub w5: u64,
     pub w6: u64,
     pub w7: u64,
+}
+
+// A window as the fetches use it: its host addresses, and what is added to one of them, modulo 2^64, for its place in the run. That is made
+// before the address is known, so that a single sum stands between an entry's address and its load.
+pub struct Span {
+    pub start: u64,
+    pub size: u64,
+    pub shift: u64,
 }
 
 // The entry concerned in a fault: none, or the one at a host address.

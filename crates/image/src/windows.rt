@@ -1,9 +1,10 @@
 // Guest memory with holes (document 02, ask 9): none to four windows on the one lent run. Three numbers a window: the host address of
 // its first byte, the place of that byte in the run, and its length.
 ghost use mathlib.Core.Path.{_≡_};
-ghost use Prim.Native.Nat.{_+_, _%_, _≤_};
+ghost use mathlib.Core.Bool.{false};
+ghost use Prim.Native.Nat.{_+_, _%_, _^_, _≤_, _<_};
 ghost use lib.ListN.{length};
-ghost use Rattle.image.specs.Windows.{windowsOf, windowAt, badWindow, badWindows};
+ghost use Rattle.image.specs.Windows.{windowsOf, windowAt, badWindow, badCount, badWindows};
 ghost use Rattle.image.specs.WindowRow.{badPart, badNext, badRow, share, sharing, rises, rising};
 use std::num::wrapping_add_u64;
 
@@ -50,7 +51,14 @@ fn bad_last(windows: &[u64], i: usize, run: usize) -> bool
     18446744073709551615 - windows[i] < windows[i + 2] - 1
 }
 
-// A window's part of the run ends before another's begins.
+// A window's part of the run ends before another's begins. This one is for windows whose parts are known to end.
+fn ends_before(windows: &[u64], i: usize, j: usize) -> bool
+    requires { ⌜ (i + 3 ≤ length (now windows)) × (j + 3 ≤ length (now windows)) × (windowAt (now windows) i .place + windowAt (now windows) i .size < 2 ^ 64) ⌝ }
+    ensures { λ r. ⌜ r ≡ rises (windowAt (now (windows .entry)) i) (windowAt (now (windows .entry)) j) ⌝ }
+{
+    wrapping_add_u64(windows[i + 1], windows[i + 2]) <= windows[j + 1]
+}
+
 fn rises_to(windows: &[u64], i: usize, j: usize) -> bool
     requires { ⌜ (i + 3 ≤ length (now windows)) × (j + 3 ≤ length (now windows)) ⌝ }
     ensures { λ r. ⌜ r ≡ rises (windowAt (now (windows .entry)) i) (windowAt (now (windows .entry)) j) ⌝ }
@@ -101,27 +109,28 @@ fn bad_row(windows: &[u64], run: usize) -> bool
 }
 
 // Windows in the order of their parts of the run, as they mostly are: none of them shares a byte with another.
-fn all_rise(windows: &[u64]) -> bool
-    requires { ⌜ (3 ≤ length (now windows)) × (length (now windows) ≤ 12) × (length (now windows) % 3 ≡ 0) ⌝ }
+fn all_rise(windows: &[u64], run: usize) -> bool
+    requires { ⌜ (3 ≤ length (now windows)) × (length (now windows) ≤ 12) × (length (now windows) % 3 ≡ 0)
+        × (badRow (windowsOf (now windows)) run ≡ false) ⌝ }
     ensures { λ r. ⌜ r ≡ rising (windowsOf (now (windows .entry))) ⌝ }
 {
     let count = windows.len();
     if count < 6 {
         return true;
     }
-    if !rises_to(windows, 0, 3) {
+    if !ends_before(windows, 0, 3) {
         return false;
     }
     if count < 9 {
         return true;
     }
-    if !rises_to(windows, 3, 6) {
+    if !ends_before(windows, 3, 6) {
         return false;
     }
     if count < 12 {
         return true;
     }
-    rises_to(windows, 6, 9)
+    ends_before(windows, 6, 9)
 }
 
 fn three_share(windows: &[u64]) -> bool
@@ -176,29 +185,42 @@ fn any_share(windows: &[u64]) -> bool
     four_share(windows)
 }
 
-fn bad_several(windows: &[u64], run: usize) -> bool
+// More than four windows, or a count of numbers that isn't three a window.
+fn bad_count(count: usize) -> bool
+    ensures { λ r. ⌜ r ≡ badCount count ⌝ }
+{
+    match count {
+        0 => false,
+        3 => false,
+        6 => false,
+        9 => false,
+        12 => false,
+        _ => true,
+    }
+}
+
+// Refusal 1's part on windows: these are refused on a run of so many bytes.
+pub fn bad_several(windows: &[u64], run: usize) -> bool
     ensures { λ r. ⌜ r ≡ badWindows (now (windows .entry)) run ⌝ }
 {
     let count = windows.len();
+    if bad_count(count) {
+        return true;
+    }
     if count == 0 {
         return false;
-    }
-    if 12 < count {
-        return true;
-    }
-    if count % 3 != 0 {
-        return true;
     }
     if bad_row(windows, run) {
         return true;
     }
-    if all_rise(windows) {
+    if all_rise(windows, run) {
         return false;
     }
     any_share(windows)
 }
 
-// Refusal 1's part on windows: these are refused on a run of so many bytes. A plain image, the usual case, is told by one window's tests.
+// The same, a single window told by its tests alone. The compiler puts a small function into its callers, and leaves one of several callers
+// where it is: so requests have one window's tests, the usual case, without a call, and share the others'.
 pub fn bad_windows(windows: &[u64], run: usize) -> bool
     ensures { λ r. ⌜ r ≡ badWindows (now (windows .entry)) run ⌝ }
 {

@@ -1,6 +1,6 @@
 -- An interrupt request by what becomes of it at admission, and then by its format.
 use Prim.Native.Nat.{ℕ, _%_, _^_, _<_}
-use mathlib.Core.Bool.{Bool, false, not}
+use mathlib.Core.Bool.{Bool, true, false, not}
 use mathlib.Core.Path.{_≡_, ap, sym}
 use Rattle.image.specs.Check.{Check, stop, go}
 use Rattle.image.specs.Memory.{Memory}
@@ -9,6 +9,7 @@ use Rattle.image.specs.Rules.{run}
 use Rattle.image.proofs.Places.{tried-map}
 use Rattle.image.proofs.Trees.{run-map}
 use Rattle.registers.specs.Admission.{refusal, pass, takenUp, admission, inInterruptRange}
+use Rattle.registers.specs.Registers.{registersBad}
 use Rattle.registers.specs.declared.Registers.{Registers}
 use Rattle.registers.proofs.Good.{taken-good, below-most}
 use Rattle.faults.specs.Record.{interruptFault}
@@ -24,6 +25,10 @@ table-placed registers wrong on h =
     (g .interrupt .aligned, below-most g (g .interrupt .below))
 
 module _ (registers : Registers) (request : InterruptRequest) (m : Memory) where
+  pub refuses-bad : registersBad registers ≡ true → refused 1 ≡ run (interruptRules registers request) m
+  unfolding interruptRules run admission
+  refuses-bad h = rw h
+
   module _ {inside : Bool} (kind : inside ≡ inInterruptRange (request .address)) where
     pub refuses : {n : ℕ} → refusal n ≡ admission registers (not inside) (registers .ire)
         → refused n ≡ run (interruptRules registers request) m

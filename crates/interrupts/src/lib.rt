@@ -78,6 +78,10 @@ fn decide(
     ensures { λ r. ⌜ outcomeOf r ≡ run (interruptRules registers request) (ofWindows (now (windows .entry)) (now (image .entry))) ⌝ }
     ensures { λ r. ⌜ entryOf r ≡ interruptPlace registers request (ofWindows (now (windows .entry)) (now (image .entry))) ⌝ }
 {
+    // As for memory requests: told before `admit` has a number to choose.
+    if registers.bad() {
+        return InterruptAnswer::Refused(1);
+    }
     match admit(
         registers,
         !in_interrupt_range(request.address),

@@ -1,7 +1,7 @@
 // What a post writes: two bytes at most.
 ghost use mathlib.Core.Bool.{false};
 ghost use mathlib.Core.Path.{_≡_};
-ghost use Prim.Native.Nat.{ℕ, _+_, _/_, _<_};
+ghost use Prim.Native.Nat.{ℕ, _+_, _/_, _%_, _<_};
 ghost use lib.ListN.{length};
 ghost use Rattle.image.specs.Windows.{windowsOf, here, spotIn, badWindows};
 ghost use Rattle.interrupts.specs.Answers.{dueOf};
@@ -25,7 +25,8 @@ fn set_bit(image: &mut [u8], at: usize, place: usize)
 
 pub(crate) fn write_post(windows: &[u64], image: &mut [u8], posted: Posted)
     requires { ⌜ (badWindows (now windows) (length (now image)) ≡ false)
-        × ((place : ℕ) × (left : ℕ) × (spotIn (windowsOf (now windows)) 64 (posted .descriptor) ≡ here place left)) ⌝ }
+        × ((place : ℕ) × (left : ℕ) × (spotIn (windowsOf (now windows)) 64 (posted .descriptor) ≡ here place left))
+        × (posted .descriptor % 64 ≡ 0) ⌝ }
     ensures { λ _. ⌜ now (image .exit) ≡ written (now (windows .entry)) (rules.posted (posted .descriptor) (posted .vector) (dueOf (posted .notification))) (now (image .entry)) ⌝ }
 {
     let notification = posted.notification;

@@ -47,9 +47,11 @@ fn reserved_in_posted(haw: u8, e: Entry16) -> bool
 pub(crate) fn reserved_irte(registers: Registers, e: Entry16) -> bool
     ensures { λ r. ⌜ r ≡ reservedIrte registers (number16 e) ⌝ }
 {
-    let in_all = reserved_in_all(registers.posting, e);
-    if bit16(e, 15) {
-        return in_all | reserved_in_posted(registers.haw, e);
+    if reserved_in_all(registers.posting, e) {
+        return true;
     }
-    in_all | reserved_in_remapped(registers.eime, e)
+    if bit16(e, 15) {
+        return reserved_in_posted(registers.haw, e);
+    }
+    reserved_in_remapped(registers.eime, e)
 }

@@ -1,6 +1,6 @@
 -- A translation request by what becomes of it at admission.
 use Prim.Native.Nat.{ℕ}
-use mathlib.Core.Bool.{Bool}
+use mathlib.Core.Bool.{Bool, true}
 use mathlib.Core.Path.{_≡_, sym}
 use Rattle.image.specs.Memory.{Memory}
 use Rattle.image.specs.Place.{noEntry, stoppedAt}
@@ -8,6 +8,7 @@ use Rattle.image.specs.Rules.{run}
 use Rattle.image.proofs.Places.{tried-map}
 use Rattle.image.proofs.Trees.{run-map}
 use Rattle.registers.specs.Admission.{Admitted, refusal, pass, takenUp, admission, inInterruptRange}
+use Rattle.registers.specs.Registers.{registersBad}
 use Rattle.registers.specs.declared.Registers.{Registers}
 use Rattle.translation.specs.Completion.{completionRules}
 use Rattle.translation.specs.Requests.{passed, refused, translationOutcome, requestRules}
@@ -17,6 +18,10 @@ module _ (registers : Registers) (request : TranslationRequest) (m : Memory) whe
   -- admission with the address's kind as the code found it
   abbrev admitted : Bool → Admitted
   admitted wrong = admission registers wrong (registers .te)
+
+  pub refuses-bad : registersBad registers ≡ true → refused 1 ≡ run (requestRules registers request) m
+  unfolding requestRules run admission
+  refuses-bad h = rw h
 
   module _ {wrong : Bool} (kind : wrong ≡ inInterruptRange (request .address)) where
     pub refuses : {n : ℕ} → refusal n ≡ admitted wrong → refused n ≡ run (requestRules registers request) m

@@ -5,7 +5,8 @@ ghost use lib.ListN.{length};
 ghost use Prim.Native.Nat.{_≤_, _%_};
 ghost use Rattle.image.specs.Place.{entryAt, lastTried, stoppedAt};
 ghost use Rattle.image.specs.Rules.{run};
-ghost use Rattle.image.specs.Windows.{ofWindows, badWindows};
+ghost use Rattle.image.specs.Spans.{Opened};
+ghost use Rattle.image.specs.Windows.{ofWindows};
 ghost use Rattle.dma.specs.Answers.{lookupOf, lookupPlace};
 ghost use Rattle.dma.specs.Context.{Usable};
 ghost use Rattle.translation.specs.Answers.{completionOf, Names};
@@ -17,6 +18,7 @@ use dma::Lookup;
 use dma::find_device_context;
 use dma::overflows;
 use faults::Reason;
+use image::Span;
 use registers::Registers;
 
 pub enum Completion {
@@ -29,6 +31,7 @@ pub enum Completion {
 
 // In a context, whose entry is at an address: its type, then the width, then the walk.
 fn complete_in(
+    first: Span,
     windows: &[u64],
     image: &[u8],
     registers: Registers,
@@ -36,7 +39,7 @@ fn complete_in(
     context: Context,
     at: u64,
 ) -> Completion
-    requires { ⌜ (badWindows (now windows) (length (now image)) ≡ false) × Usable context ⌝ }
+    requires { ⌜ Opened first (now windows) (length (now image)) × Usable context ⌝ }
     ensures { λ r. ⌜ completionOf r ≡ run (typeRules registers address context) (ofWindows (now (windows .entry)) (now (image .entry))) ⌝ }
     ensures { λ r. ⌜ Names r (lastTried (entryAt at) (typeRules registers address context) (ofWindows (now (windows .entry)) (now (image .entry)))) ⌝ }
 {
@@ -47,6 +50,7 @@ fn complete_in(
         return Completion::Empty;
     }
     walk(
+        first,
         windows,
         image,
         registers,
@@ -69,18 +73,27 @@ fn without_context(found: Lookup) -> Completion
 }
 
 pub(crate) fn complete(
+    first: Span,
     windows: &[u64],
     image: &[u8],
     registers: Registers,
     request: TranslationRequest,
 ) -> Completion
-    requires { ⌜ (badWindows (now windows) (length (now image)) ≡ false) × (registers .«root_table» % 4096 ≡ 0) ⌝ }
+    requires { ⌜ Opened first (now windows) (length (now image)) × (registers .«root_table» % 4096 ≡ 0) ⌝ }
     ensures { λ r. ⌜ completionOf r ≡ run (completionRules registers (request .address) (request .source .id)) (ofWindows (now (windows .entry)) (now (image .entry))) ⌝ }
     ensures { λ r. ⌜ Names r (stoppedAt (completionRules registers (request .address) (request .source .id)) (ofWindows (now (windows .entry)) (now (image .entry)))) ⌝ }
 {
-    let found = find_device_context(windows, image, registers, request.source);
+    let found = find_device_context(first, windows, image, registers, request.source);
     let Lookup::Found(context, at) = found else {
         return without_context(found);
     };
-    complete_in(windows, image, registers, request.address, context, at)
+    complete_in(
+        first,
+        windows,
+        image,
+        registers,
+        request.address,
+        context,
+        at,
+    )
 }

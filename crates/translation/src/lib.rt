@@ -18,6 +18,7 @@ use faults::Fault;
 use faults::translation_fault;
 pub use image::EntryAddress;
 use image::bad_windows;
+use image::first_span;
 use registers::Admission;
 use registers::Page1G;
 use registers::Page2M;
@@ -130,9 +131,16 @@ pub fn translation_request(
     if bad_windows(windows, image.len()) {
         return TranslationAnswer::Refused(1);
     }
+    // As for memory requests: told before `admit` has a number to choose.
+    if registers.bad() {
+        return TranslationAnswer::Refused(1);
+    }
     match admit(registers, in_interrupt_range(request.address), registers.te) {
         Admission::Refused(number) => TranslationAnswer::Refused(number),
         Admission::Passed => TranslationAnswer::Passed(request.address),
-        Admission::Taken => answer(request, complete(windows, image, registers, request)),
+        Admission::Taken => {
+            let first = first_span(windows);
+            answer(request, complete(first, windows, image, registers, request))
+        },
     }
 }

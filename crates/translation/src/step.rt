@@ -4,7 +4,8 @@ ghost use mathlib.Core.Path.{_≡_};
 ghost use lib.ListN.{length};
 ghost use Prim.Native.Nat.{_<_, _%_};
 ghost use Rattle.image.specs.Place.{entryAt};
-ghost use Rattle.image.specs.Windows.{ofWindows, badWindows};
+ghost use Rattle.image.specs.Spans.{Opened};
+ghost use Rattle.image.specs.Windows.{ofWindows};
 ghost use Rattle.dma.specs.Walk.{placeIn};
 ghost use Rattle.translation.specs.Answers.{stepOf, StepNames};
 ghost use Rattle.translation.specs.Completion.{entryStep, entryOver};
@@ -13,9 +14,10 @@ use dma::is_leaf;
 use dma::page_reserved;
 use faults::Reason;
 use image::Found8;
+use image::Span;
 use image::field;
 use image::in_place;
-use image::page_entry8;
+use image::page_entry8_by;
 use registers::Page4K;
 use registers::Registers;
 
@@ -55,6 +57,7 @@ fn joined_step(registers: Registers, above: Rights, fpd: bool, level: u32, at: u
 
 // One level of the walk: below is how many levels come after it.
 pub(crate) fn entry_step(
+    first: Span,
     windows: &[u64],
     image: &[u8],
     registers: Registers,
@@ -64,13 +67,13 @@ pub(crate) fn entry_step(
     table: u64,
     above: Rights,
 ) -> Step
-    requires { ⌜ (badWindows (now windows) (length (now image)) ≡ false) × (below < 5) × (table % 4096 ≡ 0) ⌝ }
+    requires { ⌜ Opened first (now windows) (length (now image)) × (below < 5) × (table % 4096 ≡ 0) ⌝ }
     ensures { λ r. ⌜ stepOf r ≡ entryOver registers address fpd (ofWindows (now (windows .entry)) (now (image .entry))) below table above ⌝ }
     ensures { λ r. ⌜ StepNames r (entryAt (placeIn address table below)) ⌝ }
 {
     let offset = 8 * ((address >> (Page4K::SHIFT + 9 * below)) % 512);
     let at = table + offset;
-    let Found8::Entry(e) = page_entry8(windows, image, table, offset) else {
+    let Found8::Entry(e) = page_entry8_by(first, windows, image, table, offset) else {
         return Step::Fault(Reason::PageEntryAccess, fpd, at);
     };
     joined_step(registers, above, fpd, below + 1, at, e)

@@ -5,7 +5,8 @@ ghost use lib.ListN.{length};
 ghost use Prim.Native.Nat.{_%_, _<_, _≤_};
 ghost use Rattle.image.specs.Place.{Place, lastTried};
 ghost use Rattle.image.specs.Rules.{run};
-ghost use Rattle.image.specs.Windows.{ofWindows, badWindows};
+ghost use Rattle.image.specs.Spans.{Opened};
+ghost use Rattle.image.specs.Windows.{ofWindows};
 ghost use Rattle.translation.specs.Answers.{completionOf, Names};
 ghost use Rattle.translation.specs.Completion.{joinedRules};
 ghost use Rattle.translation.specs.Rights.{both};
@@ -14,9 +15,11 @@ use crate::completion::Completion;
 use crate::step::Step;
 use crate::step::entry_step;
 use faults::Reason;
+use image::Span;
 use registers::Registers;
 
 pub(crate) fn walk(
+    first: Span,
     windows: &[u64],
     image: &[u8],
     registers: Registers,
@@ -25,7 +28,7 @@ pub(crate) fn walk(
     levels: u32,
     table: u64,
 ) -> Completion
-    requires { ⌜ (badWindows (now windows) (length (now image)) ≡ false) × (0 < levels) × (levels ≤ 5) × (table % 4096 ≡ 0) ⌝ }
+    requires { ⌜ Opened first (now windows) (length (now image)) × (0 < levels) × (levels ≤ 5) × (table % 4096 ≡ 0) ⌝ }
     ensures { λ r. ⌜ completionOf r ≡ run (joinedRules registers address fpd levels table both) (ofWindows (now (windows .entry)) (now (image .entry))) ⌝ }
     ensures { λ r. ⌜ ((before : Place) → Names r (lastTried before (joinedRules registers address fpd levels table both) (ofWindows (now (windows .entry)) (now (image .entry))))) ⌝ }
 {
@@ -35,6 +38,7 @@ pub(crate) fn walk(
     let mut write = true;
     while 0 < level {
         let step = entry_step(
+            first,
             windows,
             image,
             registers,

@@ -3,7 +3,7 @@
 use crate::load::{Load, Requests};
 use crate::sides::Prepared;
 use interface::ANSWER_SIZE;
-use ordinary::{Fault, InterruptAnswer, MemoryAnswer};
+use ordinary::{Fault, InterruptAnswer, MemoryAnswer, TranslationAnswer};
 
 type Answer = [u8; ANSWER_SIZE];
 
@@ -29,6 +29,24 @@ fn memory(answer: MemoryAnswer) -> Answer {
         MemoryAnswer::Granted(address) => bytes([6, 0, 0, 0, 0, 0, 0, 0], [address, 0, 0]),
         MemoryAnswer::Blocked(fault) => blocked(fault),
         MemoryAnswer::Refused(number) => bytes([2, number, 0, 0, 0, 0, 0, 0], [0; 3]),
+    }
+}
+
+fn translation(answer: TranslationAnswer) -> Answer {
+    match answer {
+        TranslationAnswer::Passed(address) => bytes([3, 0, 0, 0, 0, 0, 0, 0], [address, 0, 0]),
+        TranslationAnswer::Page {
+            frame,
+            size,
+            read,
+            write,
+        } => {
+            let head = [7, read.into(), write.into(), 0, 0, 0, 0, 0];
+            bytes(head, [frame, size, 0])
+        }
+        TranslationAnswer::Empty => bytes([8, 0, 0, 0, 0, 0, 0, 0], [0; 3]),
+        TranslationAnswer::Blocked(fault) => blocked(fault),
+        TranslationAnswer::Refused(number) => bytes([2, number, 0, 0, 0, 0, 0, 0], [0; 3]),
     }
 }
 
@@ -73,6 +91,21 @@ pub fn agree(load: &Load, prepared: &Prepared) -> bool {
             let expected =
                 ordinary::memory_request(plain, windows, &theirs, source, address, r.write);
             status == 0 && answer == memory(expected)
+        }),
+        Requests::Translations(requests) => requests.iter().all(|r| {
+            let (source, address) = (r.source, r.address);
+            let registers = &prepared.bytes;
+            let status = interface::translation_request(
+                registers,
+                numbers,
+                &ours,
+                source,
+                address,
+                &mut answer,
+            );
+            let plain = &prepared.plain;
+            let expected = ordinary::translation_request(plain, windows, &theirs, source, address);
+            status == 0 && answer == translation(expected)
         }),
         Requests::Interrupts { messages, .. } => messages.iter().all(|m| {
             let (source, address, data) = (m.source, m.address, m.data);

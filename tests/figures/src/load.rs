@@ -28,6 +28,8 @@ pub struct Interrupt {
 pub enum Requests {
     /// Memory requests.
     Memory(Vec<Memory>),
+    /// Requests for translations, of the same sources and addresses.
+    Translations(Vec<Memory>),
     /// Interrupts. Before each, the byte at `rearm` is made 0, if there is one.
     Interrupts {
         /// The messages.
@@ -41,7 +43,7 @@ impl Requests {
     /// How many there are.
     pub fn len(&self) -> usize {
         match self {
-            Requests::Memory(requests) => requests.len(),
+            Requests::Memory(requests) | Requests::Translations(requests) => requests.len(),
             Requests::Interrupts { messages, .. } => messages.len(),
         }
     }

@@ -85,6 +85,16 @@ pub const ROWS: &[Row] = &[
         passes: 20,
         make: || posted_with_notice().cut(&FOUR, &[0, 1, 2, 3]),
     },
+    Row {
+        name: "case 1 translations",
+        passes: 20,
+        make: case_1_translations,
+    },
+    Row {
+        name: "case 1 translations, four windows",
+        passes: 20,
+        make: || case_1_translations().cut(&FOUR, &[0, 1, 2, 3]),
+    },
 ];
 
 /// Starts of four windows over the bench image: the root table, the context table, the tables of levels 3
@@ -158,6 +168,14 @@ fn memory(address: u64, write: bool) -> Memory {
 
 fn case_1() -> Load {
     bench(Requests::Memory(vec![memory(0x4020_1ABC, false); REPEATED]))
+}
+
+/// The same page asked for as a translation, in a context of type 1.
+fn case_1_translations() -> Load {
+    let request = memory(0x4020_1ABC, false);
+    let mut load = bench(Requests::Translations(vec![request; REPEATED]));
+    load.set(0x2100, 0x3005);
+    load
 }
 
 /// Cases 2, 3 and 5.

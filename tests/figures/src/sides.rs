@@ -88,6 +88,11 @@ pub fn run(side: Side, prepared: &Prepared, image: &mut [u8], requests: &Request
                 memory(side, prepared, image, requests);
             }
         }
+        Requests::Translations(requests) => {
+            for _ in 0..passes {
+                translations(side, prepared, image, requests);
+            }
+        }
         Requests::Interrupts { messages, rearm } => {
             for _ in 0..passes {
                 interrupts(side, prepared, image, messages, *rearm);
@@ -132,6 +137,47 @@ fn memory(side: Side, prepared: &Prepared, image: &[u8], requests: &[Memory]) {
             };
             for r in requests {
                 let answer = unit.memory_request(memory, r.source, r.address, r.write);
+                black_box(&answer);
+            }
+        }
+    }
+}
+
+fn translations(side: Side, prepared: &Prepared, image: &[u8], requests: &[Memory]) {
+    let (plain, numbers, windows) = (
+        &prepared.plain,
+        &prepared.numbers[..],
+        &prepared.windows[..],
+    );
+    match side {
+        Side::Proved => {
+            let mut answer = [0; ANSWER_SIZE];
+            for r in requests {
+                let status = interface::translation_request(
+                    &prepared.bytes,
+                    numbers,
+                    image,
+                    r.source,
+                    r.address,
+                    &mut answer,
+                );
+                black_box((status, &answer));
+            }
+        }
+        Side::Ordinary => {
+            for r in requests {
+                let answer =
+                    ordinary::translation_request(plain, windows, image, r.source, r.address);
+                black_box(&answer);
+            }
+        }
+        Side::CheckedOnce => {
+            let checked = Unit::new(plain).zip(ordinary::Memory::new(windows, image));
+            let Some((unit, memory)) = checked else {
+                return;
+            };
+            for r in requests {
+                let answer = unit.translation_request(memory, r.source, r.address);
                 black_box(&answer);
             }
         }

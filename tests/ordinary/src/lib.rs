@@ -14,6 +14,7 @@ mod interrupt;
 mod memory;
 pub mod meters;
 mod registers;
+mod translation;
 mod unit;
 #[allow(unsafe_code)]
 mod windows;
@@ -23,5 +24,6 @@ pub use fault::Fault;
 pub use interrupt::{interrupt_request, InterruptAnswer, Notice, Remapped};
 pub use memory::{memory_request, MemoryAnswer};
 pub use registers::Registers;
+pub use translation::{translation_request, TranslationAnswer};
 pub use unit::Unit;
 pub use windows::{Memory, MemoryMut, Window};

@@ -1,8 +1,14 @@
 //! The ordinary translator against the reference, over part of each suite.
 
 use cases::{Request, Suite, World, SUITES};
-use ordinary::{Fault, InterruptAnswer, Memory, MemoryAnswer, MemoryMut, Registers, Unit, Window};
-use reference::{interrupt_request_in, memory_request_in, Notice, Outcome, Slip};
+use ordinary::{
+    Fault, InterruptAnswer, Memory, MemoryAnswer, MemoryMut, Registers, TranslationAnswer, Unit,
+    Window,
+};
+use reference::{
+    interrupt_request_in, memory_request_in, translation_request_in, Notice, Outcome, Slip,
+    Translation,
+};
 
 /// Of each suite, one world in so many; of windows, which unsafe code rests on, every second.
 fn part(suite: &Suite) -> usize {
@@ -83,6 +89,49 @@ fn interrupt(answer: InterruptAnswer) -> Outcome {
     }
 }
 
+fn translation(answer: TranslationAnswer) -> Translation {
+    let (frame, size, read, write) = match answer {
+        TranslationAnswer::Passed(address) => return Translation::Passed(address),
+        TranslationAnswer::Refused(number) => return Translation::Refused(number),
+        TranslationAnswer::Blocked(fault) => match blocked(fault) {
+            Outcome::Blocked(fault) => return Translation::Blocked(fault),
+            other => panic!("{other:X?}"),
+        },
+        TranslationAnswer::Empty => (0, 0, false, false),
+        TranslationAnswer::Page {
+            frame,
+            size,
+            read,
+            write,
+        } => (frame, size, read, write),
+    };
+    Translation::Answered {
+        frame,
+        size,
+        read,
+        write,
+    }
+}
+
+/// Puts a memory request to both as one for a translation.
+fn compare_translations(world: &World, request: &Request, run: &[u8]) {
+    let Request::Memory {
+        source, address, ..
+    } = *request
+    else {
+        return;
+    };
+    let (r, registers) = (&world.registers, registers(&world.registers));
+    let windows = windows(&world.windows);
+    let answer = ordinary::translation_request(&registers, &windows, run, source, address);
+    let checked = Unit::new(&registers).zip(Memory::new(&windows, run));
+    let again = checked.map(|(unit, memory)| unit.translation_request(memory, source, address));
+    let expected = translation_request_in(r, &world.windows, run, source, address);
+    assert_eq!(translation(answer), expected, "{r:X?} {request:X?}");
+    let again = again.map_or(Translation::Refused(1), translation);
+    assert_eq!(again, expected, "{r:X?} {request:X?}");
+}
+
 fn windows(windows: &[reference::Window]) -> Vec<Window> {
     let ours = windows.iter().map(|window| Window {
         start: window.start,
@@ -156,6 +205,7 @@ fn the_same_answers() {
             let mut theirs = world.image.clone();
             for request in &world.requests {
                 compare(&world, request, &mut ours, &mut theirs);
+                compare_translations(&world, request, &ours);
                 cases += 1;
             }
         }

@@ -69,7 +69,7 @@ write-post-requires : tie.Need-write-post-requires
 write-post-requires c κs =
     let told = c .before .before in
     let s = stands (told .before .before) (told .answer .given .1) in
-    (s .good, (s .place, s .left, s .there))
+    (s .good, (s .place, s .left, s .there), s .aligned)
 
 same-length : tie.Need-same-length
 same-length c = search needs

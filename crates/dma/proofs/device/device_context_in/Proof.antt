@@ -28,8 +28,8 @@ mul-offset c = search needs
 add-at : tie.Need-add-at
 add-at c = search needs
 
-page-entry16-requires : tie.Need-page-entry16-requires
-page-entry16-requires c κs = let p = c .before .before .before .pre in (p .0, p .1, omega arith, omega arith)
+page-entry16-by-requires : tie.Need-page-entry16-by-requires
+page-entry16-by-requires c κs = let p = c .before .before .before .pre in (p .0, p .1, omega arith, omega arith)
 
 enum-known-e : tie.Need-enum-known-e
 enum-known-e c = search needs
@@ -37,12 +37,12 @@ enum-known-e c = search needs
 enum-told : tie.Need-enum-told
 enum-told c = search needs
 
-place : (c : tie.After-page-entry16)
-    → fetched16 (c .page-entry16 .result)
+place : (c : tie.After-page-entry16-by)
+    → fetched16 (c .page-entry16-by .result)
     ≡ entry 2 (ofWindows (c .before .before .before .before .args .windows .now) (c .before .before .before .before .args .image .now)) (c .before .before .before .before .args .table + 16 * devfnOf (c .before .before .before .before .args .source .id))
 place c =
     let a = c .before .before .before .before .args in
-    rw (← c .before .devfn .ensures) (c .page-entry16 .ensures .0)
+    rw (← c .before .devfn .ensures) (c .page-entry16-by .ensures .0)
 
 returns : tie.Need-returns
 unfolding contextRules
@@ -72,7 +72,7 @@ device-context-in-spec =
     cast-offset
     mul-offset
     add-at
-    page-entry16-requires
+    page-entry16-by-requires
     enum-known-e
     enum-told
     returns

@@ -41,8 +41,8 @@ add-at c =
     let a = c .before .before .args in
     omega (arith, c .before .before .pre .2, index-of (a .request .address) (a .below), index-lt (a .request .address) (a .below))
 
-page-entry8-requires : tie.Need-page-entry8-requires
-page-entry8-requires c κs = let p = c .before .before .pre in (p .0, p .2, omega arith, omega arith)
+page-entry8-by-requires : tie.Need-page-entry8-by-requires
+page-entry8-by-requires c κs = let p = c .before .before .pre in (p .0, p .2, omega arith, omega arith)
 
 enum-known-e : tie.Need-enum-known-e
 enum-known-e c = search needs
@@ -50,19 +50,19 @@ enum-known-e c = search needs
 enum-told : tie.Need-enum-told
 enum-told c = search needs
 
-at-place : (c : tie.After-page-entry8)
+at-place : (c : tie.After-page-entry8-by)
     → _≡_ {A = ℕ} (c .before .before .before .args .table + 8 * (c .before .before .before .args .request .address / 2 ^ (12 + 9 * c .before .before .before .args .below) % 512))
     (placeIn (c .before .before .before .args .request .address) (c .before .before .before .args .table) (c .before .before .before .args .below))
 at-place c =
     let a = c .before .before .before .args in
     ap (λ (i : ℕ). a .table + 8 * i) (index-of (a .request .address) (a .below))
 
-place : (c : tie.After-page-entry8)
-    → fetched8 (c .page-entry8 .result)
+place : (c : tie.After-page-entry8-by)
+    → fetched8 (c .page-entry8-by .result)
     ≡ entry 1 (ofWindows (c .before .before .before .args .windows .now) (c .before .before .before .args .image .now)) (placeIn (c .before .before .before .args .request .address) (c .before .before .before .args .table) (c .before .before .before .args .below))
 place c =
     let a = c .before .before .before .args in
-    c .page-entry8 .ensures .0 ∙ ap (entry 1 (ofWindows (a .windows .now) (a .image .now))) (at-place c)
+    c .page-entry8-by .ensures .0 ∙ ap (entry 1 (ofWindows (a .windows .now) (a .image .now))) (at-place c)
 
 returns : tie.Need-returns
 returns c =
@@ -125,7 +125,7 @@ page-step-spec =
     shr-offset
     mul-offset-2
     add-at
-    page-entry8-requires
+    page-entry8-by-requires
     enum-known-e
     enum-told
     returns

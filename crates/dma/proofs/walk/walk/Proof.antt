@@ -6,7 +6,8 @@ use lib.ListN.{length}
 use borrow.Author.Needs.{needs}
 use Rattle.image.specs.Place.{Place, entryAt, lastTried}
 use Rattle.image.specs.Rules.{run}
-use Rattle.image.specs.Windows.{ofWindows, badWindows}
+use Rattle.image.specs.Spans.{Opened}
+use Rattle.image.specs.Windows.{ofWindows}
 use Rattle.dma.specs.Answers.{stepOf, stepPlace}
 use Rattle.dma.specs.Translation.{pageRules}
 use Rattle.dma.specs.Walk.{placeIn}
@@ -15,8 +16,8 @@ use Rattle.dma.proofs.walk.walk.Statement.{statement}
 use Rattle.dma.proofs.walk.walk.Tie as tie
 
 abbrev Inv-loop : tie.InvT-loop
-Inv-loop windows image registers request fpd levels table level₀ at₀ level at =
-    (badWindows windows (length image) ≡ false)
+Inv-loop first windows image registers request fpd levels table level₀ at₀ level at =
+    Opened first windows (length image)
     × (0 < level)
     × (level ≤ 5)
     × (at % 4096 ≡ 0)
@@ -27,7 +28,7 @@ Inv-loop windows image registers request fpd levels table level₀ at₀ level a
     ≡ lastTried before′ (pageRules registers (request .address) (request .write) fpd levels table) (ofWindows windows image))
 
 abbrev μ-loop : tie.MeasureT-loop
-μ-loop windows image registers request fpd levels table level₀ at₀ level at = level
+μ-loop first windows image registers request fpd levels table level₀ at₀ level at = level
 
 loop-holds : tie.Need-loop-holds Inv-loop μ-loop
 loop-holds c =

@@ -11,7 +11,7 @@ use Rattle.interrupts.proofs.post.write_post.Statement.{statement}
 use Rattle.interrupts.proofs.post.write_post.Tie as tie
 
 place64-requires : tie.Need-place64-requires
-place64-requires c κs = search needs
+place64-requires c κs = let p = c .before .before .pre in (p .0, p .2)
 
 cast-set-bit : tie.Need-cast-set-bit
 cast-set-bit c = search needs

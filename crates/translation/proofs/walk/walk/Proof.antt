@@ -6,7 +6,8 @@ use lib.ListN.{length}
 use borrow.Author.Needs.{needs}
 use Rattle.image.specs.Place.{Place, entryAt, lastTried}
 use Rattle.image.specs.Rules.{run}
-use Rattle.image.specs.Windows.{ofWindows, badWindows}
+use Rattle.image.specs.Spans.{Opened}
+use Rattle.image.specs.Windows.{ofWindows}
 use Rattle.dma.specs.Walk.{placeIn}
 use Rattle.translation.specs.Answers.{stepOf, stepPlace}
 use Rattle.translation.specs.Completion.{joinedRules}
@@ -16,8 +17,8 @@ use Rattle.translation.proofs.walk.walk.Statement.{statement}
 use Rattle.translation.proofs.walk.walk.Tie as tie
 
 abbrev Inv-loop : tie.InvT-loop
-Inv-loop windows image registers address fpd levels table level₀ at₀ read₀ write₀ level at read write =
-    (badWindows windows (length image) ≡ false)
+Inv-loop first windows image registers address fpd levels table level₀ at₀ read₀ write₀ level at read write =
+    Opened first windows (length image)
     × (0 < level)
     × (level ≤ 5)
     × (at % 4096 ≡ 0)
@@ -28,7 +29,7 @@ Inv-loop windows image registers address fpd levels table level₀ at₀ read₀
     ≡ lastTried before′ (joinedRules registers address fpd levels table both) (ofWindows windows image))
 
 abbrev μ-loop : tie.MeasureT-loop
-μ-loop windows image registers address fpd levels table level₀ at₀ read₀ write₀ level at read write = level
+μ-loop first windows image registers address fpd levels table level₀ at₀ read₀ write₀ level at read write = level
 
 loop-holds : tie.Need-loop-holds Inv-loop μ-loop
 loop-holds c =
