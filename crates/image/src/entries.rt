@@ -98,6 +98,14 @@ fn window_of(first: Span, windows: &[u64], run: usize, at: u64) -> Held
     later_window(windows, run, at)
 }
 
+// The window with a byte, for those who have none of the windows at hand.
+pub fn find_window(windows: &[u64], run: usize, at: u64) -> Held
+    requires { ⌜ badWindows (now windows) run ≡ false ⌝ }
+    ensures { λ r. ⌜ HeldBy r (windowsOf (now (windows .entry))) run at ⌝ }
+{
+    window_of(first_span(windows), windows, run, at)
+}
+
 fn place_in(span: Span, at: u64) -> usize
     requires { ⌜ (holdsAll (windowBy span) 1 at ≡ true) × (windowBy span .place + windowBy span .size < 2 ^ 64) ⌝ }
     ensures { λ r. ⌜ r ≡ windowBy span .place + (at - windowBy span .start) ⌝ }

@@ -10,8 +10,10 @@ mod windows;
 
 pub use buffer::fetch8;
 pub use buffer::store8;
+pub use entries::Held;
 pub use entries::fetch16;
 pub use entries::fetch64;
+pub use entries::find_window;
 pub use entries::first_span;
 pub use entries::page_entry8;
 pub use entries::page_entry8_by;

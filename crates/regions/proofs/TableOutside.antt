@@ -1,5 +1,5 @@
--- A table wholly outside, told by its page: windows begin at multiples of 4096, so a window that has one of the table's bytes has the first.
-use Prim.Native.Nat.{ℕ, zero, suc, _+_, _-_, _%_, _≤_, _<_, min}
+-- A table wholly outside, told by its first byte: windows begin at multiples of 4096, so a window that has one of the table's bytes has the first.
+use Prim.Native.Nat.{ℕ, zero, suc, _+_, _-_, _%_, _≤_, _<_}
 use mathlib.Core.Bool.{Bool, true, false, not, _&&_, _||_}
 use mathlib.Core.List.{List, [], _∷_}
 use mathlib.Core.Path.{_≡_, refl, ap, sym, _∙_}
@@ -9,8 +9,8 @@ use borrow.Author.Tests.{leb-true, le-leb, lt-leb, lt-ltb, le-ltb, eq-eqb, ne-eq
 use lib.Dec.{leb, ltb, eqb}
 use lib.ListN.{length, take, drop, length-take, length-drop}
 use Rattle.image.specs.Choice.{if_then_else_}
-use Rattle.image.specs.Windows.{Window, windowsOf, endOf, holdsAll, nowhere, here, onSpot, spotIn, overlap, pageIn, badWindows}
-use Rattle.image.proofs.GoodWindows.{GoodWindow, Good, good, held}
+use Rattle.image.specs.Windows.{Window, windowsOf, endOf, holdsAll, Spot, nowhere, here, spotIn, overlap, badWindows}
+use Rattle.image.proofs.GoodWindows.{GoodWindow, Good, good}
 use Rattle.regions.specs.Outside.{touchedByAny, tableOutside}
 
 -- a test of order, told by another of the same numbers
@@ -33,32 +33,22 @@ first-byte w run table g aligned =
       leb-ltb (table + 1) (endOf w) table (endOf w) (λ h. omega arith) (λ h. omega arith),
     )
 
-module _ (bytes : List ℕ) (table : ℕ) (aligned : table % 4096 ≡ 0) where
-  abbrev pageOf : List Window → List ℕ
-  pageOf ws = onSpot (spotIn ws 1 table) [] (λ place left. take (min 4096 left) (drop place bytes))
+-- some window has the byte at an address
+abbrev pub there : Spot → Bool
+there nowhere = false
+there (here place left) = true
 
-  none-there : (ws : List Window) → Good ws (length bytes) → eqb (length (pageOf ws)) 0 ≡ not (touchedByAny ws table)
+module _ (run table : ℕ) (aligned : table % 4096 ≡ 0) where
+  touched : (ws : List Window) → Good ws run → there (spotIn ws 1 table) ≡ touchedByAny ws table
   unfolding spotIn touchedByAny Good
-  none-there [] g = refl
-  none-there (w ∷ ws) g = rw (← first-byte w (length bytes) table (g .0) aligned) (by (holdsAll w 1 table) refl (none-there ws (g .2)))
+  touched [] g = refl
+  touched (w ∷ ws) g = rw (← first-byte w run table (g .0) aligned) (by (holdsAll w 1 table) (touched ws (g .2)))
     where
-      there : holdsAll w 1 table ≡ true → 0 < length (take (min 4096 (endOf w - table)) (drop (w .place + (table - w .start)) bytes))
-      there is =
-          let lies = held w 1 table is in
-          simp (length-take, length-drop) (omega (arith, lies .0, lies .1, g .0 .inRun))
+      by : (t : Bool) → there (spotIn ws 1 table) ≡ touchedByAny ws table
+          → there (if t then here (w .place + (table - w .start)) (endOf w - table) else spotIn ws 1 table) ≡ t || touchedByAny ws table
+      by true rest = refl
+      by false rest = rest
 
-      by : (t : Bool) → holdsAll w 1 table ≡ t → eqb (length (pageOf ws)) 0 ≡ not (touchedByAny ws table)
-          → eqb
-          (length
-          (onSpot (if t then here (w .place + (table - w .start)) (endOf w - table) else spotIn ws 1 table) []
-          (λ place left. take (min 4096 left) (drop place bytes))))
-          0
-          ≡ not (t || touchedByAny ws table)
-      by true is rest =
-          ne-eqb (length (take (min 4096 (endOf w - table)) (drop (w .place + (table - w .start)) bytes))) 0 (λ e. omega (arith, there is, e))
-      by false is rest = rest
-
-pub outside-told : (numbers bytes : List ℕ) (table : ℕ) → badWindows numbers (length bytes) ≡ false → table % 4096 ≡ 0
-    → eqb (length (pageIn numbers bytes table)) 0 ≡ tableOutside numbers table
-unfolding pageIn
-outside-told numbers bytes table fine aligned = none-there bytes table aligned (windowsOf numbers) (good numbers (length bytes) fine)
+pub outside-told : (numbers : List ℕ) (run table : ℕ) → badWindows numbers run ≡ false → table % 4096 ≡ 0
+    → not (there (spotIn (windowsOf numbers) 1 table)) ≡ tableOutside numbers table
+outside-told numbers run table fine aligned = ap not (touched run table aligned (windowsOf numbers) (good numbers run fine))

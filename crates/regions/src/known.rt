@@ -41,7 +41,7 @@ fn key(table: u64, level: u32, rights: Rights) -> u64
 
 // Where a key stands: by its table's place in the run, so that no two whole tables share a place where there is room for all.
 fn slot(windows: &[u64], run: usize, table: u64, key: u64, room: usize) -> usize
-    requires { ⌜ (badWindows (now windows) run ≡ false) × (0 < room) ⌝ }
+    requires { ⌜ (badWindows (now windows) run ≡ false) × (0 < room) × (table % 4096 ≡ 0) ⌝ }
     ensures { λ r. ⌜ r < room ⌝ }
 {
     let page = place64(windows, run, table) / 4096;

@@ -15,7 +15,8 @@ use crate::entry::Step;
 use crate::entry::entry_step;
 use dma::meets_interrupt_range;
 use faults::Reason;
-use image::table_page;
+use image::Held;
+use image::find_window;
 use registers::Registers;
 use translation::Rights;
 
@@ -31,7 +32,10 @@ fn table_outside(windows: &[u64], image: &[u8], table: u64) -> bool
     requires { ⌜ (badWindows (now windows) (length (now image)) ≡ false) × (table % 4096 ≡ 0) ⌝ }
     ensures { λ r. ⌜ r ≡ tableOutside (now (windows .entry)) table ⌝ }
 {
-    table_page(windows, image, table).len() == 0
+    match find_window(windows, image.len(), table) {
+        Held::In(_) => false,
+        Held::Nowhere => true,
+    }
 }
 
 // A page with a byte in the interrupt range is refusal 4.

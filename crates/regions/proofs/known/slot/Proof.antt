@@ -1,4 +1,5 @@
 use native.Mathlib.Nat.{mod-lt}
+use native.Mathlib.Omega.{arith}
 use borrow.Author.Needs.{needs}
 use Rattle.regions.proofs.known.slot.Statement.{statement}
 use Rattle.regions.proofs.known.slot.Tie as tie
@@ -8,7 +9,7 @@ use Rattle.image.proofs.place64.Reads as place64-reads
 
 -- src/known.rt:35:16
 place64-requires : tie.Need-place64-requires
-place64-requires c κs = search needs
+place64-requires c κs = (c .before .pre .0, omega (arith, c .before .pre .2))
 
 -- src/known.rt:36:6
 mul-result : tie.Need-mul-result
