@@ -5,7 +5,9 @@ ghost use lib.ListN.{length, replicate};
 ghost use Prim.Native.Nat.{ℕ, _+_, _*_, _%_, _^_, _<_, _≤_, min};
 ghost use Rattle.image.specs.Rules.{run};
 ghost use Rattle.image.specs.Windows.{ofWindows, badWindows};
+ghost use Rattle.dma.specs.Answers.{lookupOf};
 ghost use Rattle.dma.specs.Context.{Usable};
+ghost use Rattle.dma.specs.Lookup.{lookupRules};
 ghost use Rattle.regions.specs.Known.{Sound};
 ghost use Rattle.regions.specs.Outside.{tableOutside};
 ghost use Rattle.mapping.specs.Answers.{toldAs};
@@ -22,6 +24,7 @@ use dma::find_device_context;
 use faults::Reason;
 use filling::fill;
 use image::bad_windows;
+use image::first_span;
 use regions::forget;
 use registers::Admission;
 use registers::Registers;
@@ -84,6 +87,18 @@ fn list_context(
     Listing::Spans(filled.count, filled.more)
 }
 
+fn find_source_context(
+    windows: &[u64],
+    image: &[u8],
+    registers: Registers,
+    source: SourceId,
+) -> Lookup
+    requires { ⌜ (badWindows (now windows) (length (now image)) ≡ false) × (registers .«root_table» % 4096 ≡ 0) ⌝ }
+    ensures { λ r. ⌜ lookupOf r ≡ run (lookupRules registers (source .id)) (ofWindows (now (windows .entry)) (now (image .entry))) ⌝ }
+{
+    find_device_context(first_span(windows), windows, image, registers, source)
+}
+
 // Past the registers.
 fn list_source(
     windows: &[u64],
@@ -98,7 +113,7 @@ fn list_source(
     ensures { λ r. ⌜ ListedAs (run (sourceRules registers (ofWindows (now (windows .entry)) (now (image .entry))) (tableOutside (now (windows .entry))) (source .id)) (ofWindows (now (windows .entry)) (now (image .entry)))) (now (rows .entry)) (now (rows .exit)) (toldAs r) ⌝ }
     ensures { λ r. ⌜ length (now (known .exit)) ≡ length (now (known .entry)) ⌝ }
 {
-    let found = find_device_context(windows, image, registers, source);
+    let found = find_source_context(windows, image, registers, source);
     match found {
         Lookup::Fault(reason, _, _) => Listing::Fault(reason),
         Lookup::Found(context, _) => {

@@ -13,8 +13,8 @@ use borrow.Author.Needs.{needs}
 use Rattle.mapping.proofs.list_source.Statement.{statement}
 use Rattle.mapping.proofs.list_source.Tie as tie
 
-find-device-context-requires : tie.Need-find-device-context-requires
-find-device-context-requires c κs = search needs
+find-source-context-requires : tie.Need-find-source-context-requires
+find-source-context-requires c κs = search needs
 
 enum-known-found : tie.Need-enum-known-found
 enum-known-found c = search needs
@@ -28,7 +28,7 @@ list-context-requires c κs =
     let k = f .before .before .before .before .before in
     let a = k .args in (
       k .pre .0,
-      subst Finds (sym (f .find-device-context .ensures .0) ∙ ap lookupOf (c .before .before .before .found2 .given .1)) (finds (a .registers) (a .source .id) (ofWindows (a .windows .now) (a .image .now))),
+      subst Finds (sym (f .find-source-context .ensures) ∙ ap lookupOf (c .before .before .before .found2 .given .1)) (finds (a .registers) (a .source .id) (ofWindows (a .windows .now) (a .image .now))),
       k .pre .2,
       k .pre .3,
     )
@@ -38,7 +38,7 @@ returns c =
     let f = c .before .before .before in
     let a = f .before .before .before .before .before .args in (
       subst (λ (k : Mapped). ListedAs k (a .rows .now) (a .rows .now) (told.faulted (numberOf (c .before .found .given .0 .0))))
-          (sym (source-fault (a .registers) (ofWindows (a .windows .now) (a .image .now)) (tableOutside (a .windows .now)) (a .source .id) _ _ (sym (f .find-device-context .ensures .0) ∙ ap lookupOf (c .before .found .given .1))))
+          (sym (source-fault (a .registers) (ofWindows (a .windows .now) (a .image .now)) (tableOutside (a .windows .now)) (a .source .id) _ _ (sym (f .find-source-context .ensures) ∙ ap lookupOf (c .before .found .given .1))))
           (told-faulted _ (a .rows .now)),
       refl,
     )
@@ -56,7 +56,7 @@ returns-2 c =
     let f = e .before .before in
     let a = f .before .before .before .before .before .args in (
       subst (λ (k : Mapped). ListedAs k (a .rows .now) (l .list-context .last .1 .1 .1 .1 .1 .0) (toldAs (l .list-context .result)))
-          (sym (source-context (a .registers) (ofWindows (a .windows .now) (a .image .now)) (tableOutside (a .windows .now)) (a .source .id) _ (sym (f .find-device-context .ensures .0) ∙ ap lookupOf (e .found2 .given .1))))
+          (sym (source-context (a .registers) (ofWindows (a .windows .now) (a .image .now)) (tableOutside (a .windows .now)) (a .source .id) _ (sym (f .find-source-context .ensures) ∙ ap lookupOf (e .found2 .given .1))))
           (l .list-context .ensures .0),
       l .list-context .ensures .1,
     )
@@ -65,7 +65,7 @@ pub list-source-spec : {M : Type 1} → statement M
 list-source-spec =
     tie.close
     (tie.spec
-    find-device-context-requires
+    find-source-context-requires
     enum-known-found
     enum-known-found-2
     list-context-requires
