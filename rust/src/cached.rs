@@ -80,7 +80,15 @@ impl CachedUnit {
         let write = access == Access::Write;
         let (registers, cache) = (&self.registers, &mut self.cache);
         let answer = memory.lend(|windows, run| {
-            ffi::cached_request(registers, windows, run, cache, source.into(), address, write)
+            ffi::cached_request(
+                registers,
+                windows,
+                run,
+                cache,
+                source.into(),
+                address,
+                write,
+            )
         });
         answer.map_or(
             MemoryAnswer::Refused(Refusal::INTERFACE),
@@ -101,6 +109,8 @@ impl CachedUnit {
 
 impl fmt::Debug for CachedUnit {
     fn fmt(&self, f: &mut fmt::Formatter<'_>) -> fmt::Result {
-        f.debug_tuple("CachedUnit").field(&self.registers()).finish()
+        f.debug_tuple("CachedUnit")
+            .field(&self.registers())
+            .finish()
     }
 }

@@ -6,13 +6,16 @@ use crate::met::{Call, Met};
 use crate::recorder::wrong_length;
 use crate::tally::Tally;
 use cases::{bench, Random, World};
-use interface::{ANSWER_SIZE, RECORDER_SIZE, RECORDS_SIZE, REGISTERS_SIZE};
+use interface::{ANSWER_SIZE, CACHE_WORDS, RECORDER_SIZE, RECORDS_SIZE, REGISTERS_SIZE};
 
 /// The suite's name.
 pub const NAME: &str = "malformed";
 
 /// Calls.
-pub const CALLS: u64 = 19 * 500;
+pub const CALLS: u64 = KINDS * 500;
+
+/// Calls with what is wrong with them.
+const KINDS: u64 = 26;
 
 /// The arguments of any call.
 #[derive(Clone, PartialEq, Eq)]
@@ -20,6 +23,7 @@ struct Arguments {
     registers: Vec<u8>,
     windows: Vec<u64>,
     image: Vec<u8>,
+    cache: Vec<u64>,
     write: u8,
     answer: Vec<u8>,
     records: Vec<u8>,
@@ -90,15 +94,27 @@ fn spoil_windows(random: &mut Random, arguments: &mut Arguments) {
     }
 }
 
+/// Another length of the cache. The answer may be malformed too, which the cache comes before.
+fn spoil_cache(random: &mut Random, arguments: &mut Arguments) {
+    let lengths = [0, 1, CACHE_WORDS - 1, CACHE_WORDS + 1, 2 * CACHE_WORDS];
+    arguments
+        .cache
+        .resize(random.pick(&lengths), random.pick(&[0, 1, u64::MAX]));
+    if random.coin() {
+        resized(random, &mut arguments.answer);
+    }
+}
+
 /// What is called, and what is wrong with it.
 fn spoil(random: &mut Random, which: u64, arguments: &mut Arguments) -> (Call, u32) {
     match which {
-        0 | 1 | 12 | 16 => spoil_registers(random, &mut arguments.registers),
-        2 | 3 | 17 => resized(random, &mut arguments.answer),
-        4 => arguments.write = 2 + random.below(254) as u8,
+        0 | 1 | 12 | 16 | 19 => spoil_registers(random, &mut arguments.registers),
+        2 | 3 | 17 | 22 => resized(random, &mut arguments.answer),
+        4 | 23 => arguments.write = 2 + random.below(254) as u8,
         5 => spoil_recorded(random, &mut arguments.answer),
         6..=8 => spoil_overflow(random, &mut arguments.recorder),
-        13..=15 | 18 => spoil_windows(random, arguments),
+        13..=15 | 18 | 20 => spoil_windows(random, arguments),
+        21 | 24 | 25 => spoil_cache(random, arguments),
         _ => spoil_place(random, arguments),
     }
     match which {
@@ -120,7 +136,14 @@ fn spoil(random: &mut Random, which: u64, arguments: &mut Arguments) -> (Call, u
         15 => (Call::Take, 0x105),
         16 => (Call::Translation, 0x101),
         17 => (Call::Translation, 0x102),
-        _ => (Call::Translation, 0x105),
+        18 => (Call::Translation, 0x105),
+        19 => (Call::Cached, 0x101),
+        20 => (Call::Cached, 0x105),
+        21 => (Call::Cached, 0x108),
+        22 => (Call::Cached, 0x102),
+        23 => (Call::Cached, 0x103),
+        24 => (Call::InvalidateAll, 0x108),
+        _ => (Call::InvalidateDomain, 0x108),
     }
 }
 
@@ -129,6 +152,7 @@ fn call(which: Call, arguments: &mut Arguments) -> u32 {
         registers,
         windows,
         image,
+        cache,
         write,
         answer,
         records,
@@ -140,6 +164,14 @@ fn call(which: Call, arguments: &mut Arguments) -> u32 {
             let address = 0x4020_1ABC;
             interface::memory_request(registers, windows, image, source, address, *write, answer)
         }
+        Call::Cached => {
+            let address = 0x4020_1ABC;
+            interface::cached_request(
+                registers, windows, image, cache, source, address, *write, answer,
+            )
+        }
+        Call::InvalidateAll => interface::invalidate_all(cache),
+        Call::InvalidateDomain => interface::invalidate_domain(cache, 5),
         Call::Translation => {
             let address = 0x4020_1ABC;
             interface::translation_request(registers, windows, image, source, address, answer)
@@ -163,13 +195,14 @@ pub fn run(number: u64, tally: Option<&mut Tally>) -> Result<(), String> {
         registers: bytes::registers(&bench::REGISTERS).to_vec(),
         windows: interface::flat(world.image.len()).to_vec(),
         image: world.image,
+        cache: [0; CACHE_WORDS].to_vec(),
         write: 0,
         answer: [3; ANSWER_SIZE].to_vec(),
         records: [0xFF; RECORDS_SIZE].to_vec(),
         recorder: [0; RECORDER_SIZE].to_vec(),
     };
     debug_assert_eq!(before.registers.len(), REGISTERS_SIZE);
-    let (which, expected) = spoil(&mut random, number % 19, &mut before);
+    let (which, expected) = spoil(&mut random, number % KINDS, &mut before);
     let mut after = before.clone();
     let status = call(which, &mut after);
     if status != expected || after != before {

@@ -96,6 +96,12 @@ pub enum Call {
     Memory,
     /// `galitzaf_translation_request`.
     Translation,
+    /// `galitzaf_cached_request`.
+    Cached,
+    /// `galitzaf_invalidate_all`.
+    InvalidateAll,
+    /// `galitzaf_invalidate_domain`.
+    InvalidateDomain,
     /// `galitzaf_interrupt_request`.
     Interrupt,
     /// `galitzaf_take`.
@@ -258,6 +264,7 @@ fn said(status: u32) -> &'static str {
         0x103 => "bad kind",
         0x104 => "bad recorder",
         0x105 => "bad windows",
+        0x108 => "bad cache",
         _ => "something else",
     }
 }
@@ -267,6 +274,9 @@ impl fmt::Display for Call {
         f.write_str(match self {
             Call::Memory => "memory request",
             Call::Translation => "translation request",
+            Call::Cached => "cached request",
+            Call::InvalidateAll => "invalidate all",
+            Call::InvalidateDomain => "invalidate a domain",
             Call::Interrupt => "interrupt request",
             Call::Take => "take",
             Call::Record => "record",

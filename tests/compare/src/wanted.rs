@@ -95,6 +95,9 @@ fn malformed(wanted: &mut Vec<Met>) {
     for (call, statuses) in [
         (Call::Memory, [0x101, 0x102, 0x103, 0x105].as_slice()),
         (Call::Translation, &[0x101, 0x102, 0x105]),
+        (Call::Cached, &[0x101, 0x102, 0x103, 0x105, 0x108]),
+        (Call::InvalidateAll, &[0x108]),
+        (Call::InvalidateDomain, &[0x108]),
         (Call::Interrupt, &[0x101, 0x102, 0x105]),
         (Call::Take, &[0x101, 0x105]),
         (Call::Record, &[0x03, 0x102, 0x104]),

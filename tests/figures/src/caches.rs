@@ -72,14 +72,14 @@ const ROWS: [Row; 6] = [
         read: |_, random| {
             (
                 SOURCE,
-                START + (random.below(48) * 7 << 12) + 8 * random.below(512),
+                START + ((random.below(48) * 7) << 12) + 8 * random.below(512),
             )
         },
     },
     Row {
         name: "random over 24 pages of 4 KiB and 24 of 2 MiB",
         read: |_, random| match random.below(48) {
-            n if n < 24 => (SOURCE, START + (n * 7 << 12) + 8 * random.below(512)),
+            n if n < 24 => (SOURCE, START + ((n * 7) << 12) + 8 * random.below(512)),
             n => (SOURCE, LARGE + ((n - 24) << 21) + 8 * random.below(1 << 18)),
         },
     },
