@@ -15,7 +15,7 @@ use std::fmt;
 pub const NAME: &str = "caches";
 
 /// Runs.
-pub const RUNS: u64 = 8_000;
+pub const RUNS: u64 = 12_000;
 
 /// Bytes of an image.
 const LENGTH: usize = 0x8000;
