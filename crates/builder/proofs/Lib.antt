@@ -1,4 +1,0 @@
-pub mod Builds
-pub mod ItemLaws
-pub mod Readied
-pub mod Takes

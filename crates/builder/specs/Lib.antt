@@ -1,5 +1,0 @@
-pub mod Answers
-pub mod Build
-pub mod Items
-pub mod Ready
-pub mod Reasons
