@@ -7,6 +7,7 @@ mod decode;
 mod memory;
 mod setting;
 mod text;
+mod trace;
 
 use setting::Setting;
 use std::io::{Read, Write};
@@ -21,6 +22,8 @@ enum Problem {
     Usage(String),
     /// A file that can't be read, or a step in it that is bad.
     Bad(String),
+    /// A trace in which something is damaged or differs, with its lines.
+    Named(String),
 }
 
 impl From<String> for Problem {
@@ -40,6 +43,10 @@ fn main() -> ExitCode {
         Err(Problem::Bad(message)) => {
             eprintln!("{message}");
             ExitCode::from(1)
+        }
+        Err(Problem::Named(lines)) => {
+            print(&lines);
+            ExitCode::from(3)
         }
         Err(Problem::Usage(message)) => {
             eprintln!("galitzaf: {message}; try galitzaf --help");
@@ -64,6 +71,10 @@ fn command(words: &[&str]) -> Result<String, Problem> {
         ["probe", steps @ ..] if !steps.is_empty() => probe(&steps.join(" ")),
         ["decode", file] => Ok(decode::text(file, &read(file)?)?),
         ["decode", words @ ..] if words.len() > 1 => Ok(decode::words(words)?),
+        ["trace", "write", file, texts @ ..] if !texts.is_empty() => trace_write(file, texts),
+        ["trace", "read", file] => told(trace::read(&bytes(file)?)),
+        ["trace", "replay", file, texts @ ..] if !texts.is_empty() => trace_replay(file, texts),
+        ["trace", ..] => usage("trace write, read or replay which files?".to_string()),
         ["ask" | "decode"] => usage(format!("{} what?", words[0])),
         ["probe"] => usage("probe which step?".to_string()),
         [] => usage("no command".to_string()),
@@ -75,8 +86,8 @@ fn usage(message: String) -> Result<String, Problem> {
     Err(Problem::Usage(message))
 }
 
-/// A file's text, or that of standard input.
-fn read(file: &str) -> Result<String, String> {
+/// A file's bytes, or those of standard input.
+fn bytes(file: &str) -> Result<Vec<u8>, String> {
     let mut bytes = Vec::new();
     let got = if file == "-" {
         std::io::stdin().read_to_end(&mut bytes).map(|_| ())
@@ -84,7 +95,40 @@ fn read(file: &str) -> Result<String, String> {
         std::fs::read(file).map(|read| bytes = read)
     };
     got.map_err(|error| format!("{file}: {error}"))?;
-    String::from_utf8(bytes).map_err(|_| format!("{file}: expected text in UTF-8"))
+    Ok(bytes)
+}
+
+/// A file's text, or that of standard input.
+fn read(file: &str) -> Result<String, String> {
+    String::from_utf8(bytes(file)?).map_err(|_| format!("{file}: expected text in UTF-8"))
+}
+
+/// The lines of a trace.
+fn told(told: trace::Told) -> Result<String, Problem> {
+    if told.named {
+        return Err(Problem::Named(told.lines));
+    }
+    Ok(told.lines)
+}
+
+fn trace_write(file: &str, texts: &[&str]) -> Result<String, Problem> {
+    let mut setting = Setting::default();
+    let mut traced = Vec::new();
+    for text in texts {
+        traced.extend(setting.trace_all(text, &read(text)?)?);
+    }
+    let trace = trace::write(&traced)?;
+    std::fs::write(file, trace).map_err(|error| format!("{file}: {error}"))?;
+    Ok(String::new())
+}
+
+fn trace_replay(file: &str, texts: &[&str]) -> Result<String, Problem> {
+    let trace = bytes(file)?;
+    let mut setting = Setting::default();
+    for text in texts {
+        setting.answer_all(text, &read(text)?)?;
+    }
+    told(trace::replay(&trace, &mut setting))
 }
 
 fn ask(files: &[&str]) -> Result<String, Problem> {

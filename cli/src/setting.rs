@@ -4,7 +4,7 @@ use crate::answer;
 use crate::memory::{Memory, LONGEST};
 use crate::text::{self, expected, hex, quoted, Words};
 use galitzaf::{InterruptRequest, Levels, MemoryRequest, Registers, SourceId};
-use galitzaf::{TranslationRequest, Unit, Window};
+use galitzaf::{Traced, TranslationRequest, Unit, Window};
 
 /// What is to be answered.
 pub enum Request {
@@ -32,17 +32,59 @@ impl Setting {
     /// Takes the steps of a text and answers its requests, a line each.
     pub fn answer_all(&mut self, name: &str, text: &str) -> Result<String, String> {
         let mut answers = String::new();
+        self.each(name, text, |setting, request| {
+            answers += &setting.answer(&request);
+            answers.push('\n');
+        })?;
+        Ok(answers)
+    }
+
+    /// The same, and what is traced of them: requests of devices with their answers.
+    pub fn trace_all(&mut self, name: &str, text: &str) -> Result<Vec<Traced>, String> {
+        let mut traced = Vec::new();
+        self.each(name, text, |setting, request| {
+            traced.extend(setting.traced(&request));
+        })?;
+        Ok(traced)
+    }
+
+    /// Takes the steps of a text, and hands on each request as it comes.
+    fn each(
+        &mut self,
+        name: &str,
+        text: &str,
+        mut asked: impl FnMut(&mut Self, Request),
+    ) -> Result<(), String> {
         for (number, line) in text::lines(text) {
             let told = |message| format!("{name}:{number}: {message}");
             let mut words = Words::of(line);
             while let Some(word) = words.next() {
                 if let Some(request) = self.step(word, &mut words).map_err(told)? {
-                    answers += &self.answer(&request);
-                    answers.push('\n');
+                    asked(self, request);
                 }
             }
         }
-        Ok(answers)
+        Ok(())
+    }
+
+    /// A request with its answer. A take is no device's, but it changes memory.
+    fn traced(&mut self, request: &Request) -> Option<Traced> {
+        let unit = Unit::new(&self.registers);
+        let mut memory = self.memory.lent();
+        match *request {
+            Request::Memory(asked) => Some(Traced::Memory(asked, unit.memory(&memory, asked))),
+            Request::Translation(asked) => {
+                Some(Traced::Translation(asked, unit.translation(&memory, asked)))
+            }
+            Request::Interrupt(asked) => {
+                Some(Traced::Interrupt(asked, unit.interrupt(&mut memory, asked)))
+            }
+            Request::Take(at) => {
+                let _ = unit.take(&mut memory, at);
+                None
+            }
+            Request::Word(_) => None,
+        }
     }
 
     /// Takes one step, which begins with this word. A request is handed back.

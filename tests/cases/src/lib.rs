@@ -19,6 +19,7 @@ mod suites;
 mod windows;
 mod world;
 
+pub use damage::scratch;
 pub use random::Random;
 pub use suites::{Suite, SUITES};
 pub use world::{place, Entry, Request, World, PAGE};

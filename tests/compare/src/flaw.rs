@@ -78,11 +78,19 @@ pub enum Flaw {
     OldestAnswers,
     /// An invalidation by domain takes nothing out.
     DomainKept,
+    /// A block's sum weighs a byte by its place.
+    WeightByPlace,
+    /// A block's sum isn't looked at.
+    SumNotLookedAt,
+    /// A block's number isn't compared with its place.
+    NumberNotCompared,
+    /// A replay makes no posts.
+    ReplayWithoutPosts,
 }
 
 impl Flaw {
     /// Each of them.
-    pub const ALL: [Flaw; 38] = [
+    pub const ALL: [Flaw; 42] = [
         Flaw::Known(Slip::Index16),
         Flaw::Known(Slip::LastEntryRights),
         Flaw::Known(Slip::MaskLargeFrame),
@@ -121,6 +129,10 @@ impl Flaw {
         Flaw::HeldForAnySource,
         Flaw::OldestAnswers,
         Flaw::DomainKept,
+        Flaw::WeightByPlace,
+        Flaw::SumNotLookedAt,
+        Flaw::NumberNotCompared,
+        Flaw::ReplayWithoutPosts,
     ];
 
     /// Whether it can make a difference in a part.
@@ -168,6 +180,13 @@ impl Flaw {
                 | Flaw::DomainKept,
                 part,
             ) => matches!(part, Part::Caches),
+            (
+                Flaw::WeightByPlace
+                | Flaw::SumNotLookedAt
+                | Flaw::NumberNotCompared
+                | Flaw::ReplayWithoutPosts,
+                part,
+            ) => matches!(part, Part::Traces),
             (_, part) => matches!(part, Part::Recorder),
         }
     }

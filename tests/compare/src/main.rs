@@ -26,6 +26,7 @@ mod recorder;
 mod runs;
 mod takes;
 mod tally;
+mod traces;
 mod translations;
 mod wanted;
 mod windows;

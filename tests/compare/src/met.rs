@@ -2,6 +2,7 @@
 
 use crate::caches;
 use crate::meters::Seen;
+use crate::traces;
 use crate::translations;
 use crate::windows;
 use std::fmt;
@@ -87,6 +88,8 @@ pub enum Met {
     Translations(translations::Seen),
     /// A step of a run through a cache.
     Caches(caches::Seen),
+    /// A trace.
+    Traces(traces::Seen),
 }
 
 /// A call of the C interface.
@@ -220,6 +223,7 @@ impl fmt::Display for Met {
             Met::Windows(seen) => write!(f, "windows: {seen}"),
             Met::Translations(seen) => write!(f, "translation: {seen}"),
             Met::Caches(seen) => write!(f, "cache: {seen}"),
+            Met::Traces(seen) => write!(f, "trace: {seen}"),
         }
     }
 }

@@ -1,5 +1,5 @@
 //! The parts of a run: the suites of worlds, the recorder's sequences, runs of posts and takes, the
-//! malformed calls, the rows of meters, the translation requests, the runs through a cache.
+//! malformed calls, the rows of meters, the translation requests, the runs through a cache, the traces.
 
 use crate::caches;
 use crate::flaw::Flaw;
@@ -11,6 +11,7 @@ use crate::print::print_world;
 use crate::recorder::{self, Sequence};
 use crate::takes::{self, Run};
 use crate::tally::Tally;
+use crate::traces;
 use crate::translations;
 use cases::{Suite, World, SUITES};
 
@@ -31,6 +32,8 @@ pub enum Part {
     Translations,
     /// Requests through a cache.
     Caches,
+    /// Traces.
+    Traces,
 }
 
 impl Part {
@@ -43,6 +46,7 @@ impl Part {
             Part::Meters,
             Part::Translations,
             Part::Caches,
+            Part::Traces,
         ];
         SUITES.iter().map(Part::Worlds).chain(others)
     }
@@ -57,6 +61,7 @@ impl Part {
             Part::Meters => meters::NAME,
             Part::Translations => translations::NAME,
             Part::Caches => caches::NAME,
+            Part::Traces => traces::NAME,
         }
     }
 
@@ -70,6 +75,7 @@ impl Part {
             Part::Meters => meters::ROWS,
             Part::Translations => translations::worlds(),
             Part::Caches => caches::RUNS,
+            Part::Traces => traces::traces(),
         }
     }
 }
@@ -114,6 +120,10 @@ impl Runner {
                 translations::run(&self.world, self.flaw, tally)
             }
             Part::Caches => caches::Run::build(number).run(self.flaw, tally),
+            Part::Traces => {
+                traces::build(number, &mut self.world);
+                traces::run(number, &mut self.world, self.flaw, tally)
+            }
         }
     }
 
@@ -130,6 +140,7 @@ impl Runner {
             Part::Meters => Row::build(number).print(),
             Part::Translations => translations::print(number, &mut self.world),
             Part::Caches => caches::Run::build(number).print(),
+            Part::Traces => traces::print(number, &mut self.world),
         }
     }
 }

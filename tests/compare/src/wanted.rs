@@ -4,6 +4,7 @@ use crate::caches;
 use crate::met::{Call, Kind, Met};
 use crate::meters::Seen;
 use crate::recorder::SLOTS;
+use crate::traces;
 use crate::translations;
 use crate::windows;
 
@@ -160,5 +161,6 @@ pub fn all() -> Vec<Met> {
     let translations = translations::Seen::all().into_iter();
     wanted.extend(translations.map(Met::Translations));
     wanted.extend(caches::Seen::all().into_iter().map(Met::Caches));
+    wanted.extend(traces::Seen::all().into_iter().map(Met::Traces));
     wanted
 }

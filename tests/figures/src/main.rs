@@ -1,11 +1,12 @@
 //! Measures the proved unit beside the ordinary translator, in one process, over the same registers,
-//! images and requests, and prints a table; then reads through a cache of translations, and rows of meters
-//! beside a plain loop.
+//! images and requests, and prints a table; then reads through a cache of translations, rows of meters
+//! beside a plain loop, and traces.
 //!
 //!     figures                    the tables
 //!     figures --rows FROM TO     of the first table, rows from one number up to another, from 0
 //!     figures --meters           the meters' table alone
 //!     figures --caches           the caches' table alone
+//!     figures --traces           the traces' table alone
 //!     figures --counts           instructions alone, without times
 //!     figures --load ROW SIDE    one row's requests, some thousand of them, for valgrind to count
 //!     figures --meters ROW SIDE  one row's ticks, likewise
@@ -21,6 +22,7 @@ mod meters;
 mod rows;
 mod sides;
 mod time;
+mod traces;
 
 use load::Load;
 use rows::{Row, ROWS};
@@ -90,7 +92,9 @@ fn main() -> ExitCode {
             println!();
             let good = caches::print(true) && good;
             println!();
-            status(meters::print() && good)
+            let good = meters::print() && good;
+            println!();
+            status(traces::print() && good)
         }
         ["--rows", from, to] => {
             let (Ok(from), Ok(to)) = (from.parse::<usize>(), to.parse::<usize>()) else {
@@ -114,6 +118,7 @@ fn main() -> ExitCode {
             read.map_or(ExitCode::from(2), |()| ExitCode::SUCCESS)
         }
         [meters::ARGUMENT] => status(meters::print()),
+        [traces::ARGUMENT] => status(traces::print()),
         [meters::ARGUMENT, row, side] => {
             let ticked = row.parse().ok().and_then(|n| meters::counted(n, side));
             ticked.map_or(ExitCode::from(2), |()| ExitCode::SUCCESS)

@@ -12,8 +12,10 @@ use std::ops::Deref;
 #[path = "../../../rust/src/declared.rs"]
 mod declared;
 mod meters;
+mod traces;
 
 pub use meters::{reset_meters, tick_meters, Gates};
+pub use traces::{trace_append, trace_check, trace_close, trace_next, trace_replay, Asked};
 
 pub use declared::{ANSWER_SIZE, CACHE_WORDS, RECORDER_SIZE, RECORDS_SIZE, REGISTERS_SIZE};
 
