@@ -13,6 +13,7 @@ use Rattle.refused.specs.FirstBad.{NoneBad}
 use Rattle.answered.specs.Claims.{EntriesWell, EntriesTell}
 use Rattle.replay.specs.Replayed.{ReplayedInSteps}
 use Rattle.replay.specs.Claims.{ReplayedInOrder, NamedExactly, NoneOfItsOwn}
+use Rattle.galitzaf.specs.Traces.{AnswersTraced}
 use Rattle.faults.specs.Slots.{SlotCounts}
 use Rattle.faults.specs.Total.{OneLength, Total}
 use Rattle.dma.specs.Isolation.{Locality, AlwaysAnEntry, AccessMeansUnfetched, RightsOn, RightsOff, Unshared}
@@ -154,3 +155,4 @@ pub record Everything : Type 0 where
   pub replayed-in-order : ReplayedInOrder
   pub named-exactly : NamedExactly
   pub none-of-its-own : NoneOfItsOwn
+  pub answers-traced : AnswersTraced

@@ -3,3 +3,4 @@ pub mod FourWords
 pub mod Registers
 pub mod States
 pub mod Whole
+pub mod TracedAnswers

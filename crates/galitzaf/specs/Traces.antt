@@ -1,11 +1,25 @@
 -- A replay's call: malformed registers and windows first. The other calls on traces are those of trace_calls/specs/Calls.antt as they stand.
 use Prim.Native.Nat.{ℕ}
 use mathlib.Core.List.{List}
+use mathlib.Core.Path.{_≡_}
 use Rattle.image.specs.Choice.{if_then_else_}
-use Rattle.trace_calls.specs.Calls.{replayCall}
+use Rattle.registers.specs.declared.Registers.{Registers}
+use Rattle.dma.specs.Requests.{memoryAnswer, memoryAnswerPlace}
+use Rattle.dma.specs.declared.MemoryRequest.{MemoryRequest}
+use Rattle.translation.specs.Requests.{translationAnswer, translationAnswerPlace}
+use Rattle.translation.specs.declared.TranslationRequest.{TranslationRequest}
+use Rattle.interrupts.specs.Interrupts.{interruptAnswer, interruptAnswerPlace}
+use Rattle.interrupts.specs.declared.InterruptRequest.{InterruptRequest}
+use Rattle.traced.specs.Entry.{Fits}
+use Rattle.answered.specs.Answered.{kindOf}
+use Rattle.answered.specs.Claims.{memoryEntry, translationEntry, interruptEntry}
+use Rattle.trace_calls.specs.Calls.{asked, replayCall}
+use Rattle.trace_calls.specs.Packed.{packedIn}
+use Rattle.galitzaf.specs.Answer.{memoryBytes, interruptBytes}
 use Rattle.galitzaf.specs.Calls.{malformedWindows}
 use Rattle.galitzaf.specs.Registers.{malformedRegisters, unpacked}
 use Rattle.galitzaf.specs.Status.{badRegisters, badWindowCount}
+use Rattle.galitzaf.specs.Translations.{translationBytes}
 
 -- the status, the image, the next place, and the entry of the answer now, where it differs
 unfoldable pub traceReplayCall : (registers windows image bytes cursor entry : List ℕ) → ℕ × List ℕ × List ℕ × List ℕ
@@ -13,3 +27,19 @@ traceReplayCall registers windows image bytes cursor entry =
     if malformedRegisters registers then (badRegisters, image, cursor, entry)
     else if malformedWindows windows then (badWindowCount, image, cursor, entry)
     else replayCall (unpacked registers) windows image bytes cursor entry
+
+-- What is appended of a request with the bytes that its call answered is the entry of the request with its answer, each field of which fits
+-- its bytes, as it does in the code's types. Proved in proofs/TracedAnswers.antt.
+pub record AnswersTraced : Type 0 where
+  pub memory : (registers : Registers) (windows bytes : List ℕ) (q : MemoryRequest) → Fits (memoryEntry registers windows bytes q)
+      → packedIn (asked (kindOf (q .write)) (q .source .id) (q .address) 0)
+      (memoryBytes (memoryAnswer registers q windows bytes) (memoryAnswerPlace registers q windows bytes))
+      ≡ memoryEntry registers windows bytes q
+  pub translations : (registers : Registers) (windows bytes : List ℕ) (q : TranslationRequest) → Fits (translationEntry registers windows bytes q)
+      → packedIn (asked 4 (q .source .id) (q .address) 0)
+      (translationBytes (translationAnswer registers q windows bytes) (translationAnswerPlace registers q windows bytes))
+      ≡ translationEntry registers windows bytes q
+  pub interrupts : (registers : Registers) (windows bytes : List ℕ) (q : InterruptRequest) → Fits (interruptEntry registers windows bytes q)
+      → packedIn (asked 3 (q .source .id) (q .address) (q .«data»))
+      (interruptBytes (interruptAnswer registers q windows bytes) (interruptAnswerPlace registers q windows bytes))
+      ≡ interruptEntry registers windows bytes q
