@@ -262,7 +262,10 @@ fn malformed_entries() {
         let translation = with(fault, &[(0, 4), (2, kind)]);
         assert_eq!(translation, (0x01..=0x0D).contains(&kind));
         let page = |number, flags, low| {
-            with([0; 32], &[(0, 4), (1, 8), (2, number), (3, flags), (24, low)])
+            with(
+                [0; 32],
+                &[(0, 4), (1, 8), (2, number), (3, flags), (24, low)],
+            )
         };
         assert_eq!(page(kind, 0, 0), matches!(kind, 0 | 12 | 21 | 30));
         assert_eq!(page(kind, 3, 1), matches!(kind, 12 | 21 | 30));
@@ -490,4 +493,58 @@ fn replay() {
         all[15..]
     );
     assert_eq!(replay_trace(&BENCH, &windows, &mut image, &damaged), []);
+}
+
+/// Translation requests: a page with its size and rights, the empty answer, a
+/// fault, and with TE off their own address.
+#[test]
+fn translation_requests() {
+    let mut image = bench_image();
+    // TT 1.
+    set(&mut image, 0x2100, 0x3005);
+    let windows = whole(&image);
+    let asked = |address| TracedRequest::Translation {
+        source: SOURCE,
+        address,
+    };
+    let addresses = [
+        0x4020_1ABC,
+        0x4041_2345,
+        0x4020_2000,
+        0x4060_0000,
+        0xFEE0_0000,
+    ];
+    let mut entries = Vec::new();
+    let off = Registers { te: false, ..BENCH };
+    for registers in [&BENCH, &off] {
+        for request in addresses.map(asked) {
+            let answer = traced_answer(registers, &windows, &mut image, request);
+            entries.push(TraceEntry { request, answer });
+        }
+    }
+    let heads: Vec<[u8; 4]> = entries
+        .iter()
+        .map(|entry| {
+            let bytes = encode_entry(entry);
+            assert_eq!(decode_entry(&bytes).as_ref(), Some(entry));
+            [bytes[0], bytes[1], bytes[2], bytes[3]]
+        })
+        .collect();
+    let expected = [
+        [4, 8, 12, 1],
+        [4, 8, 21, 3],
+        [4, 8, 0, 0],
+        [4, 2, 7, 3],
+        [4, 1, 2, 0],
+        [4, 3, 0, 0],
+        [4, 3, 0, 0],
+        [4, 3, 0, 0],
+        [4, 3, 0, 0],
+        [4, 1, 2, 0],
+    ];
+    assert_eq!(heads, expected);
+    let trace = write_trace(&entries);
+    let differ = replay_trace(&BENCH, &windows, &mut image, &trace);
+    let places: Vec<u8> = differ.iter().map(|at| at.place).collect();
+    assert_eq!(places, [5, 6, 7, 8]);
 }
