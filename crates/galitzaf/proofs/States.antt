@@ -12,6 +12,7 @@ use Rattle.image.proofs.Words.{word-inside}
 use Rattle.faults.specs.Recorder.{outOfPlace}
 use Rattle.faults.proofs.Recording.{neither}
 use Rattle.galitzaf.specs.Buffer.{byte}
+use Rattle.galitzaf.specs.Answer.{lastKind}
 use Rattle.galitzaf.specs.Recording.{unfit, badFault}
 
 sized : (n m : ℕ) (test : Bool) → not (eqb n m) || test ≡ false → n ≡ m
@@ -41,13 +42,13 @@ module _ (answer : List ℕ) where
   unfolding badFault
   wrong-answer-length h = rw (ne-eqb _ _ h)
 
-  pub by-kind : length answer ≡ 32 → eqb (byte answer 0) 0 || ltb 8 (byte answer 0) ≡ badFault answer
+  pub by-kind : length answer ≡ 32 → eqb (byte answer 0) 0 || ltb lastKind (byte answer 0) ≡ badFault answer
   unfolding badFault
   by-kind h = rw (eq-eqb _ _ h)
 
   pub answer-length : badFault answer ≡ false → length answer ≡ 32
   unfolding badFault
-  answer-length = sized (length answer) 32 (eqb (byte answer 0) 0 || ltb 8 (byte answer 0))
+  answer-length = sized (length answer) 32 (eqb (byte answer 0) 0 || ltb lastKind (byte answer 0))
 
   -- a word of an answer
   pub word-of : badFault answer ≡ false → (at : ℕ) → at + 8 ≤ 32

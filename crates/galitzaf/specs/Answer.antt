@@ -16,6 +16,10 @@ use Rattle.galitzaf.specs.declared.answer.Packed.{Packed}
 abbrev pub laid : (kind one two three four eight last : ℕ) → List ℕ
 laid kind one two three four eight last = (kind ∷ one ∷ two ∷ three ∷ bytesOf 4 four) ++ bytesOf 16 eight ++ bytesOf 8 last
 
+-- the kinds: 1 blocked, 2 refused, 3 passed, 4 remapped, 5 posted, 6 granted, 7 translated, 8 empty
+abbrev pub lastKind : ℕ
+lastKind = 8
+
 -- byte 3 is 1 where bytes 31:24 are the address of the entry concerned
 abbrev pub blockedBytes : FaultAnswer → Place → List ℕ
 blockedBytes f noEntry = laid 1 (f .reason) (one-if (f .recordable)) 0 0 (f .contents) 0

@@ -8,6 +8,7 @@ use Rattle.image.specs.Choice.{if_then_else_}
 use Rattle.image.specs.Entries.{spell}
 use Rattle.faults.specs.Recorder.{After, refused, outOfPlace, recording, clearing, clearingOverflow}
 use Rattle.faults.specs.Slots.{slotsIn, one-if}
+use Rattle.galitzaf.specs.Answer.{lastKind}
 use Rattle.galitzaf.specs.Buffer.{byte, bytes}
 use Rattle.galitzaf.specs.Status.{badAnswer, badRecorder, noFault}
 
@@ -47,7 +48,7 @@ clearOverflowCall records recorder =
 
 -- not 32 bytes, or of no kind that a request answers
 unfoldable pub badFault : List ℕ → Bool
-badFault answer = not (eqb (length answer) 32) || (eqb (byte answer 0) 0 || ltb 8 (byte answer 0))
+badFault answer = not (eqb (length answer) 32) || (eqb (byte answer 0) 0 || ltb lastKind (byte answer 0))
 
 -- the record in bytes 23:8, by its two words
 abbrev pub recordIn : List ℕ → ℕ
