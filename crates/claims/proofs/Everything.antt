@@ -48,6 +48,7 @@ use Rattle.cases.proofs.PostsThroughWindows.{posts-through-windows}
 use Rattle.cases.proofs.Takes.{takes-met}
 use Rattle.cases.proofs.Translations.{translation-cases}
 use Rattle.claims.specs.Everything.{Everything}
+use Rattle.claims.proofs.FirstNamed.{first-named}
 use Rattle.claims.proofs.OneAnswer.{one-memory-answer, one-translation-answer, one-interrupt-answer, one-take-answer, one-reason}
 use Rattle.claims.proofs.OneWindow.{whole-in-one-window}
 
@@ -56,6 +57,7 @@ everything =
     record {
       leaves-all = leaves-all;
       none-bad = none-bad;
+      first-named = first-named;
       one-memory-answer = one-memory-answer;
       one-interrupt-answer = one-interrupt-answer;
       one-take-answer = one-take-answer;

@@ -34,6 +34,7 @@ use Rattle.cases.specs.InterruptFrames.{InterruptFrames}
 use Rattle.cases.specs.PostsThroughWindows.{PostsThroughWindows}
 use Rattle.cases.specs.Takes.{TakesMet}
 use Rattle.cases.specs.Translations.{TranslationCases}
+use Rattle.claims.specs.FirstNamed.{FirstNamed}
 use Rattle.claims.specs.OneAnswer.{OneMemoryAnswer, OneTranslationAnswer, OneInterruptAnswer, OneTakeAnswer, OneReason}
 use Rattle.claims.specs.OneWindow.{WholeInOneWindow}
 
@@ -41,6 +42,7 @@ pub record Everything : Type 0 where
   -- demand 1: nothing is changed by an answer that is no post; what refusal 1 is for
   pub leaves-all : LeavesAll
   pub none-bad : NoneBad
+  pub first-named : FirstNamed
   -- demand 2: one answer, the post, the index, the entry concerned, the recorder, the bench cases
   pub one-memory-answer : OneMemoryAnswer
   pub one-interrupt-answer : OneInterruptAnswer
