@@ -261,6 +261,8 @@ extern "C" {
 #define GALITZAF_FIRST_BAD_INTERRUPT_TABLE 0x75
 #define GALITZAF_FIRST_BAD_S 0x76
 #define GALITZAF_FIRST_BAD_WINDOW 0x78 /* first bad: 78h to 7Ch, the window's place in the array is added */
+#define GALITZAF_LISTING_PASSED 0x50 /* list: TE is off, or the context passes through */
+#define GALITZAF_LISTING_FAULT 0x80  /* list: of the root or context entry; the reason is added */
 #define GALITZAF_BAD_REGISTERS 0x101 /* not 24 bytes, or a bit set that has to be zero */
 #define GALITZAF_BAD_ANSWER 0x102    /* not 32 bytes, or, to be recorded, of no kind above, or, to be traced, no
                                         answer to a request of this kind */
@@ -272,6 +274,8 @@ extern "C" {
                                         isn't 512 bytes */
 #define GALITZAF_BAD_CACHE 0x108     /* not 776 numbers */
 #define GALITZAF_TAKEN 0x200         /* take: 200h to 2FFh, the vector handed out is added */
+#define GALITZAF_LISTED 0x2000       /* list: 2000h to 3000h, the count of spans is added */
+#define GALITZAF_LISTED_MORE 0x6000  /* list: the same, and there are more spans */
 
 /* Requests and takes tell what is malformed in this order: registers, windows, answer, write; then comes
  * refusal 1, and all else after it. image is the run, and image_len its length. */
@@ -345,6 +349,26 @@ GALITZAF_CHECK
 uint32_t galitzaf_first_bad(const uint8_t *registers, size_t registers_len,
                             const uint64_t *windows, size_t windows_len,
                             size_t image_len);
+
+/* Lists what is mapped for a source, in address order: four numbers a span, as many as spans has room for and at most 4,096.
+ * They are the first address, the size in bytes, the frame of a page or the reason of a fault or the number of a refusal,
+ * and in the last bits 1:0 the joined rights (1 read, 2 write) with the kind in 3:2: 0 a page, 1 a fault (07h or 0Ch), 2
+ * refused (4). A fault's rights are those of the entries above it. Numbers behind the last span stay as they were.
+ *
+ * known is lent to remember tables in: with GALITZAF_KNOWN numbers no table that lists nothing is gone through twice, so
+ * that no tables take long. With fewer, or none, the answer is the same. All of it is zero afterwards.
+ *
+ * Answers LISTED or LISTED_MORE with the count; refusal 1 as GALITZAF_REFUSED_1; LISTING_PASSED; LISTING_FAULT with the
+ * reason; or malformed registers or windows, and then neither buffer is written. */
+#define GALITZAF_SPANS 4096
+#define GALITZAF_KNOWN(image_len) (((image_len) / 4096 + 1) * 16)
+GALITZAF_CHECK
+uint32_t galitzaf_list_spans(const uint8_t *registers, size_t registers_len,
+                             const uint64_t *windows, size_t windows_len,
+                             const uint8_t *image, size_t image_len,
+                             uint16_t source,
+                             uint64_t *known, size_t known_len,
+                             uint64_t *spans, size_t spans_len);
 
 /* Records the fault of a request's answer. Every recorder call tells refusal 3 first: records or a state
  * of another length, a next slot or a slot to clear above the last. Here a malformed answer comes next, then

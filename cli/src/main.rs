@@ -4,6 +4,7 @@
 
 mod answer;
 mod decode;
+mod map;
 mod memory;
 mod setting;
 mod text;
@@ -69,13 +70,15 @@ fn command(words: &[&str]) -> Result<String, Problem> {
         ["--version"] => Ok(concat!("galitzaf ", env!("CARGO_PKG_VERSION"), "\n").to_string()),
         ["ask", files @ ..] if !files.is_empty() => ask(files),
         ["probe", steps @ ..] if !steps.is_empty() => probe(&steps.join(" ")),
+        ["map", files @ ..] if !files.is_empty() => Ok(map::listing(&mut set(files)?)),
+        ["picture", files @ ..] if !files.is_empty() => Ok(map::picture(&mut set(files)?)),
         ["decode", file] => Ok(decode::text(file, &read(file)?)?),
         ["decode", words @ ..] if words.len() > 1 => Ok(decode::words(words)?),
         ["trace", "write", file, texts @ ..] if !texts.is_empty() => trace_write(file, texts),
         ["trace", "read", file] => told(trace::read(&bytes(file)?)),
         ["trace", "replay", file, texts @ ..] if !texts.is_empty() => trace_replay(file, texts),
         ["trace", ..] => usage("trace write, read or replay which files?".to_string()),
-        ["ask" | "decode"] => usage(format!("{} what?", words[0])),
+        ["ask" | "decode" | "map" | "picture"] => usage(format!("{} what?", words[0])),
         ["probe"] => usage("probe which step?".to_string()),
         [] => usage("no command".to_string()),
         [other, ..] => usage(format!("no command `{other}`")),
@@ -138,6 +141,15 @@ fn ask(files: &[&str]) -> Result<String, Problem> {
         lines += &setting.answer_all(file, &read(file)?)?;
     }
     Ok(lines)
+}
+
+/// What the steps of files set; requests among them are not answered.
+fn set(files: &[&str]) -> Result<Setting, Problem> {
+    let mut setting = Setting::default();
+    for file in files {
+        setting.set_all(file, &read(file)?)?;
+    }
+    Ok(setting)
 }
 
 fn probe(steps: &str) -> Result<String, Problem> {

@@ -35,6 +35,11 @@ impl Memory {
         Ok(())
     }
 
+    /// How many bytes the run has.
+    pub fn length(&self) -> usize {
+        self.run.len()
+    }
+
     /// The memory as the unit takes it.
     pub fn lent(&mut self) -> galitzaf::Memory<'_, &mut [u8]> {
         if self.windows.is_empty() {

@@ -87,6 +87,21 @@ impl Setting {
         }
     }
 
+    /// Takes the steps of a text that has no requests.
+    pub fn set_all(&mut self, name: &str, text: &str) -> Result<(), String> {
+        for (number, line) in text::lines(text) {
+            let told = |message| format!("{name}:{number}: {message}");
+            let mut words = Words::of(line);
+            while let Some(word) = words.next() {
+                if self.step(word, &mut words).map_err(told)?.is_some() {
+                    let wanted = "a register, `size`, `window`, ADDRESS=WORD or `source`";
+                    return Err(told(quoted(wanted, word)));
+                }
+            }
+        }
+        Ok(())
+    }
+
     /// Takes one step, which begins with this word. A request is handed back.
     pub fn step(&mut self, word: &str, words: &mut Words) -> Result<Option<Request>, String> {
         if let Some((address, value)) = word.split_once('=') {

@@ -67,7 +67,11 @@ pub const FIRST_BAD_S: u32 = 0x76;
 pub const FIRST_BAD_WINDOW: u32 = 0x78;
 pub const BAD_ANSWER: u32 = 0x102;
 pub const BAD_TRACE: u32 = 0x107;
+pub const LISTING_FAULT: u32 = 0x80;
+pub const LISTING_PASSED: u32 = 0x90;
 pub const TAKEN: u32 = 0x200;
+pub const LISTED: u32 = 0x2000;
+pub const LISTED_MORE: u32 = 0x6000;
 
 extern "C" {
     pub fn galitzaf_memory_request(
@@ -147,6 +151,20 @@ extern "C" {
         windows: *const u64,
         windows_len: usize,
         image_len: usize,
+    ) -> u32;
+
+    pub fn galitzaf_list_spans(
+        registers: *const u8,
+        registers_len: usize,
+        windows: *const u64,
+        windows_len: usize,
+        image: *const u8,
+        image_len: usize,
+        source: u16,
+        known: *mut u64,
+        known_len: usize,
+        spans: *mut u64,
+        spans_len: usize,
     ) -> u32;
 
     pub fn galitzaf_record(

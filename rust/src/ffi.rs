@@ -165,6 +165,35 @@ pub(crate) fn first_bad(registers: &[u8; REGISTERS_SIZE], windows: &[Window], ru
     }
 }
 
+/// What the library said to a listing. A row has the four numbers of a span.
+pub(crate) fn list_spans(
+    registers: &[u8; REGISTERS_SIZE],
+    windows: &[Window],
+    image: &[u8],
+    source: u16,
+    known: &mut [u64],
+    rows: &mut [[u64; 4]],
+) -> u32 {
+    // SAFETY: each pointer and length is that of a live slice or array, windows taken as numbers and rows as
+    // four numbers each. `known` and `rows`, which are written, are lent by `&mut`, so that they overlap no
+    // other. None is kept after the call.
+    unsafe {
+        galitzaf_list_spans(
+            registers.as_ptr(),
+            registers.len(),
+            windows.as_ptr().cast(),
+            numbers(windows),
+            image.as_ptr(),
+            image.len(),
+            source,
+            known.as_mut_ptr(),
+            known.len(),
+            rows.as_mut_ptr().cast(),
+            rows.len().saturating_mul(4),
+        )
+    }
+}
+
 /// What the library said to a take.
 pub(crate) fn take(
     registers: &[u8; REGISTERS_SIZE],

@@ -68,6 +68,7 @@ mod declared;
 mod fault;
 mod ffi;
 mod first_bad;
+mod mapping;
 mod memory;
 mod meters;
 mod recorder;
@@ -84,6 +85,7 @@ pub use answer::{
 pub use cached::CachedUnit;
 pub use fault::{Fault, FaultRecord, Reason};
 pub use first_bad::FirstBad;
+pub use mapping::{known_numbers, Mapping, Span, SpanKind, Spans, MOST_SPANS};
 pub use memory::{Memory, Window};
 pub use meters::{Gate, Meters, MetersError};
 pub use recorder::{Recorded, Recorder, RecorderState};

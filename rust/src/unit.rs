@@ -4,7 +4,8 @@ use core::fmt;
 
 use crate::ffi::{self, REGISTERS_SIZE};
 use crate::{Access, FirstBad, InterruptAnswer, InterruptRequest, MemoryAnswer, MemoryRequest};
-use crate::{Memory, Refusal, Registers, TakeAnswer, TranslationAnswer, TranslationRequest};
+use crate::{Mapping, Memory, Refusal, Registers, SourceId, TakeAnswer, TranslationAnswer};
+use crate::TranslationRequest;
 
 /// A remapping unit: its registers, ready to answer requests over any guest memory.
 ///
@@ -142,6 +143,55 @@ impl Unit {
             TranslationAnswer::Refused(Refusal::INTERFACE),
             TranslationAnswer::decode,
         )
+    }
+
+    /// What is mapped for a source, in address order: its pages, and the faults in their place. The spans are
+    /// written to `rows`, as many as there is room for and at most [`MOST_SPANS`](crate::MOST_SPANS).
+    ///
+    /// `known` is lent to remember tables in. With [`known_numbers`](crate::known_numbers) of the memory's
+    /// length no table that lists nothing is gone through twice, so that no tables take long; with fewer, or
+    /// none, the answer is the same. It is zero afterwards.
+    ///
+    /// ```
+    /// use galitzaf::{known_numbers, Levels, Mapping, Memory, Registers, SourceId, Unit, MOST_SPANS};
+    ///
+    /// let unit = Unit::new(&Registers {
+    ///     haw: 39,
+    ///     mgaw: 48,
+    ///     levels: Levels { three: true, ..Levels::NONE },
+    ///     root_table: 0x1000,
+    ///     te: true,
+    ///     ..Registers::default()
+    /// });
+    /// let mut image = vec![0; 0x8000];
+    /// for (address, word) in [
+    ///     (0x1030, 0x2001u64), (0x2100, 0x3001), (0x2108, 0x501),
+    ///     (0x3008, 0x4003), (0x4008, 0x5003), (0x5008, 0x1234_5001), (0x4010, 0x9003),
+    /// ] {
+    ///     image[address..address + 8].copy_from_slice(&word.to_le_bytes());
+    /// }
+    ///
+    /// let mut known = vec![0; known_numbers(image.len())];
+    /// let mut rows = vec![[0; 4]; MOST_SPANS];
+    /// let source = SourceId::new(0x03, 0x10);
+    /// let Mapping::Spans(spans) = unit.mapping(&Memory::flat(&image), source, &mut known, &mut rows) else {
+    ///     panic!()
+    /// };
+    /// assert!(!spans.more());
+    /// let lines: Vec<String> = spans.map(|span| span.to_string()).collect();
+    /// assert_eq!(lines, ["40201000 1000 12345000 R-", "40400000 200000 fault 07"]);
+    /// ```
+    pub fn mapping<'a, R: AsRef<[u8]>>(
+        &self,
+        memory: &Memory<R>,
+        source: SourceId,
+        known: &mut [u64],
+        rows: &'a mut [[u64; 4]],
+    ) -> Mapping<'a> {
+        let status = memory.lend(|windows, run| {
+            ffi::list_spans(&self.registers, windows, run, source.into(), known, rows)
+        });
+        Mapping::decode(status, rows)
     }
 
     /// What becomes of an interrupt. Posting one sets its vector's request bit in memory and, where a

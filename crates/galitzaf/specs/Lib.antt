@@ -3,6 +3,7 @@ pub mod Buffer
 pub mod Caches
 pub mod Calls
 pub mod FirstBad
+pub mod Listing
 pub mod Meters
 pub mod Recording
 pub mod Registers

@@ -5,6 +5,7 @@
 mod common;
 mod image;
 mod interrupts;
+mod listings;
 mod memory;
 mod met;
 mod outcome;
