@@ -161,7 +161,11 @@ pub fn picture(setting: &mut Setting) -> String {
             SpanKind::Refused(refusal) => format!("refused {}", refusal.number()),
             _ => String::new(),
         };
-        lines += &format!("{:X}-{end:X}: {}, {what}{count}\n", run.start, bytes(run.size));
+        lines += &format!(
+            "{:X}-{end:X}: {}, {what}{count}\n",
+            run.start,
+            bytes(run.size)
+        );
     }
     if more {
         lines += "more\n";

@@ -3,9 +3,9 @@
 use core::fmt;
 
 use crate::ffi::{self, REGISTERS_SIZE};
+use crate::TranslationRequest;
 use crate::{Access, FirstBad, InterruptAnswer, InterruptRequest, MemoryAnswer, MemoryRequest};
 use crate::{Mapping, Memory, Refusal, Registers, SourceId, TakeAnswer, TranslationAnswer};
-use crate::TranslationRequest;
 
 /// A remapping unit: its registers, ready to answer requests over any guest memory.
 ///
