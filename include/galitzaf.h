@@ -261,8 +261,8 @@ extern "C" {
 #define GALITZAF_FIRST_BAD_INTERRUPT_TABLE 0x75
 #define GALITZAF_FIRST_BAD_S 0x76
 #define GALITZAF_FIRST_BAD_WINDOW 0x78 /* first bad: 78h to 7Ch, the window's place in the array is added */
-#define GALITZAF_LISTING_PASSED 0x50 /* list: TE is off, or the context passes through */
-#define GALITZAF_LISTING_FAULT 0x80  /* list: of the root or context entry; the reason is added */
+#define GALITZAF_LISTING_FAULT 0x80  /* list: 80h to 8Fh, the reason of the root or context entry is added */
+#define GALITZAF_LISTING_PASSED 0x90 /* list: TE is off, or the context passes through */
 #define GALITZAF_BAD_REGISTERS 0x101 /* not 24 bytes, or a bit set that has to be zero */
 #define GALITZAF_BAD_ANSWER 0x102    /* not 32 bytes, or, to be recorded, of no kind above, or, to be traced, no
                                         answer to a request of this kind */

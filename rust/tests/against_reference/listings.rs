@@ -93,6 +93,7 @@ fn world(random: &mut Random, registers: &Registers, source: SourceId) -> Vec<u8
         &[contexts | present, 0],
     );
     let types = random.pick(&[0, 0, 0, 0, 4, 4, 4, 8, 0xC]);
+    let here = u64::from(random.below(30) != 0);
     let inside = page(random);
     let top = random.pick(&[inside, inside, inside, PAGES << 12]);
     let width = random.pick(&[1, 1, 1, 2, 2, 3]);
@@ -100,7 +101,7 @@ fn world(random: &mut Random, registers: &Registers, source: SourceId) -> Vec<u8
         random,
         &mut image,
         contexts + 16 * (id & 0xFF),
-        &[top | types | 1, width],
+        &[top | types | here, width],
     );
     image
 }
