@@ -1,0 +1,16 @@
+-- The PASID directory entry: directory + 8 × PASID bits 19:6, 8 bytes. P 0, FPD 1, SMPTPTR 63:12.
+use Prim.Native.Nat.{ℕ}
+use mathlib.Core.Bool.{Bool, not, _||_}
+use Rattle.image.specs.Bits.{bit, anySet, inPlace}
+use Rattle.image.specs.Check.{Check, stop, go}
+use Rattle.image.specs.Choice.{if_then_else_}
+
+unfoldable pub directoryReserved : (haw e : ℕ) → Bool
+directoryReserved haw e = anySet e 11 2 || anySet e 63 haw
+
+-- 51h, 52h in this order; else on with the PASID table's address
+unfoldable pub directoryCheck : (haw e : ℕ) → Check ℕ
+directoryCheck haw e =
+    if not (bit e 0) then stop 0x51
+    else if directoryReserved haw e then stop 0x52
+    else go (inPlace e 63 12)

@@ -1,0 +1,7 @@
+pub mod Answers
+pub mod Context
+pub mod Directory
+pub mod Reason
+pub mod Record
+pub mod Root
+pub mod Table

@@ -1,0 +1,78 @@
+// A blocked request's answer, with its record.
+ghost use mathlib.Core.Path.{_≡_};
+ghost use Prim.Native.Nat.{_+_, _^_, _<_};
+ghost use Rattle.faults.specs.Answers.{highWord};
+ghost use Rattle.faults.specs.Record.{within};
+ghost use Rattle.pasid.specs.Answers.{faultOf};
+ghost use Rattle.pasid.specs.Reason.{numberOf};
+ghost use Rattle.pasid.specs.Record.{silenced, recordable, pasidWord, scalableFault};
+use crate::Pasid;
+use crate::reason::ScalableReason;
+use registers::Page4K;
+use registers::SourceId;
+
+// The record's 128 bits are two words, bit 64 the lowest of high.
+pub struct ScalableFault {
+    pub reason: ScalableReason,
+    pub recordable: bool,
+    pub low: u64,
+    pub high: u64,
+}
+
+fn lies_within(low: u8, high: u8, n: u8) -> bool
+    ensures { λ r. ⌜ r ≡ within low high n ⌝ }
+{
+    (low <= n) & (n <= high)
+}
+
+// Never root and access faults of the tables.
+fn may_record(fpd: bool, number: u8) -> bool
+    ensures { λ r. ⌜ r ≡ recordable fpd number ⌝ }
+{
+    !(fpd
+        & (lies_within(0x41, 0x47, number)
+            | lies_within(0x51, 0x52, number)
+            | lies_within(0x59, 0x5D, number)
+            | lies_within(0x70, 0x86, number)))
+}
+
+// Bits 127:64 of a record without PASID fields.
+fn high_word(source: u16, number: u8, read: bool) -> u64
+    ensures { λ r. ⌜ (r ≡ highWord source number read) × (r < 2 ^ 63 + 2 ^ 62 + 2 ^ 40) ⌝ }
+{
+    let word = source as u64 + number as u64 * 0x1_0000_0000 + 0x8000_0000_0000_0000;
+    if read {
+        word + 0x4000_0000_0000_0000
+    } else {
+        word
+    }
+}
+
+// PASID value in 123:104, PASID present in 95: bits 59:40 and 31 of the upper word.
+fn pasid_word(pasid: Pasid) -> u64
+    ensures { λ r. ⌜ (r ≡ pasidWord pasid) × (r < 2 ^ 61) ⌝ }
+{
+    if pasid.present {
+        return (pasid.value % 0x10_0000) as u64 * 0x100_0000_0000 + 0x8000_0000;
+    }
+    0
+}
+
+pub fn scalable_fault(
+    reason: ScalableReason,
+    fpd: bool,
+    source: SourceId,
+    address: u64,
+    write: bool,
+    pasid: Pasid,
+) -> ScalableFault
+    ensures { λ r. ⌜ faultOf r ≡ scalableFault (numberOf reason) fpd (source .id) address write pasid ⌝ }
+{
+    let number = reason.number();
+    ScalableFault {
+        reason,
+        recordable: may_record(fpd, number),
+        low: address / Page4K::SPAN * Page4K::SPAN,
+        high: high_word(source.id, number, !write) + pasid_word(pasid),
+    }
+}

@@ -1,0 +1,192 @@
+-- Laws of the lookup of a PASID table entry: what follows it, and what is known of an entry that it finds.
+use Prim.Native.Nat.{ℕ, _+_, _*_, _%_, _<_, _≤_}
+use mathlib.Core.Bool.{Bool, true, false, not, _&&_, _||_}
+use mathlib.Core.Path.{_≡_, refl, ap, sym, _∙_, subst}
+use native.Mathlib.Omega.{arith}
+use borrow.Author.Tests.{eqb-true}
+use lib.Dec.{eqb}
+use Rattle.image.specs.Bits.{bits, bit, inPlace}
+use Rattle.image.specs.Check.{Check, stop, go, onCheck}
+use Rattle.image.specs.Choice.{if_then_else_}
+use Rattle.image.specs.EntryKind.{EntryKind, wordsOf, rootEntry, scalableContextEntry, pasidDirectoryEntry, pasidTableEntry}
+use Rattle.registers.specs.Source.{busOf}
+use Rattle.image.specs.Memory.{Memory, Fetched, missing, found, entry, onFetch}
+use Rattle.image.specs.Place.{Place, lastTried}
+use Rattle.image.specs.Rules.{Rules, answer, fetch, run, Outside}
+use Rattle.image.proofs.Stages.{check-cases}
+use Rattle.dma.specs.Context.{widthSupported}
+use Rattle.dma.proofs.Steps.{past}
+use Rattle.pasid.specs.Context.{contextCheck}
+use Rattle.pasid.specs.Directory.{directoryCheck}
+use Rattle.pasid.specs.Root.{rootCheck}
+use Rattle.pasid.specs.declared.context.ScalableContext.{ScalableContext}
+use Rattle.pasid.specs.Table.{tableReserved, typeSupported, modeSupported, tableInvalid, pasidEntryOf, tableCheck}
+use Rattle.pasid.specs.declared.Pasid.{Pasid}
+use Rattle.pasid.specs.declared.ScalableRegisters.{ScalableRegisters}
+use Rattle.pasid.specs.declared.table.PasidEntry.{PasidEntry}
+use Rattle.scalable.specs.Lookup.{Lookup, pasidEntry, noPasidEntry, tableRules, directoryRules, contextRules, lookupRules}
+use Rattle.scalable.specs.Requests.{withoutEntry, lookedUp, translationRules, Walkable}
+use Rattle.scalable.proofs.Thens.{Ends, run-then, tried-then}
+
+module _ (r : ScalableRegisters) (address : ℕ) (write : Bool) where
+  abbrev Last : Lookup → Type 0
+  Last = Ends withoutEntry (lookedUp r address write)
+
+  -- all that the lookup answers to an entry that can't be fetched is a fault
+  outside-table : (c : ScalableContext) (fpd : Bool) (table : ℕ) → Outside Last (tableRules r c fpd table)
+  unfolding Outside tableRules
+  outside-table c fpd table = (
+    refl,
+    λ e.
+        check-cases (Outside Last) (tableCheck r (c .privileged) fpd e) (λ reason. noPasidEntry reason (fpd || bit e 1)) (λ p. answer (pasidEntry p))
+        (λ reason told. tt) (λ p told. tt),
+  )
+
+  outside-directory : (c : ScalableContext) → Outside Last (directoryRules r c)
+  unfolding Outside directoryRules
+  outside-directory c = (
+    refl,
+    λ e.
+        check-cases (Outside Last) (directoryCheck (r .base .haw) e) (λ reason. noPasidEntry reason (c .fpd || bit e 1)) (tableRules r c (c .fpd || bit e 1))
+        (λ reason told. tt) (λ table told. outside-table c (c .fpd || bit e 1) table),
+  )
+
+  outside-context : (pasid : Pasid) (source table : ℕ) → Outside Last (contextRules r pasid source table)
+  unfolding Outside contextRules
+  outside-context pasid source table = (
+    refl,
+    λ e.
+        check-cases (Outside Last) (contextCheck (r .base .haw) pasid e) (λ reason. noPasidEntry reason (bit e 1)) (directoryRules r)
+        (λ reason told. tt) (λ c told. outside-directory c),
+  )
+
+  outside : (pasid : Pasid) (source : ℕ) → Outside Last (lookupRules r pasid source)
+  unfolding Outside lookupRules
+  outside pasid source = (
+    refl,
+    λ e.
+        check-cases (Outside Last) (rootCheck (r .base .haw) (bit source 7) e) (λ reason. noPasidEntry reason false) (contextRules r pasid source)
+        (λ reason told. tt) (λ table told. outside-context pasid source table),
+  )
+
+  module _ (pasid : Pasid) (source : ℕ) (m : Memory) where
+    pub looked-up : run (translationRules r address write pasid source) m
+        ≡ run (lookedUp r address write (run (lookupRules r pasid source) m)) m
+    looked-up = run-then withoutEntry (lookedUp r address write) (lookupRules r pasid source) m (outside pasid source)
+
+    pub looked-up-at : (before : Place) → lastTried before (translationRules r address write pasid source) m
+        ≡ lastTried (lastTried before (lookupRules r pasid source) m) (lookedUp r address write (run (lookupRules r pasid source) m)) m
+    looked-up-at before = tried-then withoutEntry (lookedUp r address write) before (lookupRules r pasid source) m (outside pasid source)
+
+-- an entry of a unit without first level and nested translation
+module _ (r : ScalableRegisters) (no-first : r .flts ≡ false) (no-nested : r .nest ≡ false) where
+  either : (a b : Bool) → (a || b) ≡ false → (a ≡ false) × (b ≡ false)
+  either true b h = let z : _≡_ {A = ℕ} 0 1 = cc in absurd (omega arith)
+  either false b h = (refl, h)
+
+  -- PGTT is 2 where it isn't 4
+  second : (pgtt : ℕ) → not (typeSupported r pgtt) ≡ false → (pgtt ≡ 4 → ⊥) → pgtt ≡ 2
+  second pgtt h other = one (eqb pgtt 1) refl h
+    where
+      four : (t : Bool) → eqb pgtt 4 ≡ t → not (if t then r .pt else false) ≡ false → pgtt ≡ 2
+      four true q h = absurd (other (eqb-true pgtt 4 q))
+      four false q h = let z : _≡_ {A = ℕ} 0 1 = cc in absurd (omega arith)
+
+      three : (t : Bool) → eqb pgtt 3 ≡ t → not (if t then r .nest else if eqb pgtt 4 then r .pt else false) ≡ false → pgtt ≡ 2
+      three true q h = let x : not false ≡ false = rw no-nested at h in let z : _≡_ {A = ℕ} 0 1 = cc in absurd (omega arith)
+      three false q h = four (eqb pgtt 4) refl h
+
+      two : (t : Bool) → eqb pgtt 2 ≡ t
+          → not (if t then r .slts else if eqb pgtt 3 then r .nest else if eqb pgtt 4 then r .pt else false) ≡ false → pgtt ≡ 2
+      two true q h = eqb-true pgtt 2 q
+      two false q h = three (eqb pgtt 3) refl h
+
+      one : (t : Bool) → eqb pgtt 1 ≡ t
+          → not (if t then r .flts else if eqb pgtt 2 then r .slts else if eqb pgtt 3 then r .nest else if eqb pgtt 4 then r .pt else false) ≡ false
+          → pgtt ≡ 2
+      one true q h = let x : not false ≡ false = rw no-first at h in let z : _≡_ {A = ℕ} 0 1 = cc in absurd (omega arith)
+      one false q h = two (eqb pgtt 2) refl h
+
+  width : (aw : ℕ) → not (widthSupported (r .base) aw) ≡ false → aw ≤ 3
+  width aw h = one (eqb aw 1) refl h
+    where
+      three : (t : Bool) → eqb aw 3 ≡ t → not (if t then r .base .levels5 else false) ≡ false → aw ≤ 3
+      three true q h = omega (arith, eqb-true aw 3 q)
+      three false q h = let z : _≡_ {A = ℕ} 0 1 = cc in absurd (omega arith)
+
+      two : (t : Bool) → eqb aw 2 ≡ t → not (if t then r .base .levels4 else if eqb aw 3 then r .base .levels5 else false) ≡ false → aw ≤ 3
+      two true q h = omega (arith, eqb-true aw 2 q)
+      two false q h = three (eqb aw 3) refl h
+
+      one : (t : Bool) → eqb aw 1 ≡ t
+          → not (if t then r .base .levels3 else if eqb aw 2 then r .base .levels4 else if eqb aw 3 then r .base .levels5 else false) ≡ false → aw ≤ 3
+      one true q h = omega (arith, eqb-true aw 1 q)
+      one false q h = two (eqb aw 2) refl h
+
+  walkable : (privileged fpd : Bool) (e : ℕ) {p : PasidEntry} → tableCheck r privileged fpd e ≡ go p → Walkable p
+  unfolding tableCheck tableInvalid
+  walkable privileged fpd e {p} h =
+      let h1 = past (not (bit e 0)) 0x59 _ p h in
+      let h2 = past (tableReserved r e) 0x5A _ p (h1 .1) in
+      let h3 = past (tableInvalid r e) 0x5B _ p (h2 .1) in
+      let h4 = past (privileged && not (bit e 128)) 0x5D _ p (h3 .1) in
+      let says : go (pasidEntryOf privileged fpd e) ≡ go p = h4 .1 in
+      let is : p ≡ pasidEntryOf privileged fpd e = cc in
+      let kinds = not (typeSupported r (bits e 8 6)) in
+      let widths = (eqb (bits e 8 6) 2 || eqb (bits e 8 6) 3) && not (widthSupported (r .base) (bits e 4 2)) in
+      let valid = either (kinds || widths) ((eqb (bits e 8 6) 1 || eqb (bits e 8 6) 3) && not (modeSupported r (bits e 131 130))) (h3 .0) .0 in
+      let parts = either kinds widths valid in
+      rw is
+      (λ other.
+      let two = second (bits e 8 6) (parts .0) other in
+      let aw : not (widthSupported (r .base) (bits e 4 2)) ≡ false = rw two at (parts .1) in
+      (omega arith, omega (arith, width (bits e 4 2) aw), omega arith))
+
+  abbrev pub Finds : Lookup → Type 0
+  Finds (pasidEntry p) = Walkable p
+  Finds (noPasidEntry reason fpd) = Unit {0}
+
+  read : (kind : EntryKind) (at : ℕ) (a : Lookup) (next : ℕ → Rules Lookup) (m : Memory) → Finds a → ((e : ℕ) → Finds (run (next e) m))
+      → Finds (run (fetch kind at a next) m)
+  unfolding run
+  read kind at a next m none some = by (entry (wordsOf kind) m at)
+    where
+      by : (f : Fetched) → Finds (onFetch f a (λ e. run (next e) m))
+      by missing = none
+      by (found e) = some e
+
+  answered : (a : Lookup) (m : Memory) → Finds a → Finds (run (answer a) m)
+  unfolding run
+  answered a m h = h
+
+  finds-table : (c : ScalableContext) (fpd : Bool) (table : ℕ) (m : Memory) → Finds (run (tableRules r c fpd table) m)
+  unfolding tableRules
+  finds-table c fpd table m =
+      read pasidTableEntry (table + 64 * bits (c .pasid) 5 0) (noPasidEntry 0x58 fpd) _ m tt
+      (λ e.
+      check-cases (λ q. Finds (run q m)) (tableCheck r (c .privileged) fpd e) (λ reason. noPasidEntry reason (fpd || bit e 1)) (λ p. answer (pasidEntry p))
+      (λ reason told. answered (noPasidEntry reason (fpd || bit e 1)) m tt) (λ p told. answered (pasidEntry p) m (walkable (c .privileged) fpd e told)))
+
+  finds-directory : (c : ScalableContext) (m : Memory) → Finds (run (directoryRules r c) m)
+  unfolding directoryRules
+  finds-directory c m =
+      read pasidDirectoryEntry (c .directory + 8 * bits (c .pasid) 19 6) (noPasidEntry 0x50 (c .fpd)) _ m tt
+      (λ e.
+      check-cases (λ q. Finds (run q m)) (directoryCheck (r .base .haw) e) (λ reason. noPasidEntry reason (c .fpd || bit e 1))
+      (tableRules r c (c .fpd || bit e 1)) (λ reason told. answered (noPasidEntry reason (c .fpd || bit e 1)) m tt) (λ table told. finds-table c (c .fpd || bit e 1) table m))
+
+  finds-context : (pasid : Pasid) (source table : ℕ) (m : Memory) → Finds (run (contextRules r pasid source table) m)
+  unfolding contextRules
+  finds-context pasid source table m =
+      read scalableContextEntry (table + 32 * bits source 6 0) (noPasidEntry 0x40 false) _ m tt
+      (λ e.
+      check-cases (λ q. Finds (run q m)) (contextCheck (r .base .haw) pasid e) (λ reason. noPasidEntry reason (bit e 1)) (directoryRules r)
+      (λ reason told. answered (noPasidEntry reason (bit e 1)) m tt) (λ c told. finds-directory c m))
+
+  pub finds : (pasid : Pasid) (source : ℕ) (m : Memory) → Finds (run (lookupRules r pasid source) m)
+  unfolding lookupRules
+  finds pasid source m =
+      read rootEntry (r .base .«root_table» + 16 * busOf source) (noPasidEntry 0x38 false) _ m tt
+      (λ e.
+      check-cases (λ q. Finds (run q m)) (rootCheck (r .base .haw) (bit source 7) e) (λ reason. noPasidEntry reason false) (contextRules r pasid source)
+      (λ reason told. answered (noPasidEntry reason false) m tt) (λ table told. finds-context pasid source table m))

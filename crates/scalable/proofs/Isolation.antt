@@ -1,0 +1,160 @@
+-- Every answer to an entry that can't be fetched is an access fault, so any other is settled by the named words.
+use Prim.Native.Nat.{ℕ, zero, suc}
+use mathlib.Core.Bool.{Bool, true, false, _||_}
+use mathlib.Core.Path.{_≡_, refl, ap, ap₂, sym, _∙_}
+use native.Mathlib.Omega.{arith}
+use Rattle.image.specs.Bits.{bit}
+use Rattle.image.specs.Choice.{if_then_else_}
+use Rattle.image.specs.Place.{noEntry}
+use Rattle.image.specs.Rules.{Rules, answer, fetch, run, mapRules, Outside}
+use Rattle.image.proofs.Local.{local}
+use Rattle.image.proofs.Places.{local-place}
+use Rattle.image.proofs.Stages.{check-cases}
+use Rattle.image.proofs.Trees.{met, outside-map, outside-if}
+use Rattle.registers.specs.Admission.{Admitted, refusal, pass, takenUp, admission, onAdmission, inInterruptRange}
+use Rattle.dma.specs.Requests.{MemoryOutcome, granted, blocked, refused, concerned}
+use Rattle.dma.specs.Translation.{overflows}
+use Rattle.dma.specs.Walk.{Step, done, down, onStep, placeIn, walkRules}
+use Rattle.pasid.specs.Context.{contextCheck}
+use Rattle.pasid.specs.Directory.{directoryCheck}
+use Rattle.pasid.specs.Record.{scalableFault}
+use Rattle.pasid.specs.Root.{rootCheck}
+use Rattle.pasid.specs.Table.{tableCheck}
+use Rattle.pasid.specs.declared.Pasid.{Pasid}
+use Rattle.pasid.specs.declared.ScalableRegisters.{ScalableRegisters}
+use Rattle.pasid.specs.declared.context.ScalableContext.{ScalableContext}
+use Rattle.pasid.specs.declared.table.PasidEntry.{PasidEntry}
+use Rattle.scalable.specs.Isolation.{accessReason, accessFault, ScalableLocality}
+use Rattle.scalable.specs.Lookup.{Lookup, pasidEntry, noPasidEntry, tableRules, directoryRules, contextRules, lookupRules}
+use Rattle.scalable.specs.Requests.{Translation, through, walked, pasidTooWide, secondLevelOnly, wantedFor, withoutEntry, lookedUp, typeRules, translationRules, scalableOutcome, takenRules, scalableRules}
+use Rattle.scalable.specs.Second.{Walked, page, fault, atTop, unfetchable, secondStep, secondRules}
+use Rattle.scalable.specs.Then.{thenRules}
+use Rattle.scalable.specs.declared.ScalableRequest.{ScalableRequest}
+use Rattle.scalable.specs.declared.second.Above.{Above}
+use lib.Dec.{eqb}
+
+outside-then : {A B : Type 0} (Kind : B → Type 0) (ended : A → B) (next : A → Rules B) (q : Rules A) → Outside (λ a. Kind (ended a)) q
+    → ((a : A) → Outside Kind (next a)) → Outside Kind (thenRules ended next q)
+unfolding Outside thenRules
+outside-then Kind ended next (answer a) h after = after a
+outside-then Kind ended next (fetch kind at outside rest) h after = (h .0, λ e. outside-then Kind ended next (rest e) (h .1 e) after)
+
+-- a walk by levels, over any format of its entries
+outside-walk : {S A : Type 0} (Kind : A → Type 0) (address : ℕ) (none : S → A) (step : (level place : ℕ) → S → (e : ℕ) → Step S A)
+    → ((s : S) → Kind (none s)) → (level table : ℕ) (s : S) → Outside Kind (walkRules address none step level table s)
+unfolding Outside walkRules
+outside-walk Kind address none step lost zero table s = tt
+outside-walk {S} {A} Kind address none step lost (suc n) table s =
+    (lost s, λ e. on (step (suc n) (placeIn address table n) s e) (outside-walk Kind address none step lost n))
+  where
+    on : (x : Step S A) → ((table : ℕ) (s : S) → Outside Kind (walkRules address none step n table s))
+        → Outside Kind (onStep x answer (walkRules address none step n))
+    on (done a) ih = tt
+    on (down next t) ih = ih next t
+
+-- a translation that an access fault ends
+abbrev Access : Translation → Type 0
+Access through = ⊥
+Access (walked (page frame level writable)) = ⊥
+Access (walked (fault reason fpd)) = accessReason reason ≡ true
+
+abbrev Lost : Lookup → Type 0
+Lost l = Access (withoutEntry l)
+
+module _ (r : ScalableRegisters) where
+  lost-table : (c : ScalableContext) (fpd : Bool) (table : ℕ) → Outside Lost (tableRules r c fpd table)
+  unfolding Outside tableRules
+  lost-table c fpd table = (
+    refl,
+    λ e.
+        check-cases (Outside Lost) (tableCheck r (c .privileged) fpd e) (λ reason. noPasidEntry reason (fpd || bit e 1)) (λ p. answer (pasidEntry p))
+        (λ reason told. tt) (λ p told. tt),
+  )
+
+  lost-directory : (c : ScalableContext) → Outside Lost (directoryRules r c)
+  unfolding Outside directoryRules
+  lost-directory c = (
+    refl,
+    λ e.
+        check-cases (Outside Lost) (directoryCheck (r .base .haw) e) (λ reason. noPasidEntry reason (c .fpd || bit e 1)) (tableRules r c (c .fpd || bit e 1))
+        (λ reason told. tt) (λ table told. lost-table c (c .fpd || bit e 1) table),
+  )
+
+  lost-context : (pasid : Pasid) (source table : ℕ) → Outside Lost (contextRules r pasid source table)
+  unfolding Outside contextRules
+  lost-context pasid source table = (
+    refl,
+    λ e.
+        check-cases (Outside Lost) (contextCheck (r .base .haw) pasid e) (λ reason. noPasidEntry reason (bit e 1)) (directoryRules r)
+        (λ reason told. tt) (λ c told. lost-directory c),
+  )
+
+  lost : (pasid : Pasid) (source : ℕ) → Outside Lost (lookupRules r pasid source)
+  unfolding Outside lookupRules
+  lost pasid source = (
+    refl,
+    λ e.
+        check-cases (Outside Lost) (rootCheck (r .base .haw) (bit source 7) e) (λ reason. noPasidEntry reason false) (contextRules r pasid source)
+        (λ reason told. tt) (λ table told. lost-context pasid source table),
+  )
+
+  top-or-not : (t fpd : Bool) → Access (walked (fault (if t then 0x7B else 0x78) fpd))
+  top-or-not true fpd = refl
+  top-or-not false fpd = refl
+
+  lost-type : (address : ℕ) (write : Bool) (p : PasidEntry) → Outside Access (typeRules r address write p)
+  unfolding Outside typeRules
+  lost-type address write p =
+      outside-if Access (eqb (p .kind) 4) (answer through) _ tt
+      (outside-if Access (overflows (r .base) (p .«second_levels») address) (answer (walked (fault 0x84 (p .fpd)))) _ tt
+      (outside-map walked Access (secondRules r p (wantedFor write) address (p .«second_levels») (p .«second_top») atTop)
+      (outside-walk (λ w. Access (walked w)) address (unfetchable r p (wantedFor write)) (secondStep r p (wantedFor write))
+      (λ above. top-or-not (above .top) (p .fpd)) (p .«second_levels») (p .«second_top») atTop)))
+
+  follows : (address : ℕ) (write : Bool) (l : Lookup) → Outside Access (lookedUp r address write l)
+  unfolding Outside
+  follows address write (pasidEntry p) = lost-type address write p
+  follows address write (noPasidEntry reason fpd) = tt
+
+told : (q : ScalableRequest) (t : Translation) → Access t → accessFault (scalableOutcome q t) ≡ true
+unfolding scalableFault
+told q through h = absurd h
+told q (walked (page frame level writable)) h = absurd h
+told q (walked (fault reason fpd)) h = h
+
+abbrev Fault : MemoryOutcome → Type 0
+Fault o = accessFault o ≡ true
+
+outside-weaken : {A : Type 0} (Kind Kind′ : A → Type 0) → ((a : A) → Kind a → Kind′ a) → (q : Rules A) → Outside Kind q → Outside Kind′ q
+unfolding Outside
+outside-weaken Kind Kind′ so (answer a) h = tt
+outside-weaken Kind Kind′ so (fetch kind at outside next) h = (so outside (h .0), λ e. outside-weaken Kind Kind′ so (next e) (h .1 e))
+
+outside-taken : (r : ScalableRegisters) (q : ScalableRequest) → Outside Fault (takenRules r q)
+unfolding Outside
+outside-taken r q =
+    let unit = secondLevelOnly r in
+    let rules = translationRules unit (q .address) (q .write) (q .pasid) (q .source .id) in
+    outside-if Fault (pasidTooWide (q .pasid)) (answer (refused 6)) _ tt
+    (outside-map (scalableOutcome q) Fault rules
+    (outside-weaken Access (λ t. Fault (scalableOutcome q t)) (told q) rules
+    (outside-then Access withoutEntry (lookedUp unit (q .address) (q .write)) (lookupRules unit (q .pasid) (q .source .id))
+    (lost unit (q .pasid) (q .source .id)) (follows unit (q .address) (q .write)))))
+
+outside-request : (r : ScalableRegisters) (q : ScalableRequest) → Outside Fault (scalableRules r q)
+unfolding Outside scalableRules
+outside-request r q = by (admission (r .base) (inInterruptRange (q .address)) (r .base .te))
+  where
+    by : (a : Admitted)
+        → Outside Fault (onAdmission a refused (if pasidTooWide (q .pasid) then refused 6 else granted (q .address)) (takenRules r q))
+    by (refusal n) = tt
+    by pass = tt
+    by takenUp = outside-taken r q
+
+pub scalable-locality : ScalableLocality
+scalable-locality registers request m m′ answered same =
+    let q = scalableRules registers request in
+    let no-access : accessFault (run q m) ≡ true → ⊥ = λ ended. let z : _≡_ {A = Bool} true false = sym ended ∙ answered in let y : _≡_ {A = ℕ} 0 1 = cc in omega arith in
+    let all = met Fault q m (outside-request registers request) no-access in
+    let alike = local q m m′ all same in
+    (sym alike, sym (ap₂ concerned alike (local-place noEntry q m m′ all same)))

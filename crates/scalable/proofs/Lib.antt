@@ -1,0 +1,9 @@
+pub mod Admitted
+pub mod Examples
+pub mod Fetches
+pub mod Found
+pub mod Isolation
+pub mod Pairs
+pub mod Seconds
+pub mod Tables
+pub mod Thens

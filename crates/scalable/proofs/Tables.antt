@@ -1,0 +1,89 @@
+-- What the checks ensure of the tables that entries lead to, and where a PASID's entries are.
+use Prim.Native.Nat.{ℕ, _+_, _*_, _/_, _%_, _^_, _≤_, _<_}
+use mathlib.Core.Bool.{Bool, true, false, not, _&&_, _||_}
+use mathlib.Core.Path.{_≡_, refl, ap, sym, _∙_}
+use native.Mathlib.Nat.{div-one, lt-of-lt-of-le, le-trans}
+use native.Mathlib.Omega.{arith}
+use lib.Dec.{leb}
+use lib.Pow.{pow-mono}
+use borrow.Author.Tests.{leb-false}
+use Rattle.image.specs.Bits.{bits, bit, anySet, inPlace}
+use Rattle.image.specs.Check.{go}
+use Rattle.image.specs.Choice.{if_then_else_}
+use Rattle.image.proofs.Fields.{fits, in-place-le}
+use Rattle.dma.proofs.Address.{above}
+use Rattle.dma.proofs.Steps.{past}
+use Rattle.pasid.specs.Context.{contextReserved, beyond, contextInvalid, pasidOf, contextOf, contextCheck, Usable}
+use Rattle.pasid.specs.Directory.{directoryReserved, directoryCheck}
+use Rattle.pasid.specs.Root.{half, rootReserved, rootCheck}
+use Rattle.pasid.specs.declared.Pasid.{Pasid}
+use Rattle.pasid.specs.declared.context.ScalableContext.{ScalableContext}
+
+pub root-aligned : (haw : ℕ) (upper : Bool) (e : ℕ) {a : ℕ} → go a ≡ rootCheck haw upper e → a % 4096 ≡ 0
+unfolding rootCheck
+root-aligned haw upper e {a} h =
+    let h1 = past (not (bit (half upper e) 0)) 0x39 _ a (sym h) in
+    let h2 = past (rootReserved haw e) 0x3A _ a (h1 .1) in
+    let leads : go (inPlace (half upper e) 63 12) ≡ go a = h2 .1 in
+    let same : a ≡ inPlace (half upper e) 63 12 = cc in
+    rw same (omega arith)
+
+pub directory-aligned : (haw e : ℕ) {a : ℕ} → go a ≡ directoryCheck haw e → a % 4096 ≡ 0
+unfolding directoryCheck
+directory-aligned haw e {a} h =
+    let h1 = past (not (bit e 0)) 0x51 _ a (sym h) in
+    let h2 = past (directoryReserved haw e) 0x52 _ a (h1 .1) in
+    let leads : go (inPlace e 63 12) ≡ go a = h2 .1 in
+    let same : a ≡ inPlace e 63 12 = cc in
+    rw same (omega arith)
+
+-- a PASID that the directory holds has 20 bits
+below-range : (e pasid : ℕ) → beyond e pasid ≡ false → pasid < 2 ^ 20
+below-range e pasid h =
+    lt-of-lt-of-le (leb-false (2 ^ (bits e 11 9 + 13)) pasid h) (pow-mono {j = 20} (omega (arith, fits e 11 9)))
+
+either : (a b : Bool) → (a || b) ≡ false → (a ≡ false) × (b ≡ false)
+either true b h = let z : _≡_ {A = ℕ} 0 1 = cc in absurd (omega arith)
+either false b h = (refl, h)
+
+below-haw : (haw e : ℕ) → haw ≤ 52 → anySet e 63 haw ≡ false → inPlace e 63 12 < 2 ^ 52
+unfolding bits
+below-haw haw e low clear =
+    let whole : bits e 63 0 < 2 ^ haw = leb-false (2 ^ haw) (bits e 63 0) (sym (above e 63 haw) ∙ clear) in
+    let least : 2 ^ haw ≤ 2 ^ 52 = pow-mono {j = 52} low in
+    let all : e / 2 ^ 0 % 2 ^ 64 < 2 ^ 52 = lt-of-lt-of-le whole least in
+    let few : e % 2 ^ 64 < 2 ^ 52 = rw (div-one e) at all in
+    omega (arith, few)
+
+pub usable : (haw : ℕ) (pasid : Pasid) (e : ℕ) {c : ScalableContext} → haw ≤ 52 → go c ≡ contextCheck haw pasid e → Usable c
+unfolding contextCheck contextReserved contextInvalid
+usable haw pasid e {c} low h =
+    let h1 = past (not (bit e 0)) 0x41 _ c (sym h) in
+    let h2 = past (contextReserved haw e) 0x42 _ c (h1 .1) in
+    let h3 = past (contextInvalid pasid e) 0x43 _ c (h2 .1) in
+    let h4 = past (pasid .present && not (bit e 3)) 0x45 _ c (h3 .1) in
+    let h5 = past (pasid .present && beyond e (pasid .value)) 0x46 _ c (h4 .1) in
+    let says : go (contextOf pasid e) ≡ go c = h5 .1 in
+    let is : c ≡ contextOf pasid e = cc in
+    let clear = either (anySet e 8 5) (anySet e 63 haw) (either (anySet e 8 5 || anySet e 63 haw) (anySet e 255 85) (h2 .0) .0) .1 in
+    let own = either (not (bit e 2) && bit e 4) (not (pasid .present) && beyond e (bits e 83 64)) (h3 .0) .1 in
+    rw is (omega arith, below-haw haw e low clear, used (pasid .present) own (h5 .0))
+  where
+    used : (present : Bool) → (not present && beyond e (bits e 83 64)) ≡ false → (present && beyond e (pasid .value)) ≡ false
+        → (if present then pasid .value else bits e 83 64) < 2 ^ 20
+    used true own asked = below-range e (pasid .value) asked
+    used false own asked = below-range e (bits e 83 64) own
+
+-- the places of a PASID's entries, as the code finds them
+pub table-place : (table pasid : ℕ) → _≡_ {A = ℕ} (table + 64 * (pasid % 64)) (table + 64 * bits pasid 5 0)
+unfolding bits
+table-place table pasid = rw (div-one pasid)
+
+pub directory-place : (directory pasid : ℕ) → pasid < 2 ^ 20
+    → _≡_ {A = ℕ} (directory + 4096 * (pasid / 64 / 512) + 8 * (pasid / 64 % 512)) (directory + 8 * bits pasid 19 6)
+unfolding bits
+directory-place directory pasid h = omega arith
+
+pub context-place : (table source : ℕ) → _≡_ {A = ℕ} (table + 32 * (source % 128)) (table + 32 * bits source 6 0)
+unfolding bits
+context-place table source = rw (div-one source)

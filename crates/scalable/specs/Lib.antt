@@ -1,0 +1,6 @@
+pub mod Answers
+pub mod Isolation
+pub mod Lookup
+pub mod Requests
+pub mod Second
+pub mod Then
