@@ -1,5 +1,6 @@
 -- A shift by the level.
 use Prim.Native.Nat.{ℕ, _+_, _*_, _/_, _%_, _^_, _<_, _≤_}
+use mathlib.Core.Path.{sym, subst}
 use native.Mathlib.Omega.{arith}
 use lib.Dec.{lit≤}
 use lib.Pow.{pow-pos, pow-mono}
@@ -24,7 +25,7 @@ shl-result c = search needs
 rem-result : tie.Need-rem-result
 rem-result c =
     let bits = 3 + 9 * levelOf (c .args .key) in
-    rw (shifted-one bits (omega arith)) (pow-pos bits)
+    subst (λ (n : ℕ). 0 < n) (sym (shifted-one bits (omega arith))) (pow-pos bits)
 
 add-result-2 : tie.Need-add-result-2
 add-result-2 c =
