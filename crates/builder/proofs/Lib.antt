@@ -1,0 +1,4 @@
+pub mod Builds
+pub mod ItemLaws
+pub mod Readied
+pub mod Takes

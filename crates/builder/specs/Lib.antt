@@ -1,0 +1,5 @@
+pub mod Answers
+pub mod Build
+pub mod Items
+pub mod Ready
+pub mod Reasons
