@@ -1,6 +1,6 @@
 /* Galitzaf: Intel's VT-d remapping unit in software, proved.
  *
- * Link with target/staticlib/libgalitzaf.a, which `rt staticlib galitzaf` writes. No function allocates, blocks,
+ * Link with target/staticlib/libgalitzaf.a, which `packaging/archive` makes. No function allocates, blocks,
  * keeps a pointer or reads anything but its arguments, and each may be called from any thread. Every
  * length is checked: a call with a malformed argument answers GALITZAF_BAD_... and changes nothing; records
  * and a recorder's state of another length are GALITZAF_REFUSED_3.

@@ -7,9 +7,8 @@ if [ -n "${GALITZAF_LIB_DIR:-}" ]; then
 fi
 cd "$(dirname "${BASH_SOURCE[0]}")/.." || exit 2
 
-# The Rattle crate that exports the C interface, and the archive that `rt staticlib` writes for it.
-library=galitzaf
-archive=${GALITZAF_LIB_DIR:-$PWD/target/staticlib}/lib$library.a
+# The archive that packaging/archive makes.
+archive=${GALITZAF_LIB_DIR:-$PWD/target/staticlib}/libgalitzaf.a
 # Whether it has to be made: there is none, or a source is newer.
 stale() {
     [ -z "${GALITZAF_LIB_DIR:-}" ] && { [ ! -f "$archive" ] || [ -n "$(find crates crates.txt -newer "$archive" -print -quit)" ]; }
@@ -18,7 +17,7 @@ stale() {
 static_library() {
     if stale; then
         packaging/kit || true
-        rt staticlib "$library" || return 1
+        packaging/archive || return 1
     fi
     [ -f "$archive" ] || { echo "no $archive" >&2; return 1; }
 }

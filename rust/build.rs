@@ -1,7 +1,7 @@
 //! Finds the proved static library and hands it to the linker.
 //!
 //! It is looked for in `GALITZAF_LIB_DIR`, a relative one from where the caller stands, or else in
-//! the repository's `target/staticlib`. Where it isn't there, `rt staticlib` makes it. Without `rt`
+//! the repository's `target/staticlib`. Where it isn't there, `packaging/archive` makes it. Without `rt`
 //! the crate can still be checked and documented: only linking needs the library. It is made for
 //! programs of an operating system, whose interrupts leave the red zone below the stack pointer
 //! alone; other targets are refused.
@@ -10,10 +10,10 @@ use std::env;
 use std::path::{Path, PathBuf};
 use std::process::Command;
 
-/// The Rattle crate that exports the C interface, and the name it is linked under.
-const CRATE: &str = "galitzaf";
+/// The name that the library is linked under.
+const LIBRARY: &str = "galitzaf";
 
-/// The archive that `rt staticlib` writes for it and `make install` puts in place.
+/// The archive that `packaging/archive` makes and `make install` puts in place.
 const ARCHIVE: &str = "libgalitzaf.a";
 
 fn main() {
@@ -38,7 +38,7 @@ fn hosted() -> Result<(), String> {
 }
 
 fn link() -> Result<(), String> {
-    println!("cargo:rustc-link-lib=static={CRATE}");
+    println!("cargo:rustc-link-lib=static={LIBRARY}");
     let Some(archive) = find()? else {
         println!(
             "cargo:warning=no target/staticlib/{ARCHIVE} and no `rt` on PATH to make it: this can be checked and \
@@ -73,7 +73,7 @@ fn find() -> Result<Option<PathBuf>, String> {
         Ok(Some(archive))
     } else {
         Err(format!(
-            "`rt staticlib {CRATE}` did not write {}",
+            "packaging/archive did not write {}",
             archive.display()
         ))
     }
@@ -111,14 +111,12 @@ fn make(root: &Path) -> Result<(), String> {
             println!("cargo:warning={line}");
         }
     }
-    let made = Command::new("rt")
-        .args(["staticlib", CRATE])
-        .current_dir(root)
+    let made = Command::new(root.join("packaging").join("archive"))
         .output()
-        .map_err(|e| format!("rt: {e}"))?;
+        .map_err(|e| format!("packaging/archive: {e}"))?;
     if made.status.success() {
         return Ok(());
     }
     let [out, err] = [&made.stdout, &made.stderr].map(|said| String::from_utf8_lossy(said));
-    Err(format!("`rt staticlib {CRATE}` failed:\n{out}{err}"))
+    Err(format!("packaging/archive failed:\n{out}{err}"))
 }

@@ -1,7 +1,7 @@
 /* The bench image of document 01: its twelve cases, a round of the fault recorder and malformed calls, over
  * galitzaf.h. bench.stdout has what it prints.
  *
- *     rt staticlib galitzaf
+ *     packaging/archive
  *     cc -std=c11 -Iinclude examples/c/bench.c target/staticlib/libgalitzaf.a -o bench
  */
 #include "galitzaf.h"

@@ -1,7 +1,7 @@
 /* A row of storm meters over galitzaf.h: three devices are counted in ticks, one of them goes mad, is tripped and
  * masked, and is let back once it is quiet. meters.stdout has what it prints.
  *
- *     rt staticlib galitzaf
+ *     packaging/archive
  *     cc -std=c11 -Iinclude examples/c/meters.c target/staticlib/libgalitzaf.a -o meters
  */
 #include "galitzaf.h"

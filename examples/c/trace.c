@@ -1,7 +1,7 @@
 /* A trace beside a unit's calls, over galitzaf.h: 20 reads and writes recorded, read back, damaged, and replayed after an edit.
  * trace.stdout has what it prints.
  *
- *     rt staticlib galitzaf
+ *     packaging/archive
  *     cc -std=c11 -Iinclude examples/c/trace.c target/staticlib/libgalitzaf.a -o trace
  */
 #include "galitzaf.h"

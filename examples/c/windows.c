@@ -1,7 +1,7 @@
 /* Guest memory with a hole, over galitzaf.h: root and context table at 4 GiB, page tables, interrupt table and a
  * posted descriptor below the hole. windows.stdout has what it prints.
  *
- *     rt staticlib galitzaf
+ *     packaging/archive
  *     cc -std=c11 -Iinclude examples/c/windows.c target/staticlib/libgalitzaf.a -o windows
  */
 #include "galitzaf.h"

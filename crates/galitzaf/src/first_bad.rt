@@ -4,8 +4,8 @@ ghost use Rattle.galitzaf.specs.FirstBad.{firstBadCall};
 use crate::status::BAD_REGISTERS;
 use crate::status::BAD_WINDOWS;
 use crate::status::NONE_BAD;
-use crate::unpack::malformed;
-use crate::unpack::unpack;
+use crate::unpacking::malformed;
+use crate::unpacking::unpack;
 use refused::first_bad;
 
 #[no_mangle]

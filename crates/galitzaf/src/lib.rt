@@ -11,7 +11,7 @@ mod status;
 mod taking;
 mod traces;
 mod translating;
-mod unpack;
+mod unpacking;
 
 pub use caching::galitzaf_cached_request;
 pub use caching::galitzaf_invalidate_all;
@@ -25,10 +25,14 @@ pub use recorder::galitzaf_clear_slot;
 pub use recorder::galitzaf_record;
 pub use requests::galitzaf_interrupt_request;
 pub use requests::galitzaf_memory_request;
+// For the replay of traces, which is exported by a crate of its own.
+pub use status::BAD_REGISTERS;
+pub use status::BAD_WINDOWS;
 pub use taking::galitzaf_take;
 pub use traces::galitzaf_trace_append;
 pub use traces::galitzaf_trace_check;
 pub use traces::galitzaf_trace_close;
 pub use traces::galitzaf_trace_next;
-pub use traces::galitzaf_trace_replay;
 pub use translating::galitzaf_translation_request;
+pub use unpacking::malformed;
+pub use unpacking::unpack;

@@ -6,8 +6,8 @@ use crate::status::BAD_REGISTERS;
 use crate::status::BAD_WINDOWS;
 use crate::status::NONE_STANDS;
 use crate::status::TAKEN;
-use crate::unpack::malformed;
-use crate::unpack::unpack;
+use crate::unpacking::malformed;
+use crate::unpacking::unpack;
 use unit::TakeAnswer;
 use unit::take;
 

@@ -1,16 +1,10 @@
-// Traces: a recorder, a reader and replay.
+// Traces: a recorder and a reader.
 ghost use mathlib.Core.Path.{_≡_};
 ghost use Rattle.trace_calls.specs.Calls.{appendCall, closeCall, checkCall, nextCall};
-ghost use Rattle.galitzaf.specs.Traces.{traceReplayCall};
-use crate::status::BAD_REGISTERS;
-use crate::status::BAD_WINDOWS;
-use crate::unpack::malformed;
-use crate::unpack::unpack;
 use trace_calls::append_answer;
 use trace_calls::check;
 use trace_calls::close_trace;
 use trace_calls::next_entry;
-use trace_calls::replay_entry;
 
 #[no_mangle]
 pub extern "C" fn galitzaf_trace_append(
@@ -46,24 +40,4 @@ pub extern "C" fn galitzaf_trace_next(trace: &[u8], cursor: &mut [u64], entry: &
     ensures { λ r. ⌜ (r, now (cursor .exit), now (entry .exit)) ≡ nextCall (now (trace .entry)) (now (cursor .entry)) (now (entry .entry)) ⌝ }
 {
     next_entry(trace, cursor, entry)
-}
-
-#[no_mangle]
-pub extern "C" fn galitzaf_trace_replay(
-    registers: &[u8],
-    windows: &[u64],
-    image: &mut [u8],
-    trace: &[u8],
-    cursor: &mut [u64],
-    entry: &mut [u8],
-) -> u32
-    ensures { λ r. ⌜ (r, now (image .exit), now (cursor .exit), now (entry .exit)) ≡ traceReplayCall (now (registers .entry)) (now (windows .entry)) (now (image .entry)) (now (trace .entry)) (now (cursor .entry)) (now (entry .entry)) ⌝ }
-{
-    if malformed(registers) {
-        return BAD_REGISTERS;
-    }
-    if windows.len() % 3 != 0 {
-        return BAD_WINDOWS;
-    }
-    replay_entry(unpack(registers), windows, image, trace, cursor, entry)
 }

@@ -1,6 +1,6 @@
 use borrow.Author.Needs.{needs}
-use Rattle.galitzaf.proofs.unpack.bit.Statement.{statement}
-use Rattle.galitzaf.proofs.unpack.bit.Tie as tie
+use Rattle.galitzaf.proofs.unpacking.bit.Statement.{statement}
+use Rattle.galitzaf.proofs.unpacking.bit.Tie as tie
 
 field-requires : tie.Need-field-requires
 field-requires c κs = search needs

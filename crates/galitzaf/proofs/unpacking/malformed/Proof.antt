@@ -9,8 +9,8 @@ use Rattle.galitzaf.specs.Registers.{malformedRegisters}
 use Rattle.galitzaf.proofs.Registers.{first-set, second-set, third-tells}
 use Rattle.galitzaf.proofs.Whole.{wordOr0}
 use borrow.Author.Needs.{needs}
-use Rattle.galitzaf.proofs.unpack.malformed.Statement.{statement}
-use Rattle.galitzaf.proofs.unpack.malformed.Tie as tie
+use Rattle.galitzaf.proofs.unpacking.malformed.Statement.{statement}
+use Rattle.galitzaf.proofs.unpacking.malformed.Tie as tie
 
 returns : tie.Need-returns
 unfolding malformedRegisters

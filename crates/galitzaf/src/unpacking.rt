@@ -13,7 +13,7 @@ fn bit(word: u64, place: u32) -> bool
     field(word, place, place) == 1
 }
 
-pub(crate) fn malformed(registers: &[u8]) -> bool
+pub fn malformed(registers: &[u8]) -> bool
     ensures { λ r. ⌜ r ≡ malformedRegisters (now (registers .entry)) ⌝ }
 {
     if registers.len() != 24 {
@@ -29,7 +29,7 @@ pub(crate) fn malformed(registers: &[u8]) -> bool
     field(head, 63, 40) != 0
 }
 
-pub(crate) fn unpack(registers: &[u8]) -> Registers
+pub fn unpack(registers: &[u8]) -> Registers
     requires { ⌜ malformedRegisters (now registers) ≡ false ⌝ }
     ensures { λ r. ⌜ r ≡ unpacked (now (registers .entry)) ⌝ }
 {

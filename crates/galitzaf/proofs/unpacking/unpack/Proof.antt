@@ -2,8 +2,8 @@ use denote.Ref.{now}
 use Rattle.image.proofs.Fields.{fits}
 use Rattle.galitzaf.proofs.Registers.{told-unpacked, registers-length}
 use borrow.Author.Needs.{needs}
-use Rattle.galitzaf.proofs.unpack.unpack.Statement.{statement}
-use Rattle.galitzaf.proofs.unpack.unpack.Tie as tie
+use Rattle.galitzaf.proofs.unpacking.unpack.Statement.{statement}
+use Rattle.galitzaf.proofs.unpacking.unpack.Tie as tie
 
 word-requires : tie.Need-word-requires
 word-requires c κs = search needs

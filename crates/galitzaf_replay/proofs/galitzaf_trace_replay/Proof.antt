@@ -1,10 +1,10 @@
 -- Each way out is a line of the definition.
 use mathlib.Core.Path.{sym, _∙_}
 use borrow.Author.Tests.{eq-eqb, ne-eqb}
 use Rattle.galitzaf.specs.Traces.{traceReplayCall}
 use borrow.Author.Needs.{needs}
-use Rattle.galitzaf.proofs.traces.galitzaf_trace_replay.Statement.{statement}
-use Rattle.galitzaf.proofs.traces.galitzaf_trace_replay.Tie as tie
+use Rattle.galitzaf_replay.proofs.galitzaf_trace_replay.Statement.{statement}
+use Rattle.galitzaf_replay.proofs.galitzaf_trace_replay.Tie as tie
 
 malformed-requires : tie.Need-malformed-requires
 malformed-requires c κs = search needs
