@@ -86,7 +86,7 @@ fn invalidations_take_out_all_or_a_domain() {
     let image = image();
     let mut unit = CachedUnit::new(&REGISTERS);
     for n in 0..20 {
-        unit.memory(&Memory::flat(&image), read(8 * (n % 2) as u16, 0x1000 * n));
+        let _ = unit.memory(&Memory::flat(&image), read(8 * (n % 2) as u16, 0x1000 * n));
     }
     unit.invalidate_domain(2);
     for n in 0..20 {
@@ -103,7 +103,7 @@ fn the_oldest_goes_at_a_65th() {
     let image = image();
     let mut unit = CachedUnit::new(&REGISTERS);
     for n in 0..200 {
-        unit.memory(&Memory::flat(&image), read(0, 0x1000 * n));
+        let _ = unit.memory(&Memory::flat(&image), read(0, 0x1000 * n));
         for page in 0..=n {
             assert_eq!(held(&unit, read(0, 0x1000 * page)), n - page < 64);
         }
