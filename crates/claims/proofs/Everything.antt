@@ -27,6 +27,7 @@ use Rattle.translation.proofs.Types.{only-type-1}
 use Rattle.cache.proofs.AsDefined.{as-defined, equal-calls}
 use Rattle.cache.proofs.History.{when-cached, domain-as-cached}
 use Rattle.cache.proofs.Holding.{only-pages, at-most-64, held64, pushed-out, by-domain, newest, must-answer, just-those}
+use Rattle.scalable.proofs.Isolation.{scalable-locality}
 use Rattle.cache.proofs.PageWords.{page-words}
 use Rattle.cache.proofs.Runs.{equal, as-cached, as-now}
 use Rattle.agreement.proofs.Agreement.{windows-tell, listed-where-walked, spans-agree, others-lack, spans-in-order}
@@ -161,4 +162,5 @@ everything =
       named-exactly = named-exactly;
       none-of-its-own = none-of-its-own;
       answers-traced = answers-traced;
+      scalable-locality = scalable-locality;
     }

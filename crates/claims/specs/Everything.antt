@@ -23,6 +23,7 @@ use Rattle.dma.specs.Reached.{GrantedByOwnWalk}
 use Rattle.translation.specs.Claims.{TranslationLocality, TranslationAccessMeansUnfetched, TranslationAtMostNine, TranslationNoneUntaken, TranslationReadsWords, TranslationAlwaysAnEntry, EnginesAgree, OnlyType1}
 use Rattle.cache.specs.Claims.{Equal, AsCached, AsNow, OnlyPages, AtMost64, Held64, PushedOut, ByDomain, Newest, MustAnswer, JustThose, PageWords, WhenCached, DomainAsCached}
 use Rattle.cache.specs.Lent.{AsDefined, EqualCalls}
+use Rattle.scalable.specs.Isolation.{ScalableLocality}
 use Rattle.agreement.specs.Claims.{WindowsTell, ListedWhereWalked, SpansAgree, OthersLack, SpansInOrder}
 use Rattle.interrupts.specs.Claims.{SetsExactly, NotificationExactly, LeavesAll, StaysInside, IndexBound, EntryOfIndex, NoWrap, AtMostTen, NoneBeforeTable, InterruptAccessMeansUnfetched, Isolated, SameBits}
 use Rattle.interrupts.specs.RaisedBy.{RemappedByEntry, PostedByEntry, OneSource, ExactSource}
@@ -158,3 +159,5 @@ pub record Everything : Type 0 where
   pub named-exactly : NamedExactly
   pub none-of-its-own : NoneOfItsOwn
   pub answers-traced : AnswersTraced
+  -- scalable mode, as far as it is there
+  pub scalable-locality : ScalableLocality

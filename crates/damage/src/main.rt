@@ -9,9 +9,9 @@ use trace::append;
 use trace::close;
 use trace::is_damaged;
 
-// A read that is granted, a fault with its entry's address, a remapped interrupt, a post with a notification.
-fn entry(i: u8) -> Traced {
-    let none = Traced {
+// A read that is granted.
+fn granted_read() -> Traced {
+    Traced {
         kind: 1,
         answer: 3,
         number: 0,
@@ -23,16 +23,21 @@ fn entry(i: u8) -> Traced {
         data: 0,
         destination: 0,
         value: 0x1234_5ABC,
-    };
+    }
+}
+
+// That read, a fault with its entry's address, a remapped interrupt, a post with a notification.
+fn entry(i: u8) -> Traced {
+    let read = granted_read();
     match i % 4 {
-        0 => none,
+        0 => read,
         1 => Traced {
             kind: 2,
             answer: 2,
             number: 5,
             flags: 3,
             value: 0x5008,
-            ..none
+            ..read
         },
         2 => Traced {
             kind: 3,
@@ -43,7 +48,7 @@ fn entry(i: u8) -> Traced {
             data: 0xFFFF_FFFF,
             destination: 0xFFFF_FFFF,
             value: 0,
-            ..none
+            ..read
         },
         _ => Traced {
             kind: 3,
@@ -53,7 +58,7 @@ fn entry(i: u8) -> Traced {
             address: 0xFEE0_0010,
             destination: 0x0000_0300,
             value: 0xFFFF_FFFF_FFFF_FFC0,
-            ..none
+            ..read
         },
     }
 }

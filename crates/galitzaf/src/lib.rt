@@ -3,7 +3,6 @@ mod answer;
 mod buffer;
 mod caching;
 mod first_bad;
-mod listing;
 mod meters;
 mod recorder;
 mod requests;
@@ -17,7 +16,6 @@ pub use caching::galitzaf_cached_request;
 pub use caching::galitzaf_invalidate_all;
 pub use caching::galitzaf_invalidate_domain;
 pub use first_bad::galitzaf_first_bad;
-pub use listing::galitzaf_list_spans;
 pub use meters::galitzaf_reset_meters;
 pub use meters::galitzaf_tick_meters;
 pub use recorder::galitzaf_clear_overflow;
@@ -25,7 +23,7 @@ pub use recorder::galitzaf_clear_slot;
 pub use recorder::galitzaf_record;
 pub use requests::galitzaf_interrupt_request;
 pub use requests::galitzaf_memory_request;
-// For the replay of traces, which is exported by a crate of its own.
+// For the replay of traces and the listing, which crates of their own export.
 pub use status::BAD_REGISTERS;
 pub use status::BAD_WINDOWS;
 pub use taking::galitzaf_take;

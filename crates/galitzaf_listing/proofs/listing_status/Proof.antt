@@ -2,10 +2,10 @@ use Prim.Native.Nat.{ℕ, _+_, _≤_}
 use mathlib.Core.Path.{ap, sym, _∙_, subst}
 use native.Mathlib.Omega.{arith}
 use Rattle.mapping.specs.Answers.{toldAs}
 use Rattle.galitzaf.specs.Listing.{listingStatus, Few}
 use borrow.Author.Needs.{needs}
-use Rattle.galitzaf.proofs.listing.listing_status.Statement.{statement}
-use Rattle.galitzaf.proofs.listing.listing_status.Tie as tie
+use Rattle.galitzaf_listing.proofs.listing_status.Statement.{statement}
+use Rattle.galitzaf_listing.proofs.listing_status.Tie as tie
 
 enum-known-listing : tie.Need-enum-known-listing
 enum-known-listing c = search needs

@@ -6,10 +6,10 @@ use borrow.Author.Tests.{eq-eqb, ne-eqb}
 use Rattle.mapping.specs.Mapping.{Mapped, mappingAnswer}
 use Rattle.mapping.specs.Mapping as mapping
 use Rattle.mapping.specs.Told.{room, toldOf}
 use Rattle.galitzaf.specs.Listing.{Few, listCall}
 use borrow.Author.Needs.{needs}
-use Rattle.galitzaf.proofs.listing.galitzaf_list_spans.Statement.{statement}
-use Rattle.galitzaf.proofs.listing.galitzaf_list_spans.Tie as tie
+use Rattle.galitzaf_listing.proofs.galitzaf_list_spans.Statement.{statement}
+use Rattle.galitzaf_listing.proofs.galitzaf_list_spans.Tie as tie
 
 malformed-requires : tie.Need-malformed-requires
 malformed-requires c κs = search needs

@@ -1,11 +1,12 @@
-// What is mapped for a source.
+// What is mapped for a source, for C: a crate of its own, so that its object is one of its own. It goes by the lookup of translation requests, which
+// the compiler puts into its caller only where it has one.
 ghost use mathlib.Core.Path.{_≡_};
 ghost use Rattle.mapping.specs.Answers.{toldAs};
 ghost use Rattle.galitzaf.specs.Listing.{listingStatus, Few, listCall};
-use crate::status::BAD_REGISTERS;
-use crate::status::BAD_WINDOWS;
-use crate::unpacking::malformed;
-use crate::unpacking::unpack;
+use galitzaf::BAD_REGISTERS;
+use galitzaf::BAD_WINDOWS;
+use galitzaf::malformed;
+use galitzaf::unpack;
 use mapping::Listing;
 use mapping::list_spans;
 use registers::SourceId;
