@@ -1,0 +1,32 @@
+-- Document 02, ask 8: what the tables map after a list was taken. Proved in proofs/.
+use Prim.Native.Nat.{ℕ, _+_, _*_, _^_, _<_, _≤_}
+use mathlib.Core.Bool.{true}
+use mathlib.Core.List.{List}
+use mathlib.Core.Path.{_≡_}
+use lib.ListN.{length}
+use Rattle.registers.specs.declared.Registers.{Registers}
+use Rattle.tables.specs.Tables.{Tables}
+use Rattle.tables.specs.declared.Tree.{Tree}
+use Rattle.marking.specs.Marking.{markAll}
+use Rattle.builder.specs.Items.{takeItems}
+use Rattle.leaves.specs.Leaves.{leafOver, left}
+use Rattle.leaves.specs.WellBuilt.{Placed, WellBuilt}
+
+-- tables that the builder lets pass are as built here
+abbrev pub MarkedAsBuilt : Type 0
+MarkedAsBuilt =
+    (bytes : List ℕ) (tree : Tree) (pages : ℕ) → Placed tree pages → length bytes ≡ 4096 * pages → markAll bytes tree pages .0 ≡ true
+    → WellBuilt bytes (markAll bytes tree pages .1) tree
+
+-- where every item was taken, the tables are as built here again, and at every address that their levels reach they map what the list
+-- leaves of what they mapped before
+pub record Leaves (tree : Tree) (numbers : List ℕ) (n i : ℕ) (before after : Tables) : Type 0 where
+  pub well-built : WellBuilt (after .bytes) (after .marks) tree
+  pub leaves : (address : ℕ) → address < 2 ^ (12 + 9 * (tree .below + 1))
+      → leafOver (after .bytes) tree address ≡ left numbers n i address (leafOver (before .bytes) tree address)
+
+abbrev pub ItemsLeave : Type 0
+ItemsLeave =
+    (registers : Registers) (tree : Tree) (numbers : List ℕ) (n i : ℕ) (t : Tables) → registers .haw ≤ 52
+    → WellBuilt (t .bytes) (t .marks) tree → takeItems registers tree numbers n i t .0 .reason ≡ 0
+    → Leaves tree numbers n i t (takeItems registers tree numbers n i t .1)
