@@ -22,7 +22,7 @@ use Rattle.pasid.specs.declared.Pasid.{Pasid}
 use Rattle.pasid.specs.declared.ScalableRegisters.{ScalableRegisters}
 use Rattle.scalable.specs.Lookup.{tableRules, directoryRules, contextRules, lookupRules}
 use Rattle.scalable.specs.Requests.{typeRules, scalableRules}
-use Rattle.scalable.specs.Then.{thenRules}
+use Rattle.nested.specs.Then.{thenRules}
 use Rattle.scalable.specs.declared.ScalableRequest.{ScalableRequest}
 
 -- HAW 39, MGAW 48, 3 levels; second-level translation alone

@@ -26,7 +26,7 @@ use Rattle.pasid.specs.declared.ScalableRegisters.{ScalableRegisters}
 use Rattle.pasid.specs.declared.table.PasidEntry.{PasidEntry}
 use Rattle.scalable.specs.Lookup.{Lookup, pasidEntry, noPasidEntry, tableRules, directoryRules, contextRules, lookupRules}
 use Rattle.scalable.specs.Requests.{withoutEntry, lookedUp, translationRules, Walkable}
-use Rattle.scalable.proofs.Thens.{Ends, run-then, tried-then}
+use Rattle.nested.proofs.Thens.{Ends, run-then, tried-then}
 
 module _ (r : ScalableRegisters) (address : ℕ) (write : Bool) where
   abbrev Last : Lookup → Type 0

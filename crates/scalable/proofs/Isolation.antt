@@ -28,16 +28,10 @@ use Rattle.scalable.specs.Isolation.{accessReason, accessFault, Scalable
 use Rattle.scalable.specs.Lookup.{Lookup, pasidEntry, noPasidEntry, tableRules, directoryRules, contextRules, lookupRules}
 use Rattle.scalable.specs.Requests.{Translation, through, walked, pasidTooWide, secondLevelOnly, wantedFor, withoutEntry, lookedUp, typeRules, translationRules, scalableOutcome, takenRules, scalableRules}
 use Rattle.scalable.specs.Second.{Walked, page, fault, atTop, unfetchable, secondStep, secondRules}
-use Rattle.scalable.specs.Then.{thenRules}
+use Rattle.nested.proofs.Thens.{outside-then}
 use Rattle.scalable.specs.declared.ScalableRequest.{ScalableRequest}
 use Rattle.scalable.specs.declared.second.Above.{Above}
 use lib.Dec.{eqb}
-
-outside-then : {A B : Type 0} (Kind : B → Type 0) (ended : A → B) (next : A → Rules B) (q : Rules A) → Outside (λ a. Kind (ended a)) q
-    → ((a : A) → Outside Kind (next a)) → Outside Kind (thenRules ended next q)
-unfolding Outside thenRules
-outside-then Kind ended next (answer a) h after = after a
-outside-then Kind ended next (fetch kind at outside rest) h after = (h .0, λ e. outside-then Kind ended next (rest e) (h .1 e) after)
 
 -- a walk by levels, over any format of its entries
 outside-walk : {S A : Type 0} (Kind : A → Type 0) (address : ℕ) (none : S → A) (step : (level place : ℕ) → S → (e : ℕ) → Step S A)

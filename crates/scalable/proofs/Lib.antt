@@ -6,4 +6,3 @@ pub mod Isolation
 pub mod Pairs
 pub mod Seconds
 pub mod Tables
-pub mod Thens

@@ -3,4 +3,3 @@ pub mod Isolation
 pub mod Lookup
 pub mod Requests
 pub mod Second
-pub mod Then

@@ -21,7 +21,7 @@ use Rattle.pasid.specs.declared.ScalableRegisters.{ScalableRegisters}
 use Rattle.pasid.specs.declared.table.PasidEntry.{PasidEntry}
 use Rattle.scalable.specs.Lookup.{Lookup, pasidEntry, noPasidEntry, lookupRules}
 use Rattle.scalable.specs.Second.{Walked, page, fault, atTop, secondRules}
-use Rattle.scalable.specs.Then.{thenRules}
+use Rattle.nested.specs.Then.{thenRules}
 use Rattle.scalable.specs.declared.ScalableRequest.{ScalableRequest}
 use Rattle.scalable.specs.declared.second.Wanted.{Wanted}
 

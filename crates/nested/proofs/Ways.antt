@@ -1,0 +1,129 @@
+-- Laws of a walk with a way to its entries, over any format of the entries and any way.
+use Prim.Native.Nat.{ℕ, zero, suc, _-_, _<_}
+use mathlib.Core.Path.{_≡_, refl, ap, sym, _∙_, fun-ext}
+use native.Mathlib.Omega.{arith}
+use Rattle.image.specs.EntryKind.{EntryKind, pageEntry, wordsOf}
+use Rattle.image.specs.Memory.{Memory, Fetched, missing, found, entry, onFetch}
+use Rattle.image.specs.Place.{Place, entryAt, lastTried}
+use Rattle.image.specs.Rules.{Rules, answer, fetch, run, Outside}
+use Rattle.dma.specs.Walk.{Step, done, down, onStep, placeIn, walkRules}
+use Rattle.nested.specs.Then.{thenRules}
+use Rattle.nested.specs.Way.{Located, located, lost, onLocated, entryRules, ended, wayRules, wayOver, triedOver}
+use Rattle.nested.proofs.Thens.{Ends, run-then, tried-then, outside-then}
+
+-- rules that find no entry
+abbrev pub IsLost : {S A : Type 0} → Located S A → Type 0
+IsLost (located place s) = ⊥
+IsLost (lost a) = Unit {0}
+
+module _ {S A : Type 0} (kind : EntryKind) (address : ℕ) (locate : S → (place : ℕ) → Rules (Located S A)) (none : S → A)
+    (step : (level place : ℕ) → S → (e : ℕ) → Step S A) where
+  abbrev walk : (level table : ℕ) → S → Rules A
+  walk = wayRules kind address locate none step
+
+  abbrev next : (n : ℕ) → Located S A → Rules A
+  next n l = onLocated l answer (entryRules kind address locate none step (suc n) (walk n))
+
+  abbrev end : Located S A → A
+  end = ended kind address locate none step
+
+  -- a way on which an entry can't be fetched leads to no entry
+  module _ (ends : (s : S) (place : ℕ) → Outside IsLost (locate s place)) where
+    over : (n : ℕ) (q : Rules (Located S A)) → Outside IsLost q → Outside (Ends end (next n)) q
+    unfolding Outside
+    over n (answer l) h = tt
+    over n (fetch k at outside rest) h = (by outside (h .0), λ e. over n (rest e) (h .1 e))
+      where
+        by : (l : Located S A) → IsLost l → Ends end (next n) l
+        by (located place s) h = absurd h
+        by (lost a) h = refl
+
+    module _ (m : Memory) (n table : ℕ) (s : S) where
+      -- a walk is its first level, then the walk of what that leads to
+      pub way-step : run (walk (suc n) table s) m
+          ≡ onStep (wayOver kind address locate none step m n table s) (λ a. a) (λ next t. run (walk n next t) m)
+      unfolding wayRules wayOver run
+      way-step =
+          run-then end (next n) (locate s (placeIn address table n)) m (over n _ (ends s (placeIn address table n)))
+          ∙ on (run (locate s (placeIn address table n)) m)
+        where
+          stepped : (x : Step S A) → run (onStep x answer (walk n)) m ≡ onStep x (λ a. a) (λ next t. run (walk n next t) m)
+          stepped (done a) = refl
+          stepped (down to t) = refl
+
+          fetched : (place : ℕ) (t : S) (f : Fetched)
+              → onFetch f (none t) (λ e. run (onStep (step (suc n) place t e) answer (walk n)) m)
+              ≡ onStep (onFetch f (done (none t)) (step (suc n) place t)) (λ a. a) (λ next t. run (walk n next t) m)
+          fetched place t missing = refl
+          fetched place t (found e) = stepped (step (suc n) place t e)
+
+          on : (l : Located S A)
+              → run (next n l) m
+              ≡ onStep (onLocated l done (λ place t. onFetch (entry (wordsOf kind) m place) (done (none t)) (step (suc n) place t))) (λ a. a)
+              (λ next t. run (walk n next t) m)
+          on (located place t) = fetched place t (entry (wordsOf kind) m place)
+          on (lost a) = refl
+
+      -- and it stops at the last entry that its first level tries, or where the walk of what that leads to stops
+      pub way-tried : (before : Place) → lastTried before (walk (suc n) table s) m
+          ≡ onStep (wayOver kind address locate none step m n table s) (λ a. triedOver kind address locate none step before m n table s)
+          (λ next t. lastTried (triedOver kind address locate none step before m n table s) (walk n next t) m)
+      unfolding wayRules wayOver triedOver lastTried
+      way-tried before =
+          tried-then end (next n) before (locate s (placeIn address table n)) m (over n _ (ends s (placeIn address table n)))
+          ∙ on (run (locate s (placeIn address table n)) m)
+        where
+          last : Place
+          last = lastTried before (locate s (placeIn address table n)) m
+
+          stepped : (here : Place) (x : Step S A)
+              → lastTried here (onStep x answer (walk n)) m ≡ onStep x (λ a. here) (λ next t. lastTried here (walk n next t) m)
+          stepped here (done a) = refl
+          stepped here (down to t) = refl
+
+          fetched : (place : ℕ) (t : S) (f : Fetched)
+              → onFetch f (entryAt place) (λ e. lastTried (entryAt place) (onStep (step (suc n) place t e) answer (walk n)) m)
+              ≡ onStep (onFetch f (done (none t)) (step (suc n) place t)) (λ a. entryAt place)
+              (λ next t. lastTried (entryAt place) (walk n next t) m)
+          fetched place t missing = refl
+          fetched place t (found e) = stepped (entryAt place) (step (suc n) place t e)
+
+          on : (l : Located S A)
+              → lastTried last (next n l) m
+              ≡ onStep (onLocated l done (λ place t. onFetch (entry (wordsOf kind) m place) (done (none t)) (step (suc n) place t)))
+              (λ a. onLocated l (λ a. last) (λ place t. entryAt place))
+              (λ next t. lastTried (onLocated l (λ a. last) (λ place t. entryAt place)) (walk n next t) m)
+          on (located place t) = fetched place t (entry (wordsOf kind) m place)
+          on (lost a) = refl
+
+  -- every answer to an entry that can't be fetched is of a kind
+  pub outside-way : (Kind : A → Type 0) → ((s : S) → Kind (none s)) → ((s : S) (place : ℕ) → Outside (λ l. Kind (end l)) (locate s place))
+      → (level table : ℕ) (s : S) → Outside Kind (walk level table s)
+  unfolding Outside wayRules
+  outside-way Kind lacks on zero table s = tt
+  outside-way Kind lacks on (suc n) table s =
+      outside-then Kind end (next n) (locate s (placeIn address table n)) (on s (placeIn address table n)) (after (outside-way Kind lacks on n))
+    where
+      stepped : (x : Step S A) → ((table : ℕ) (s : S) → Outside Kind (walk n table s)) → Outside Kind (onStep x answer (walk n))
+      stepped (done a) ih = tt
+      stepped (down to t) ih = ih to t
+
+      after : ((table : ℕ) (s : S) → Outside Kind (walk n table s)) → (l : Located S A) → Outside Kind (next n l)
+      after ih (located place t) = (lacks t, λ e. stepped (step (suc n) place t e) ih)
+      after ih (lost a) = tt
+
+-- where every entry is at the address itself, it is the walk by levels of legacy mode
+pub straight : {S A : Type 0} (address : ℕ) (none : S → A) (step : (level place : ℕ) → S → (e : ℕ) → Step S A) (level table : ℕ) (s : S)
+    → wayRules pageEntry address (λ s place. answer (located place s)) none step level table s ≡ walkRules address none step level table s
+unfolding wayRules walkRules thenRules
+straight address none step zero table s = refl
+straight {S} {A} address none step (suc n) table s =
+    ap (fetch pageEntry (placeIn address table n) (none s)) (fun-ext (λ e. stepped (step (suc n) (placeIn address table n) s e) (straight address none step n)))
+  where
+    stepped : (x : Step S A)
+        → ((table : ℕ) (s : S)
+        → wayRules pageEntry address (λ s place. answer (located place s)) none step n table s ≡ walkRules address none step n table s)
+        → onStep x answer (wayRules pageEntry address (λ s place. answer (located place s)) none step n)
+        ≡ onStep x answer (walkRules address none step n)
+    stepped (done a) ih = refl
+    stepped (down to t) ih = ih to t

@@ -1,0 +1,1 @@
+// Walks whose entries are found through another walk. Up to now the definitions and their laws.
