@@ -1,0 +1,108 @@
+-- What one level of the second-level walk makes of the entry that the code fetched, and the walk after it.
+use Prim.Native.Nat.{ℕ, zero, suc, _+_, _-_, _%_, _^_, _<_, _≤_}
+use mathlib.Core.Bool.{Bool, true, false, not, _&&_, _||_}
+use mathlib.Core.List.{List, [], _∷_, _++_, append-nil}
+use mathlib.Core.Path.{_≡_, refl, ap, sym, _∙_}
+use native.Mathlib.Decide.{decLe}
+use native.Mathlib.Omega.{arith}
+use borrow.Author.Tests.{le-leb, ne-eqb}
+use lib.Dec.{leb, lit≤}
+use Rattle.image.specs.Bits.{bit, anySet, inPlace}
+use Rattle.image.specs.Choice.{if_then_else_}
+use Rattle.image.specs.Memory.{Memory, Fetched, missing, found, entry, onFetch}
+use Rattle.image.specs.Place.{Place, entryAt, lastTried}
+use Rattle.image.specs.Rules.{run}
+use Rattle.image.proofs.Fields.{in-place-lt}
+use Rattle.registers.specs.declared.Registers.{Registers}
+use Rattle.dma.specs.Page.{leafAt, pageReserved}
+use Rattle.dma.specs.Walk.{Step, done, down, placeIn, stepOver}
+use Rattle.dma.proofs.Onward as onward
+use Rattle.dma.proofs.Reserved.{elsewhere}
+use Rattle.dma.proofs.Stepped.{more-levels}
+use Rattle.dma.proofs.Walks.{walk-anew}
+use Rattle.pasid.specs.declared.ScalableRegisters.{ScalableRegisters}
+use Rattle.pasid.specs.declared.table.PasidEntry.{PasidEntry}
+use Rattle.second.specs.Second.{Walked, page, fault, Handed, readable, writable, handedOn, flagsNotSnooped, secondFlags, unfetchable, secondStep, secondOver, secondRules}
+use Rattle.second.specs.declared.step.Wanted.{Wanted}
+
+-- a page whose entry has no reserved bit has an entry of level 1, 2 or 3: above, bit 7 is reserved
+pub low-leaf : (registers : Registers) (level e : ℕ) → pageReserved registers level e ≡ false → leafAt level e ≡ true → level ≤ 3
+low-leaf registers level e clear leaf = by (decLe level 3)
+  where
+    or-true : (a : Bool) → (a || true) ≡ true
+    or-true true = refl
+    or-true false = refl
+
+    by : Dec (level ≤ 3) → level ≤ 3
+    by (yes low) = low
+    by (no high) =
+        let large : bit e 7 ≡ true = rw (ne-eqb level 1 (λ z. omega arith)) at leaf in
+        let reserved = elsewhere registers e large level (λ z. omega arith) (λ z. omega arith) in
+        let all : (anySet e 51 (registers .haw) || leb 4 level) ≡ true = rw (le-leb 4 level (omega arith)) (or-true (anySet e 51 (registers .haw))) in
+        let clash : _≡_ {A = Bool} true false = sym all ∙ sym reserved ∙ clear in
+        let z : _≡_ {A = ℕ} 0 1 = cc in
+        absurd (omega arith)
+
+-- a step that leads down is past each test that would end the walk
+past : (b : Bool) (a : Walked) (rest : Step Handed Walked) {next : ℕ} {t : Handed} → down next t ≡ (if b then done a else rest)
+    → (b ≡ false) × (down next t ≡ rest)
+past true a rest h = let z : _≡_ {A = ℕ} 0 1 = cc in absurd (omega arith)
+past false a rest h = (refl, h)
+
+module _ (r : ScalableRegisters) (p : PasidEntry) (wanted : Wanted) where
+  -- it leads to the entry's frame, and the entry is no page's
+  pub leads : (level place : ℕ) (above : Handed) (e : ℕ) {next : ℕ} {t : Handed} → down next t ≡ secondStep r p wanted level place above e
+      → (next ≡ inPlace e 51 12) × (leafAt level e ≡ false)
+  leads level place above e {next} {t} h =
+      let h1 = past (not (readable above e || writable above e)) (fault 0x79 (p .fpd)) _ h in
+      let h2 = past (pageReserved (r .base) level e) (fault 0x7A (p .fpd)) _ (h1 .1) in
+      let h3 = past (flagsNotSnooped r p (wanted .dirty) level e) (fault 0x7C (p .fpd)) _ (h2 .1) in
+      let h4 = past (wanted .write && not (bit e 1)) (fault 0x85 (p .fpd)) _ (h3 .1) in
+      let h5 = past (wanted .read && not (bit e 0)) (fault 0x86 (p .fpd)) _ (h4 .1) in
+      let h6 = past (leafAt level e) (page (inPlace e 51 12) level (writable above e) (above .flags ++ secondFlags p (wanted .dirty) place)) _ (h5 .1) in
+      let same : down next t ≡ down (inPlace e 51 12) (handedOn above e (secondFlags p false place)) = h6 .1 in
+      (cc, h6 .0)
+
+  module _ (address : ℕ) (m : Memory) (n table : ℕ) (above : Handed) where
+    pub unfetched : missing ≡ entry 1 m (placeIn address table n) → done (unfetchable r p wanted above) ≡ secondOver r p wanted address m n table above
+    unfolding stepOver
+    unfetched h = rw (← h)
+
+    pub fetched : {e : ℕ} → found e ≡ entry 1 m (placeIn address table n)
+        → secondStep r p wanted (suc n) (placeIn address table n) above e ≡ secondOver r p wanted address m n table above
+    unfolding stepOver
+    fetched h = rw (← h)
+
+    -- a level leads to a table that begins a page, and is not the last
+    pub down-to : {next : ℕ} {t : Handed} → down next t ≡ secondOver r p wanted address m n table above → (next % 4096 ≡ 0) × (next < 2 ^ 52) × (0 < n)
+    unfolding stepOver
+    down-to {next} {t} = by (entry 1 m (placeIn address table n))
+      where
+        by : (f : Fetched) → down next t ≡ onFetch f (done (unfetchable r p wanted above)) (secondStep r p wanted (suc n) (placeIn address table n) above)
+            → (next % 4096 ≡ 0) × (next < 2 ^ 52) × (0 < n)
+        by missing h = let z : _≡_ {A = ℕ} 0 1 = cc in absurd (omega arith)
+        by (found e) h =
+            let led = leads (suc n) (placeIn address table n) above e h in
+            (rw (led .0) (omega arith), rw (led .0) (in-place-lt e 51 12 (lit≤ tt)), more-levels n e (led .1))
+
+  -- the laws of every walk, at this one
+  module _ (address : ℕ) (m : Memory) (level table : ℕ) (s : Handed) (more : 0 < level) where
+    pub ended : {a : Walked} → done a ≡ secondOver r p wanted address m (level - 1) table s → a ≡ run (secondRules r p wanted address level table s) m
+    ended = onward.ended address (unfetchable r p wanted) (secondStep r p wanted) m level table s more
+
+    pub led : {next : ℕ} {t : Handed} → down next t ≡ secondOver r p wanted address m (level - 1) table s
+        → run (secondRules r p wanted address (level - 1) next t) m ≡ run (secondRules r p wanted address level table s) m
+    led = onward.onward address (unfetchable r p wanted) (secondStep r p wanted) m level table s more
+
+    pub ended-at : (before : Place) {a : Walked} → done a ≡ secondOver r p wanted address m (level - 1) table s
+        → lastTried before (secondRules r p wanted address level table s) m ≡ entryAt (placeIn address table (level - 1))
+    ended-at = onward.ended-at address (unfetchable r p wanted) (secondStep r p wanted) m level table s more
+
+    pub led-at : (before : Place) {next : ℕ} {t : Handed} → down next t ≡ secondOver r p wanted address m (level - 1) table s
+        → lastTried before (secondRules r p wanted address level table s) m
+        ≡ lastTried (entryAt (placeIn address table (level - 1))) (secondRules r p wanted address (level - 1) next t) m
+    led-at = onward.onward-at address (unfetchable r p wanted) (secondStep r p wanted) m level table s more
+
+    pub anew : (before before′ : Place)
+        → lastTried before (secondRules r p wanted address level table s) m ≡ lastTried before′ (secondRules r p wanted address level table s) m
+    anew before before′ = walk-anew address (unfetchable r p wanted) (secondStep r p wanted) m before before′ level table s more

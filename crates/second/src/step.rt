@@ -1,0 +1,157 @@
+// What the second-level walk makes of an entry.
+ghost use mathlib.Core.Bool.{false};
+ghost use mathlib.Core.Path.{_≡_};
+ghost use mathlib.Core.List.{_++_};
+ghost use lib.ListN.{length, take};
+ghost use Prim.Native.Nat.{_+_, _%_, _^_, _<_, _≤_};
+ghost use Rattle.image.specs.Choice.{if_then_else_};
+ghost use Rattle.image.specs.Place.{entryAt};
+ghost use Rattle.image.specs.Windows.{ofWindows, badWindows};
+ghost use Rattle.dma.specs.Walk.{placeIn};
+ghost use Rattle.pasid.specs.Reason.{numberOf};
+ghost use Rattle.second.specs.Answers.{handedBy, stepOf, StepNames, StepReachable, StepGrown};
+ghost use Rattle.second.specs.Second.{flagsNotSnooped, secondFlags, secondStep, secondOver};
+use dma::is_leaf;
+use dma::page_reserved;
+use flags::push;
+use image::Found8;
+use image::field;
+use image::in_place;
+use image::page_entry8;
+use pasid::PasidEntry;
+use pasid::ScalableReason;
+use pasid::ScalableRegisters;
+use registers::Page4K;
+
+// What an entry is handed by those above it: whether there are any, their joined rights, and how many flags are collected.
+pub struct Above {
+    pub top: bool,
+    pub read: bool,
+    pub write: bool,
+    pub count: usize,
+}
+
+// What a walk is for: which rights it needs, and whether its page is to be written.
+pub struct Wanted {
+    pub read: bool,
+    pub write: bool,
+    pub dirty: bool,
+}
+
+pub enum SecondStep {
+    // The next table, the joined rights, read and write, and how many flags are collected then.
+    Down(u64, bool, bool, usize),
+    // The frame of a page, the entry's level, the joined right to write, and how many flags.
+    Page(u64, u32, bool, usize),
+    // Why the walk ends here, FPD, and the entry's host address.
+    Fault(ScalableReason, bool, u64),
+}
+
+fn flags_not_snooped(
+    registers: ScalableRegisters,
+    entry: PasidEntry,
+    dirty: bool,
+    level: u32,
+    e: u64,
+) -> bool
+    ensures { λ r. ⌜ r ≡ flagsNotSnooped registers entry dirty level e ⌝ }
+{
+    let accessed = field(e, 8, 8) == 1;
+    let written = field(e, 9, 9) == 1;
+    let leaf = is_leaf(level, e);
+    entry.slade & !(registers.smpwc & entry.pwsnp) & (!accessed | (leaf & dirty & !written))
+}
+
+fn unfetchable(top: bool) -> ScalableReason
+    ensures { λ r. ⌜ numberOf r ≡ (if top then 0x7B else 0x78) ⌝ }
+{
+    if top {
+        return ScalableReason::SecondLevelTopAccess;
+    }
+    ScalableReason::SecondLevelAccess
+}
+
+// The flags of an entry that is used.
+fn collect(entry: PasidEntry, dirty: bool, at: u64, flags: &mut [u64], count: usize) -> usize
+    requires { ⌜ (at < 2 ^ 60) × (count + 2 ≤ length (now flags)) ⌝ }
+    ensures { λ r. ⌜ take r (now (flags .exit)) ≡ take count (now (flags .entry)) ++ secondFlags entry dirty at ⌝ }
+    ensures { λ r. ⌜ (count ≤ r) × (r ≤ count + (if dirty then 2 else 1)) ⌝ }
+{
+    if !entry.slade {
+        return count;
+    }
+    let n = push(flags, count, at, 8);
+    if dirty {
+        return push(flags, n, at, 9);
+    }
+    n
+}
+
+fn second_step(
+    registers: ScalableRegisters,
+    entry: PasidEntry,
+    wanted: Wanted,
+    above: Above,
+    level: u32,
+    at: u64,
+    e: u64,
+    flags: &mut [u64],
+) -> SecondStep
+    requires { ⌜ (0 < level) × (at < 2 ^ 60) × (above .count + 2 ≤ length (now flags)) ⌝ }
+    ensures { λ r. ⌜ stepOf r (now (flags .exit)) ≡ secondStep registers entry wanted level at (handedBy above (now (flags .entry))) e ⌝ }
+    ensures { λ r. ⌜ StepNames r (entryAt at) ⌝ }
+    ensures { λ r. ⌜ StepReachable r × StepGrown r (above .count) ⌝ }
+{
+    let readable = field(e, 0, 0) == 1;
+    let writable = field(e, 1, 1) == 1;
+    let read = above.read & readable;
+    let write = above.write & writable;
+    if !(read | write) {
+        return SecondStep::Fault(ScalableReason::SecondLevelNotPresent, entry.fpd, at);
+    }
+    if page_reserved(registers.base, level, e) {
+        return SecondStep::Fault(ScalableReason::SecondLevelReserved, entry.fpd, at);
+    }
+    if flags_not_snooped(registers, entry, wanted.dirty, level, e) {
+        return SecondStep::Fault(ScalableReason::FlagsNotSnooped, entry.fpd, at);
+    }
+    if wanted.write & !writable {
+        return SecondStep::Fault(ScalableReason::WriteDenied, entry.fpd, at);
+    }
+    if wanted.read & !readable {
+        return SecondStep::Fault(ScalableReason::ReadDenied, entry.fpd, at);
+    }
+    let frame = in_place(e, 51, 12);
+    if is_leaf(level, e) {
+        let n = collect(entry, wanted.dirty, at, flags, above.count);
+        return SecondStep::Page(frame, level, write, n);
+    }
+    let n = collect(entry, false, at, flags, above.count);
+    SecondStep::Down(frame, read, write, n)
+}
+
+// One level of the walk: below is how many levels come after it.
+pub(crate) fn second_entry(
+    windows: &[u64],
+    image: &[u8],
+    registers: ScalableRegisters,
+    entry: PasidEntry,
+    wanted: Wanted,
+    address: u64,
+    below: u32,
+    table: u64,
+    above: Above,
+    flags: &mut [u64],
+) -> SecondStep
+    requires { ⌜ (badWindows (now windows) (length (now image)) ≡ false) × (below < 5) × (table % 4096 ≡ 0) × (table < 2 ^ 52) × (above .count + 2 ≤ length (now flags)) ⌝ }
+    ensures { λ r. ⌜ stepOf r (now (flags .exit)) ≡ secondOver registers entry wanted address (ofWindows (now (windows .entry)) (now (image .entry))) below table (handedBy above (now (flags .entry))) ⌝ }
+    ensures { λ r. ⌜ StepNames r (entryAt (placeIn address table below)) ⌝ }
+    ensures { λ r. ⌜ StepReachable r × StepGrown r (above .count) ⌝ }
+{
+    let offset = 8 * ((address >> (Page4K::SHIFT + 9 * below)) % 512);
+    let at = table + offset;
+    let Found8::Entry(e) = page_entry8(windows, image, table, offset) else {
+        return SecondStep::Fault(unfetchable(above.top), entry.fpd, at);
+    };
+    second_step(registers, entry, wanted, above, below + 1, at, e, flags)
+}
