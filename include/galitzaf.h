@@ -231,7 +231,7 @@ extern "C" {
 
 /* What a call answers. */
 #define GALITZAF_OK 0x00             /* a request: the answer buffer holds its answer */
-#define GALITZAF_REFUSED_1 0x01      /* take: bad registers or windows, as for requests; nothing was taken */
+#define GALITZAF_REFUSED_1 0x01      /* take, list, build: bad registers or windows, as for requests; nothing was done */
 #define GALITZAF_REFUSED_3 0x03      /* recorder: length of records or state, next slot or slot out of range; the caller's
                                         own mistake, and no record was changed */
 #define GALITZAF_REFUSED_5 0x05      /* take: the descriptor isn't 64-aligned, or not whole in one window; no interrupt is
@@ -263,6 +263,20 @@ extern "C" {
 #define GALITZAF_FIRST_BAD_WINDOW 0x78 /* first bad: 78h to 7Ch, the window's place in the array is added */
 #define GALITZAF_LISTING_FAULT 0x80  /* list: 80h to 8Fh, the reason of the root or context entry is added */
 #define GALITZAF_LISTING_PASSED 0x90 /* list: TE is off, or the context passes through */
+#define GALITZAF_BUILD_TE_OFF 0xA1   /* build: refused with no item, A1h to A5h: TE is off */
+#define GALITZAF_BUILD_CONTEXT 0xA2  /* build: the context doesn't translate: none is found, or it passes through */
+#define GALITZAF_BUILD_REGION 0xA3   /* build: the region isn't whole pages of the windows below 2^HAW, or shares a byte with a
+                                        table or descriptor of the unit */
+#define GALITZAF_BUILD_TABLES 0xA4   /* build: the context's tables aren't in the region as built here */
+#define GALITZAF_BUILD_BUFFERS 0xA5  /* build: copy isn't the region's size, or marks not a byte for each of its pages */
+#define GALITZAF_ITEM_SIZE 0xB1      /* build: refused at an item, B1h to B8h: neither 4 KiB nor 2 MiB, or 2 MiB unsupported */
+#define GALITZAF_ITEM_ALIGNMENT 0xB2 /* build: place, or a map's frame, is no multiple of the size */
+#define GALITZAF_ITEM_PLACE 0xB3     /* build: at or above 2^X, or a byte in FEE00000h to FEEFFFFFh */
+#define GALITZAF_ITEM_RIGHTS 0xB4    /* build: a map without a right */
+#define GALITZAF_ITEM_FRAME 0xB5     /* build: at or above 2^HAW, or a byte in FEE00000h to FEEFFFFFh */
+#define GALITZAF_ITEM_OVERLAP 0xB6   /* build: a mapped page meets this one */
+#define GALITZAF_ITEM_PAGES 0xB7     /* build: fewer free pages than tables that are missing */
+#define GALITZAF_ITEM_NOT_MAPPED 0xB8 /* build: an unmap where no page of this start and size is mapped */
 #define GALITZAF_BAD_REGISTERS 0x101 /* not 24 bytes, or a bit set that has to be zero */
 #define GALITZAF_BAD_ANSWER 0x102    /* not 32 bytes, or, to be recorded, of no kind above, or, to be traced, no
                                         answer to a request of this kind */
@@ -273,6 +287,7 @@ extern "C" {
 #define GALITZAF_BAD_TRACE 0x107     /* trace: a writer or a place that isn't two numbers in range, or a block that
                                         isn't 512 bytes */
 #define GALITZAF_BAD_CACHE 0x108     /* not 776 numbers */
+#define GALITZAF_BAD_ITEMS 0x109     /* build: the count of numbers is no multiple of four, or item isn't one number */
 #define GALITZAF_TAKEN 0x200         /* take: 200h to 2FFh, the vector handed out is added */
 #define GALITZAF_LISTED 0x2000       /* list: 2000h to 3000h, the count of spans is added */
 #define GALITZAF_LISTED_MORE 0x6000  /* list: the same, and there are more spans */
@@ -369,6 +384,53 @@ uint32_t galitzaf_list_spans(const uint8_t *registers, size_t registers_len,
                              uint16_t source,
                              uint64_t *known, size_t known_len,
                              uint64_t *spans, size_t spans_len);
+
+/* A page to map or unmap. */
+struct galitzaf_item {
+    uint64_t what;  /* GALITZAF_MAP_READ, GALITZAF_MAP_WRITE or both to map it; GALITZAF_UNMAP to unmap it. Bits 63:3
+                       aren't looked at */
+    uint64_t place; /* its first address, a multiple of the size */
+    uint64_t size;  /* 1000h or 200000h */
+    uint64_t frame; /* of a map: the host address that it goes to, a multiple of the size */
+};
+#define GALITZAF_MAP_READ 1
+#define GALITZAF_MAP_WRITE 2
+#define GALITZAF_UNMAP 4
+
+static inline const uint64_t *galitzaf_item_numbers(const struct galitzaf_item *items)
+{
+    return (const uint64_t *)items;
+}
+
+/* The two arguments items, items_len of a call, from an array of items. */
+#define GALITZAF_ITEMS(items, count) galitzaf_item_numbers(items), 4 * (size_t)(count)
+
+/* How many bytes of marks a region needs. */
+#define GALITZAF_MARKS(size) ((size) / 4096)
+
+/* Maps and unmaps a list of pages in the page tables of a source's context, whole or not at all. The tables lie in a region
+ * of guest memory, size bytes from the host address start on, and begin as an empty top table, all zero, anywhere in it. All
+ * other pages of the region are free: they become tables as they are needed, the lowest first, zeroed then, and are free
+ * again when nothing is mapped through them. No other byte of guest memory is written.
+ *
+ * Items are taken in order, each over what those before it left. At the first with a reason against it the whole list is
+ * refused: its index, from 0, is put into the one number of item, the reason is the status, and no byte of guest memory is
+ * changed. After GALITZAF_OK the requests of every source whose context this is are answered as the list leaves its pages,
+ * where no other context has a table in the region; translations that a cache holds are to be invalidated.
+ *
+ * copy and marks are lent to work in, size bytes and GALITZAF_MARKS(size): what they hold before and after doesn't matter.
+ * image is the run, in which only bytes that the windows show from start on may change; item stays as it was where no item
+ * is refused. Malformed registers are told first, then windows and items; then refusal 1, and the rest in the order of
+ * its numbers, GALITZAF_BUILD_BUFFERS before GALITZAF_BUILD_TABLES. */
+GALITZAF_CHECK
+uint32_t galitzaf_build(const uint8_t *registers, size_t registers_len,
+                        const uint64_t *windows, size_t windows_len,
+                        uint8_t *image, size_t image_len,
+                        uint16_t source, uint64_t start, uint64_t size,
+                        const uint64_t *items, size_t items_len,
+                        uint8_t *copy, size_t copy_len,
+                        uint8_t *marks, size_t marks_len,
+                        uint64_t *item, size_t item_len);
 
 /* Records the fault of a request's answer. Every recorder call tells refusal 3 first: records or a state
  * of another length, a next slot or a slot to clear above the last. Here a malformed answer comes next, then

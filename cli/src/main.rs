@@ -3,6 +3,7 @@
 #![forbid(unsafe_code)]
 
 mod answer;
+mod build;
 mod decode;
 mod map;
 mod memory;
@@ -23,7 +24,7 @@ enum Problem {
     Usage(String),
     /// A file that can't be read, or a step in it that is bad.
     Bad(String),
-    /// A trace in which something is damaged or differs, with its lines.
+    /// A trace in which something is damaged or differs, or a list that is refused, with its lines.
     Named(String),
 }
 
@@ -72,13 +73,14 @@ fn command(words: &[&str]) -> Result<String, Problem> {
         ["probe", steps @ ..] if !steps.is_empty() => probe(&steps.join(" ")),
         ["map", files @ ..] if !files.is_empty() => Ok(map::listing(&mut set(files)?)),
         ["picture", files @ ..] if !files.is_empty() => Ok(map::picture(&mut set(files)?)),
+        ["build", files @ ..] if !files.is_empty() => build(files),
         ["decode", file] => Ok(decode::text(file, &read(file)?)?),
         ["decode", words @ ..] if words.len() > 1 => Ok(decode::words(words)?),
         ["trace", "write", file, texts @ ..] if !texts.is_empty() => trace_write(file, texts),
         ["trace", "read", file] => told(trace::read(&bytes(file)?)),
         ["trace", "replay", file, texts @ ..] if !texts.is_empty() => trace_replay(file, texts),
         ["trace", ..] => usage("trace write, read or replay which files?".to_string()),
-        ["ask" | "decode" | "map" | "picture"] => usage(format!("{} what?", words[0])),
+        ["ask" | "decode" | "map" | "picture" | "build"] => usage(format!("{} what?", words[0])),
         ["probe"] => usage("probe which step?".to_string()),
         [] => usage("no command".to_string()),
         [other, ..] => usage(format!("no command `{other}`")),
@@ -150,6 +152,19 @@ fn set(files: &[&str]) -> Result<Setting, Problem> {
         setting.set_all(file, &read(file)?)?;
     }
     Ok(setting)
+}
+
+/// Lists of pages, built one after the other.
+fn build(files: &[&str]) -> Result<String, Problem> {
+    let mut building = build::Building::default();
+    for file in files {
+        building.take_all(file, &read(file)?)?;
+    }
+    let (lines, refused) = building.lines()?;
+    if refused {
+        return Err(Problem::Named(lines));
+    }
+    Ok(lines)
 }
 
 fn probe(steps: &str) -> Result<String, Problem> {

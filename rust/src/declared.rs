@@ -29,6 +29,10 @@ pub const TRACE_WRITE: u8 = 2;
 pub const TRACE_INTERRUPT: u8 = 3;
 pub const TRACE_TRANSLATION: u8 = 4;
 
+pub const MAP_READ: u64 = 1;
+pub const MAP_WRITE: u64 = 2;
+pub const UNMAP: u64 = 4;
+
 pub const BLOCKED: u8 = 1;
 pub const REFUSED: u8 = 2;
 pub const PASSED: u8 = 3;
@@ -69,6 +73,20 @@ pub const BAD_ANSWER: u32 = 0x102;
 pub const BAD_TRACE: u32 = 0x107;
 pub const LISTING_FAULT: u32 = 0x80;
 pub const LISTING_PASSED: u32 = 0x90;
+pub const BUILD_TE_OFF: u32 = 0xA1;
+pub const BUILD_CONTEXT: u32 = 0xA2;
+pub const BUILD_REGION: u32 = 0xA3;
+pub const BUILD_TABLES: u32 = 0xA4;
+pub const BUILD_BUFFERS: u32 = 0xA5;
+pub const ITEM_SIZE: u32 = 0xB1;
+pub const ITEM_ALIGNMENT: u32 = 0xB2;
+pub const ITEM_PLACE: u32 = 0xB3;
+pub const ITEM_RIGHTS: u32 = 0xB4;
+pub const ITEM_FRAME: u32 = 0xB5;
+pub const ITEM_OVERLAP: u32 = 0xB6;
+pub const ITEM_PAGES: u32 = 0xB7;
+pub const ITEM_NOT_MAPPED: u32 = 0xB8;
+pub const BAD_ITEMS: u32 = 0x109;
 pub const TAKEN: u32 = 0x200;
 pub const LISTED: u32 = 0x2000;
 pub const LISTED_MORE: u32 = 0x6000;
@@ -165,6 +183,26 @@ extern "C" {
         known_len: usize,
         spans: *mut u64,
         spans_len: usize,
+    ) -> u32;
+
+    pub fn galitzaf_build(
+        registers: *const u8,
+        registers_len: usize,
+        windows: *const u64,
+        windows_len: usize,
+        image: *mut u8,
+        image_len: usize,
+        source: u16,
+        start: u64,
+        size: u64,
+        items: *const u64,
+        items_len: usize,
+        copy: *mut u8,
+        copy_len: usize,
+        marks: *mut u8,
+        marks_len: usize,
+        item: *mut u64,
+        item_len: usize,
     ) -> u32;
 
     pub fn galitzaf_record(

@@ -6,7 +6,7 @@
 
 #![allow(unsafe_code)]
 
-use crate::Window;
+use crate::{Item, Region, Window};
 
 pub(crate) use crate::declared::*;
 
@@ -192,6 +192,47 @@ pub(crate) fn list_spans(
             rows.len().saturating_mul(4),
         )
     }
+}
+
+/// What the library said to a list of pages to map and unmap, and the index of the item that it refused.
+#[allow(clippy::too_many_arguments)]
+pub(crate) fn build(
+    registers: &[u8; REGISTERS_SIZE],
+    windows: &[Window],
+    image: &mut [u8],
+    source: u16,
+    region: Region,
+    items: &[Item],
+    copy: &mut [u8],
+    marks: &mut [u8],
+) -> (u32, u64) {
+    let mut item = [0; 1];
+    // SAFETY: each pointer and length is that of a live slice or array, windows taken as three numbers and
+    // items as four. `image`, `copy`, `marks` and `item` are written: the first three are lent by `&mut`, the
+    // last is a local, so that none overlaps another. None is kept after the call.
+    let status = unsafe {
+        galitzaf_build(
+            registers.as_ptr(),
+            registers.len(),
+            windows.as_ptr().cast(),
+            numbers(windows),
+            image.as_mut_ptr(),
+            image.len(),
+            source,
+            region.start,
+            region.size,
+            items.as_ptr().cast(),
+            items.len().saturating_mul(4),
+            copy.as_mut_ptr(),
+            copy.len(),
+            marks.as_mut_ptr(),
+            marks.len(),
+            item.as_mut_ptr(),
+            item.len(),
+        )
+    };
+    let [index] = item;
+    (status, index)
 }
 
 /// What the library said to a take.

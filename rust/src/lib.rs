@@ -7,9 +7,9 @@
 //! give that one answer.
 //!
 //! Nothing has to be checked beforehand and nothing panics: any registers, any memory and any
-//! request get an answer. The crate needs neither `std` nor an allocator. It is for programs of an
-//! operating system: the archive that it links uses the red zone below the stack, so the build script
-//! refuses targets without one.
+//! request get an answer. The crate needs no `std`, and an allocator for [`TableBuilder`] alone, which is the
+//! default feature `alloc`. It is for programs of an operating system: the archive that it links uses the red
+//! zone below the stack, so the build script refuses targets without one.
 //!
 //! Guest memory with holes is shown in windows: [`Memory`] has an example.
 //!
@@ -61,7 +61,11 @@
     )
 )]
 
+#[cfg(feature = "alloc")]
+extern crate alloc;
+
 mod answer;
+mod builder;
 mod bytes;
 mod cached;
 mod declared;
@@ -82,6 +86,9 @@ pub use answer::{
     DeliveryMode, DestinationMode, InterruptAnswer, MemoryAnswer, Notification, Page, PageSize,
     Posted, Refusal, Remapped, TakeAnswer, TranslationAnswer, TriggerMode,
 };
+#[cfg(feature = "alloc")]
+pub use builder::TableBuilder;
+pub use builder::{BuildError, Item, ItemReason, NotReady, Region};
 pub use cached::CachedUnit;
 pub use fault::{Fault, FaultRecord, Reason};
 pub use first_bad::FirstBad;

@@ -86,11 +86,19 @@ pub enum Flaw {
     NumberNotCompared,
     /// A replay makes no posts.
     ReplayWithoutPosts,
+    /// A refused list is taken up to its bad item.
+    RefusedInPart,
+    /// A refused list names its first item.
+    ItemNotNamed,
+    /// An item over a mapped page is passed over.
+    OverlapLetPass,
+    /// Too few pages are told as an overlap.
+    PagesToldAsOverlap,
 }
 
 impl Flaw {
     /// Each of them.
-    pub const ALL: [Flaw; 42] = [
+    pub const ALL: [Flaw; 46] = [
         Flaw::Known(Slip::Index16),
         Flaw::Known(Slip::LastEntryRights),
         Flaw::Known(Slip::MaskLargeFrame),
@@ -133,6 +141,10 @@ impl Flaw {
         Flaw::SumNotLookedAt,
         Flaw::NumberNotCompared,
         Flaw::ReplayWithoutPosts,
+        Flaw::RefusedInPart,
+        Flaw::ItemNotNamed,
+        Flaw::OverlapLetPass,
+        Flaw::PagesToldAsOverlap,
     ];
 
     /// Whether it can make a difference in a part.
@@ -187,6 +199,13 @@ impl Flaw {
                 | Flaw::ReplayWithoutPosts,
                 part,
             ) => matches!(part, Part::Traces),
+            (
+                Flaw::RefusedInPart
+                | Flaw::ItemNotNamed
+                | Flaw::OverlapLetPass
+                | Flaw::PagesToldAsOverlap,
+                part,
+            ) => matches!(part, Part::Builders),
             (_, part) => matches!(part, Part::Recorder),
         }
     }

@@ -10,6 +10,7 @@
 
 #![forbid(unsafe_code)]
 
+mod builders;
 mod bytes;
 mod caches;
 mod classify;

@@ -6,7 +6,7 @@ use crate::met::{Call, Met};
 use crate::recorder::wrong_length;
 use crate::tally::Tally;
 use cases::{bench, Random, World};
-use interface::{ANSWER_SIZE, CACHE_WORDS, RECORDER_SIZE, RECORDS_SIZE, REGISTERS_SIZE};
+use interface::{Building, ANSWER_SIZE, CACHE_WORDS, RECORDER_SIZE, RECORDS_SIZE, REGISTERS_SIZE};
 
 /// The suite's name.
 pub const NAME: &str = "malformed";
@@ -15,7 +15,7 @@ pub const NAME: &str = "malformed";
 pub const CALLS: u64 = KINDS * 500;
 
 /// Calls with what is wrong with them.
-const KINDS: u64 = 26;
+const KINDS: u64 = 29;
 
 /// The arguments of any call.
 #[derive(Clone, PartialEq, Eq)]
@@ -24,6 +24,9 @@ struct Arguments {
     windows: Vec<u64>,
     image: Vec<u8>,
     cache: Vec<u64>,
+    items: Vec<u64>,
+    item: Vec<u64>,
+    region: [Vec<u8>; 2],
     write: u8,
     answer: Vec<u8>,
     records: Vec<u8>,
@@ -105,16 +108,27 @@ fn spoil_cache(random: &mut Random, arguments: &mut Arguments) {
     }
 }
 
+/// A count of numbers that is no multiple of four, or another count than one for the index.
+fn spoil_items(random: &mut Random, arguments: &mut Arguments) {
+    if random.coin() {
+        arguments.item.resize(random.pick(&[0, 2, 3]), 7);
+        return;
+    }
+    let count = 4 * random.below(7) + 1 + random.below(3);
+    arguments.items.resize(count as usize, 0);
+}
+
 /// What is called, and what is wrong with it.
 fn spoil(random: &mut Random, which: u64, arguments: &mut Arguments) -> (Call, u32) {
     match which {
-        0 | 1 | 12 | 16 | 19 => spoil_registers(random, &mut arguments.registers),
+        0 | 1 | 12 | 16 | 19 | 26 => spoil_registers(random, &mut arguments.registers),
         2 | 3 | 17 | 22 => resized(random, &mut arguments.answer),
         4 | 23 => arguments.write = 2 + random.below(254) as u8,
         5 => spoil_recorded(random, &mut arguments.answer),
         6..=8 => spoil_overflow(random, &mut arguments.recorder),
-        13..=15 | 18 | 20 => spoil_windows(random, arguments),
+        13..=15 | 18 | 20 | 27 => spoil_windows(random, arguments),
         21 | 24 | 25 => spoil_cache(random, arguments),
+        28 => spoil_items(random, arguments),
         _ => spoil_place(random, arguments),
     }
     match which {
@@ -143,7 +157,10 @@ fn spoil(random: &mut Random, which: u64, arguments: &mut Arguments) -> (Call, u
         22 => (Call::Cached, 0x102),
         23 => (Call::Cached, 0x103),
         24 => (Call::InvalidateAll, 0x108),
-        _ => (Call::InvalidateDomain, 0x108),
+        25 => (Call::InvalidateDomain, 0x108),
+        26 => (Call::Build, 0x101),
+        27 => (Call::Build, 0x105),
+        _ => (Call::Build, 0x109),
     }
 }
 
@@ -153,6 +170,9 @@ fn call(which: Call, arguments: &mut Arguments) -> u32 {
         windows,
         image,
         cache,
+        items,
+        item,
+        region,
         write,
         answer,
         records,
@@ -180,6 +200,16 @@ fn call(which: Call, arguments: &mut Arguments) -> u32 {
             interface::interrupt_request(registers, windows, image, source, to, 0, answer)
         }
         Call::Take => interface::take(registers, windows, image, 0x6400),
+        Call::Build => {
+            let [copy, marks] = region;
+            let lent = Building {
+                image,
+                copy,
+                marks,
+                item,
+            };
+            interface::build(registers, windows, source, [0x3000, 0x3000], items, lent)
+        }
         Call::Record => interface::record(answer, records, recorder),
         Call::ClearSlot => interface::clear_slot(records, recorder, 0),
         Call::ClearOverflow => interface::clear_overflow(records, recorder),
@@ -196,6 +226,9 @@ pub fn run(number: u64, tally: Option<&mut Tally>) -> Result<(), String> {
         windows: interface::flat(world.image.len()).to_vec(),
         image: world.image,
         cache: [0; CACHE_WORDS].to_vec(),
+        items: vec![3, 0x4000_0000, 0x1000, 0x1000],
+        item: vec![7],
+        region: [vec![1; 0x3000], vec![1; 3]],
         write: 0,
         answer: [3; ANSWER_SIZE].to_vec(),
         records: [0xFF; RECORDS_SIZE].to_vec(),

@@ -1,5 +1,6 @@
 //! What was met: each outcome that document 01 has, told apart further by how it came about.
 
+use crate::builders;
 use crate::caches;
 use crate::meters::Seen;
 use crate::traces;
@@ -90,6 +91,8 @@ pub enum Met {
     Caches(caches::Seen),
     /// A trace.
     Traces(traces::Seen),
+    /// A list of pages to map and unmap.
+    Builders(builders::Seen),
 }
 
 /// A call of the C interface.
@@ -109,6 +112,8 @@ pub enum Call {
     Interrupt,
     /// `galitzaf_take`.
     Take,
+    /// `galitzaf_build`.
+    Build,
     /// `galitzaf_record`.
     Record,
     /// `galitzaf_clear_slot`.
@@ -224,6 +229,7 @@ impl fmt::Display for Met {
             Met::Translations(seen) => write!(f, "translation: {seen}"),
             Met::Caches(seen) => write!(f, "cache: {seen}"),
             Met::Traces(seen) => write!(f, "trace: {seen}"),
+            Met::Builders(seen) => write!(f, "builder: {seen}"),
         }
     }
 }
@@ -269,6 +275,7 @@ fn said(status: u32) -> &'static str {
         0x104 => "bad recorder",
         0x105 => "bad windows",
         0x108 => "bad cache",
+        0x109 => "bad items",
         _ => "something else",
     }
 }
@@ -283,6 +290,7 @@ impl fmt::Display for Call {
             Call::InvalidateDomain => "invalidate a domain",
             Call::Interrupt => "interrupt request",
             Call::Take => "take",
+            Call::Build => "build",
             Call::Record => "record",
             Call::ClearSlot => "clear slot",
             Call::ClearOverflow => "clear overflow",

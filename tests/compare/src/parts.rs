@@ -1,6 +1,8 @@
 //! The parts of a run: the suites of worlds, the recorder's sequences, runs of posts and takes, the
-//! malformed calls, the rows of meters, the translation requests, the runs through a cache, the traces.
+//! malformed calls, the rows of meters, the translation requests, the runs through a cache, the traces, the
+//! lists of pages to map.
 
+use crate::builders;
 use crate::caches;
 use crate::flaw::Flaw;
 use crate::judge::Judge;
@@ -34,6 +36,8 @@ pub enum Part {
     Caches,
     /// Traces.
     Traces,
+    /// Lists of pages to map and unmap.
+    Builders,
 }
 
 impl Part {
@@ -47,6 +51,7 @@ impl Part {
             Part::Translations,
             Part::Caches,
             Part::Traces,
+            Part::Builders,
         ];
         SUITES.iter().map(Part::Worlds).chain(others)
     }
@@ -62,6 +67,7 @@ impl Part {
             Part::Translations => translations::NAME,
             Part::Caches => caches::NAME,
             Part::Traces => traces::NAME,
+            Part::Builders => builders::NAME,
         }
     }
 
@@ -76,6 +82,7 @@ impl Part {
             Part::Translations => translations::worlds(),
             Part::Caches => caches::RUNS,
             Part::Traces => traces::traces(),
+            Part::Builders => builders::RUNS,
         }
     }
 }
@@ -124,6 +131,7 @@ impl Runner {
                 traces::build(number, &mut self.world);
                 traces::run(number, &mut self.world, self.flaw, tally)
             }
+            Part::Builders => builders::Run::build(number).run(self.flaw, tally),
         }
     }
 
@@ -141,6 +149,7 @@ impl Runner {
             Part::Translations => translations::print(number, &mut self.world),
             Part::Caches => caches::Run::build(number).print(),
             Part::Traces => traces::print(number, &mut self.world),
+            Part::Builders => builders::Run::build(number).print(),
         }
     }
 }

@@ -1,5 +1,6 @@
 //! All that has to be met: the outcomes of documents 01 and 02, and entries in each form.
 
+use crate::builders;
 use crate::caches;
 use crate::met::{Call, Kind, Met};
 use crate::meters::Seen;
@@ -101,6 +102,7 @@ fn malformed(wanted: &mut Vec<Met>) {
         (Call::InvalidateDomain, &[0x108]),
         (Call::Interrupt, &[0x101, 0x102, 0x105]),
         (Call::Take, &[0x101, 0x105]),
+        (Call::Build, &[0x101, 0x105, 0x109]),
         (Call::Record, &[0x03, 0x102, 0x104]),
         (Call::ClearSlot, &[0x03, 0x104]),
         (Call::ClearOverflow, &[0x03, 0x104]),
@@ -162,5 +164,6 @@ pub fn all() -> Vec<Met> {
     wanted.extend(translations.map(Met::Translations));
     wanted.extend(caches::Seen::all().into_iter().map(Met::Caches));
     wanted.extend(traces::Seen::all().into_iter().map(Met::Traces));
+    wanted.extend(builders::Seen::all().into_iter().map(Met::Builders));
     wanted
 }

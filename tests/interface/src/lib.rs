@@ -9,11 +9,13 @@ use galitzaf as _;
 
 use std::ops::Deref;
 
+mod builder;
 #[path = "../../../rust/src/declared.rs"]
 mod declared;
 mod meters;
 mod traces;
 
+pub use builder::{build, Building};
 pub use meters::{reset_meters, tick_meters, Gates};
 pub use traces::{trace_append, trace_check, trace_close, trace_next, trace_replay, Asked};
 
