@@ -1,10 +1,11 @@
 use Prim.Native.Nat.{_+_, _*_, _-_, _≤_}
-use mathlib.Core.Path.{refl, sym, _∙_}
+use mathlib.Core.Bool.{true}
+use mathlib.Core.Path.{_≡_, refl, sym, _∙_}
 use native.Mathlib.Omega.{arith}
 use borrow.Author.Tests.{eq-eqb, ne-eqb}
 use lib.Dec.{lit≤}
 use Rattle.image.proofs.Fields.{in-place-lt}
-use Rattle.first.specs.First.{firstStep}
+use Rattle.first.specs.First.{userDenied, firstStep}
 use Rattle.first.proofs.Reserved.{low-leaf}
 use borrow.Author.Needs.{needs}
 use Rattle.first.proofs.step.first_step.Statement.{statement}
@@ -39,7 +40,10 @@ user-denied-requires c κs = search needs
 
 returns-4 : tie.Need-returns-4
 unfolding firstStep
-returns-4 c = (rw (← c .before .before .before .before .before .before .before .before .before .before .field .ensures, eq-eqb _ _ (c .before .before .before .before .before .before .before .before .before .if1 .left), ← c .before .before .before .before .before .before .before .before .first-reserved .ensures, c .before .before .before .before .before .before .before .if2 .left, ← c .before .before .before .before .before .before .is-leaf .ensures, ← c .before .before .before .before .before .flag-clear .ensures, c .before .before .if3 .left, ← c .before .user-denied .ensures, c .if4 .taken), (refl, tt))
+returns-4 c =
+    let a = c .before .before .before .before .before .before .before .before .before .before .before .args in
+    let denied : userDenied (a .entry) (a .e) ≡ true = sym (c .before .user-denied .ensures) ∙ c .if4 .taken in
+    (rw (← c .before .before .before .before .before .before .before .before .before .before .field .ensures, eq-eqb _ _ (c .before .before .before .before .before .before .before .before .before .if1 .left), ← c .before .before .before .before .before .before .before .before .first-reserved .ensures, c .before .before .before .before .before .before .before .if2 .left, ← c .before .before .before .before .before .before .is-leaf .ensures, ← c .before .before .before .before .before .flag-clear .ensures, c .before .before .if3 .left, denied), (refl, tt))
 
 write-denied-requires : tie.Need-write-denied-requires
 write-denied-requires c κs = search needs
