@@ -1,20 +1,26 @@
 //! Measures the proved unit beside the ordinary translator, in one process, over the same registers,
 //! images and requests, and prints a table; then reads through a cache of translations, rows of meters
-//! beside a plain loop, and traces.
+//! beside a plain loop, traces, and page tables built.
 //!
 //!     figures                    the tables
 //!     figures --rows FROM TO     of the first table, rows from one number up to another, from 0
 //!     figures --meters           the meters' table alone
 //!     figures --caches           the caches' table alone
 //!     figures --traces           the traces' table alone
+//!     figures --builders         the builders' table alone
 //!     figures --counts           instructions alone, without times
+//!     figures --builders --counts
+//!                                the same of the builders' table
 //!     figures --load ROW SIDE    one row's requests, some thousand of them, for valgrind to count
 //!     figures --meters ROW SIDE  one row's ticks, likewise
 //!     figures --caches ROW SIDE  one row's reads through a cache, likewise
+//!     figures --builders ROW SIDE
+//!                                one row's lists of pages, likewise
 
 #![forbid(unsafe_code)]
 
 mod agree;
+mod builders;
 mod caches;
 mod count;
 mod load;
@@ -94,7 +100,9 @@ fn main() -> ExitCode {
             println!();
             let good = meters::print() && good;
             println!();
-            status(traces::print() && good)
+            let good = traces::print() && good;
+            println!();
+            status(builders::print() && good)
         }
         ["--rows", from, to] => {
             let (Ok(from), Ok(to)) = (from.parse::<usize>(), to.parse::<usize>()) else {
@@ -119,6 +127,12 @@ fn main() -> ExitCode {
         }
         [meters::ARGUMENT] => status(meters::print()),
         [traces::ARGUMENT] => status(traces::print()),
+        [builders::ARGUMENT] => status(builders::print()),
+        [builders::ARGUMENT, "--counts"] => status(builders::print_counts()),
+        [builders::ARGUMENT, row, side] => {
+            let built = row.parse().ok().and_then(|n| builders::counted(n, side));
+            built.map_or(ExitCode::from(2), |()| ExitCode::SUCCESS)
+        }
         [meters::ARGUMENT, row, side] => {
             let ticked = row.parse().ok().and_then(|n| meters::counted(n, side));
             ticked.map_or(ExitCode::from(2), |()| ExitCode::SUCCESS)

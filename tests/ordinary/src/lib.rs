@@ -1,5 +1,5 @@
 //! An ordinary VT-d translator in Rust, written to be shipped: it gives the answers of document 01
-//! by masks and early returns, without copying or allocating.
+//! by masks and early returns, without copying or allocating; its builder of page tables does both.
 //!
 //! It is what the proved unit is measured against. Nothing about it is proved;
 //! `tests/against_reference.rs` compares it with the reference. Unsafe code stands in `windows.rs`
@@ -7,6 +7,7 @@
 
 #![deny(unsafe_code)]
 
+mod builder;
 mod cached;
 mod fault;
 mod fetch;
@@ -19,6 +20,7 @@ mod unit;
 #[allow(unsafe_code)]
 mod windows;
 
+pub use builder::{build, Built, Item};
 pub use cached::{cached_request, Cache};
 pub use fault::Fault;
 pub use interrupt::{interrupt_request, InterruptAnswer, Notice, Remapped};
