@@ -84,7 +84,7 @@ abbrev none : Pasid
 none = record { present = false; value = 0 }
 
 abbrev answered : (write : Bool) → Pasid → MemoryOutcome
-answered write pasid = run (scalableRules registers (asked write pasid)) memory
+answered write pasid = run (scalableRules registers (asked write pasid)) memory .outcome
 
 -- as it is blocked, with nothing silenced
 abbrev faulted : (reason : ℕ) (write : Bool) → Pasid → MemoryOutcome

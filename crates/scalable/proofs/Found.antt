@@ -5,7 +5,7 @@ use mathlib.Core.Path.{_≡_, refl, ap, sym, _∙_, subst}
 use native.Mathlib.Omega.{arith}
 use borrow.Author.Tests.{eqb-true}
 use lib.Dec.{eqb}
-use Rattle.image.specs.Bits.{bits, bit, inPlace}
+use Rattle.image.specs.Bits.{bits, bit, anySet, inPlace}
 use Rattle.image.specs.Check.{Check, stop, go, onCheck}
 use Rattle.image.specs.Choice.{if_then_else_}
 use Rattle.image.specs.EntryKind.{EntryKind, wordsOf, rootEntry, scalableContextEntry, pasidDirectoryEntry, pasidTableEntry}
@@ -20,13 +20,14 @@ use Rattle.pasid.specs.Context.{contextCheck}
 use Rattle.pasid.specs.Directory.{directoryCheck}
 use Rattle.pasid.specs.Root.{rootCheck}
 use Rattle.pasid.specs.declared.context.ScalableContext.{ScalableContext}
-use Rattle.pasid.specs.Table.{tableReserved, typeSupported, modeSupported, tableInvalid, pasidEntryOf, tableCheck}
+use Rattle.pasid.specs.Table.{featureReserved, pointersReserved, tableReserved, typeSupported, modeSupported, tableInvalid, pasidEntryOf, tableCheck}
 use Rattle.pasid.specs.declared.Pasid.{Pasid}
 use Rattle.pasid.specs.declared.ScalableRegisters.{ScalableRegisters}
 use Rattle.pasid.specs.declared.table.PasidEntry.{PasidEntry}
 use Rattle.scalable.specs.Lookup.{Lookup, pasidEntry, noPasidEntry, tableRules, directoryRules, contextRules, lookupRules}
 use Rattle.scalable.specs.Requests.{withoutEntry, lookedUp, translationRules, Walkable}
 use Rattle.nested.proofs.Thens.{Ends, run-then, tried-then}
+use Rattle.scalable.proofs.Tables.{either, below-haw}
 
 module _ (r : ScalableRegisters) (address : ℕ) (write : Bool) where
   abbrev Last : Lookup → Type 0
@@ -79,11 +80,7 @@ module _ (r : ScalableRegisters) (address : ℕ) (write : Bool) where
     looked-up-at before = tried-then withoutEntry (lookedUp r address write) before (lookupRules r pasid source) m (outside pasid source)
 
 -- an entry of a unit without first level and nested translation
-module _ (r : ScalableRegisters) (no-first : r .flts ≡ false) (no-nested : r .nest ≡ false) where
-  either : (a b : Bool) → (a || b) ≡ false → (a ≡ false) × (b ≡ false)
-  either true b h = let z : _≡_ {A = ℕ} 0 1 = cc in absurd (omega arith)
-  either false b h = (refl, h)
-
+module _ (r : ScalableRegisters) (no-first : r .flts ≡ false) (no-nested : r .nest ≡ false) (low : r .base .haw ≤ 52) where
   -- PGTT is 2 where it isn't 4
   second : (pgtt : ℕ) → not (typeSupported r pgtt) ≡ false → (pgtt ≡ 4 → ⊥) → pgtt ≡ 2
   second pgtt h other = one (eqb pgtt 1) refl h
@@ -124,7 +121,7 @@ module _ (r : ScalableRegisters) (no-first : r .flts ≡ false) (no-nested : r .
       one false q h = two (eqb aw 2) refl h
 
   walkable : (privileged fpd : Bool) (e : ℕ) {p : PasidEntry} → tableCheck r privileged fpd e ≡ go p → Walkable p
-  unfolding tableCheck tableInvalid
+  unfolding tableCheck tableInvalid tableReserved pointersReserved
   walkable privileged fpd e {p} h =
       let h1 = past (not (bit e 0)) 0x59 _ p h in
       let h2 = past (tableReserved r e) 0x5A _ p (h1 .1) in
@@ -136,11 +133,14 @@ module _ (r : ScalableRegisters) (no-first : r .flts ≡ false) (no-nested : r .
       let widths = (eqb (bits e 8 6) 2 || eqb (bits e 8 6) 3) && not (widthSupported (r .base) (bits e 4 2)) in
       let valid = either (kinds || widths) ((eqb (bits e 8 6) 1 || eqb (bits e 8 6) 3) && not (modeSupported r (bits e 131 130))) (h3 .0) .0 in
       let parts = either kinds widths valid in
+      let pointers = anySet e 63 (r .base .haw) || anySet e 191 (128 + r .base .haw) in
+      let others = anySet e 11 10 || anySet e 86 80 || anySet e 139 136 || anySet e 511 192 in
+      let clear = either (anySet e 63 (r .base .haw)) (anySet e 191 (128 + r .base .haw)) (either others pointers (either (others || pointers) (featureReserved r e) (h2 .0) .0) .1) .0 in
       rw is
       (λ other.
       let two = second (bits e 8 6) (parts .0) other in
       let aw : not (widthSupported (r .base) (bits e 4 2)) ≡ false = rw two at (parts .1) in
-      (omega arith, omega (arith, width (bits e 4 2) aw), omega arith))
+      (omega arith, omega (arith, width (bits e 4 2) aw), omega arith, below-haw (r .base .haw) e low clear))
 
   abbrev pub Finds : Lookup → Type 0
   Finds (pasidEntry p) = Walkable p

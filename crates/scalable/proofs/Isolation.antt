@@ -1,6 +1,7 @@
 -- Every answer to an entry that can't be fetched is an access fault, so any other is settled by the named words.
 use Prim.Native.Nat.{ℕ, zero, suc}
 use mathlib.Core.Bool.{Bool, true, false, _||_}
+use mathlib.Core.List.{[]}
 use mathlib.Core.Path.{_≡_, refl, ap, ap₂, sym, _∙_}
 use native.Mathlib.Omega.{arith}
 use Rattle.image.specs.Bits.{bit}
@@ -26,11 +27,10 @@ use Rattle.pasid.specs.declared.context.ScalableContext.{ScalableContext}
 use Rattle.pasid.specs.declared.table.PasidEntry.{PasidEntry}
 use Rattle.scalable.specs.Isolation.{accessReason, accessFault, ScalableLocality}
 use Rattle.scalable.specs.Lookup.{Lookup, pasidEntry, noPasidEntry, tableRules, directoryRules, contextRules, lookupRules}
-use Rattle.scalable.specs.Requests.{Translation, through, walked, pasidTooWide, secondLevelOnly, wantedFor, withoutEntry, lookedUp, typeRules, translationRules, scalableOutcome, takenRules, scalableRules}
-use Rattle.scalable.specs.Second.{Walked, page, fault, atTop, unfetchable, secondStep, secondRules}
+use Rattle.scalable.specs.Requests.{Translation, through, reached, fault, pasidTooWide, secondLevelOnly, wantedFor, withoutEntry, paged, lookedUp, typeRules, translationRules, Decision, sayOnly, decision, takenRules, scalableRules}
+use Rattle.second.specs.Second.{Walked, page, fault as walkFault, atTop, unfetchable, secondStep, secondRules}
 use Rattle.nested.proofs.Thens.{outside-then}
 use Rattle.scalable.specs.declared.ScalableRequest.{ScalableRequest}
-use Rattle.scalable.specs.declared.second.Above.{Above}
 use lib.Dec.{eqb}
 
 -- a walk by levels, over any format of its entries
@@ -49,8 +49,8 @@ outside-walk {S} {A} Kind address none step lost (suc n) table s =
 -- a translation that an access fault ends
 abbrev Access : Translation → Type 0
 Access through = ⊥
-Access (walked (page frame level writable)) = ⊥
-Access (walked (fault reason fpd)) = accessReason reason ≡ true
+Access (reached frame level host flags) = ⊥
+Access (fault reason fpd) = accessReason reason ≡ true
 
 abbrev Lost : Lookup → Type 0
 Lost l = Access (withoutEntry l)
@@ -92,7 +92,7 @@ module _ (r : ScalableRegisters) where
         (λ reason told. tt) (λ table told. lost-context pasid source table),
   )
 
-  top-or-not : (t fpd : Bool) → Access (walked (fault (if t then 0x7B else 0x78) fpd))
+  top-or-not : (t fpd : Bool) → Access (fault (if t then 0x7B else 0x78) fpd)
   top-or-not true fpd = refl
   top-or-not false fpd = refl
 
@@ -100,24 +100,24 @@ module _ (r : ScalableRegisters) where
   unfolding Outside typeRules
   lost-type address write p =
       outside-if Access (eqb (p .kind) 4) (answer through) _ tt
-      (outside-if Access (overflows (r .base) (p .«second_levels») address) (answer (walked (fault 0x84 (p .fpd)))) _ tt
-      (outside-map walked Access (secondRules r p (wantedFor write) address (p .«second_levels») (p .«second_top») atTop)
-      (outside-walk (λ w. Access (walked w)) address (unfetchable r p (wantedFor write)) (secondStep r p (wantedFor write))
-      (λ above. top-or-not (above .top) (p .fpd)) (p .«second_levels») (p .«second_top») atTop)))
+      (outside-if Access (overflows (r .base) (p .«second_levels») address) (answer (fault 0x84 (p .fpd))) _ tt
+      (outside-map (paged address) Access (secondRules r p (wantedFor write) address (p .«second_levels») (p .«second_top») (atTop []))
+      (outside-walk (λ w. Access (paged address w)) address (unfetchable r p (wantedFor write)) (secondStep r p (wantedFor write))
+      (λ above. top-or-not (above .top) (p .fpd)) (p .«second_levels») (p .«second_top») (atTop []))))
 
   follows : (address : ℕ) (write : Bool) (l : Lookup) → Outside Access (lookedUp r address write l)
   unfolding Outside
   follows address write (pasidEntry p) = lost-type address write p
   follows address write (noPasidEntry reason fpd) = tt
 
-told : (q : ScalableRequest) (t : Translation) → Access t → accessFault (scalableOutcome q t) ≡ true
+abbrev Fault : Decision → Type 0
+Fault d = accessFault (d .outcome) ≡ true
+
+told : (q : ScalableRequest) (t : Translation) → Access t → Fault (decision q t)
 unfolding scalableFault
 told q through h = absurd h
-told q (walked (page frame level writable)) h = absurd h
-told q (walked (fault reason fpd)) h = h
-
-abbrev Fault : MemoryOutcome → Type 0
-Fault o = accessFault o ≡ true
+told q (reached frame level host flags) h = absurd h
+told q (fault reason fpd) h = h
 
 outside-weaken : {A : Type 0} (Kind Kind′ : A → Type 0) → ((a : A) → Kind a → Kind′ a) → (q : Rules A) → Outside Kind q → Outside Kind′ q
 unfolding Outside
@@ -129,9 +129,9 @@ unfolding Outside
 outside-taken r q =
     let unit = secondLevelOnly r in
     let rules = translationRules unit (q .address) (q .write) (q .pasid) (q .source .id) in
-    outside-if Fault (pasidTooWide (q .pasid)) (answer (refused 6)) _ tt
-    (outside-map (scalableOutcome q) Fault rules
-    (outside-weaken Access (λ t. Fault (scalableOutcome q t)) (told q) rules
+    outside-if Fault (pasidTooWide (q .pasid)) (answer (sayOnly (refused 6))) _ tt
+    (outside-map (decision q) Fault rules
+    (outside-weaken Access (λ t. Fault (decision q t)) (told q) rules
     (outside-then Access withoutEntry (lookedUp unit (q .address) (q .write)) (lookupRules unit (q .pasid) (q .source .id))
     (lost unit (q .pasid) (q .source .id)) (follows unit (q .address) (q .write)))))
 
@@ -140,7 +140,7 @@ unfolding Outside scalableRules
 outside-request r q = by (admission (r .base) (inInterruptRange (q .address)) (r .base .te))
   where
     by : (a : Admitted)
-        → Outside Fault (onAdmission a refused (if pasidTooWide (q .pasid) then refused 6 else granted (q .address)) (takenRules r q))
+        → Outside Fault (onAdmission a (λ number. sayOnly (refused number)) (sayOnly (if pasidTooWide (q .pasid) then refused 6 else granted (q .address))) (takenRules r q))
     by (refusal n) = tt
     by pass = tt
     by takenUp = outside-taken r q
@@ -148,7 +148,7 @@ outside-request r q = by (admission (r .base) (inInterruptRange (q .address)) (r
 pub scalable-locality : ScalableLocality
 scalable-locality registers request m m′ answered same =
     let q = scalableRules registers request in
-    let no-access : accessFault (run q m) ≡ true → ⊥ = λ ended. let z : _≡_ {A = Bool} true false = sym ended ∙ answered in let y : _≡_ {A = ℕ} 0 1 = cc in omega arith in
+    let no-access : Fault (run q m) → ⊥ = λ ended. let z : _≡_ {A = Bool} true false = sym ended ∙ answered in let y : _≡_ {A = ℕ} 0 1 = cc in omega arith in
     let all = met Fault q m (outside-request registers request) no-access in
     let alike = local q m m′ all same in
-    (sym alike, sym (ap₂ concerned alike (local-place noEntry q m m′ all same)))
+    (sym alike, sym (ap₂ (λ (d : Decision). concerned (d .outcome)) alike (local-place noEntry q m m′ all same)))

@@ -4,5 +4,4 @@ pub mod Fetches
 pub mod Found
 pub mod Isolation
 pub mod Pairs
-pub mod Seconds
 pub mod Tables

@@ -42,11 +42,11 @@ below-range : (e pasid : ℕ) → beyond e pasid ≡ false → pasid < 2 ^ 20
 below-range e pasid h =
     lt-of-lt-of-le (leb-false (2 ^ (bits e 11 9 + 13)) pasid h) (pow-mono {j = 20} (omega (arith, fits e 11 9)))
 
-either : (a b : Bool) → (a || b) ≡ false → (a ≡ false) × (b ≡ false)
+pub either : (a b : Bool) → (a || b) ≡ false → (a ≡ false) × (b ≡ false)
 either true b h = let z : _≡_ {A = ℕ} 0 1 = cc in absurd (omega arith)
 either false b h = (refl, h)
 
-below-haw : (haw e : ℕ) → haw ≤ 52 → anySet e 63 haw ≡ false → inPlace e 63 12 < 2 ^ 52
+pub below-haw : (haw e : ℕ) → haw ≤ 52 → anySet e 63 haw ≡ false → inPlace e 63 12 < 2 ^ 52
 unfolding bits
 below-haw haw e low clear =
     let whole : bits e 63 0 < 2 ^ haw = leb-false (2 ^ haw) (bits e 63 0) (sym (above e 63 haw) ∙ clear) in

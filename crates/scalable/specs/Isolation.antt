@@ -21,12 +21,12 @@ accessFault (granted address) = false
 accessFault (blocked f) = accessReason (f .reason)
 accessFault (refused number) = false
 
--- Where another memory has the same in the words that a request names, its answer and the entry concerned are the same, unless the answer is
--- an access fault.
+-- Where another memory has the same in the words that a request names, its answer, the flags that it sets and the entry concerned are the same,
+-- unless the answer is an access fault.
 abbrev pub ScalableLocality : Type 0
 ScalableLocality =
     (registers : ScalableRegisters) (request : ScalableRequest) (m m′ : Memory)
-    → accessFault (run (scalableRules registers request) m) ≡ false
+    → accessFault (run (scalableRules registers request) m .outcome) ≡ false
     → SameIn (named (scalableRules registers request) m) m m′
     → (run (scalableRules registers request) m′ ≡ run (scalableRules registers request) m)
     × (scalablePlace registers request m′ ≡ scalablePlace registers request m)

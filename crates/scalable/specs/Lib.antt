@@ -2,4 +2,3 @@ pub mod Answers
 pub mod Isolation
 pub mod Lookup
 pub mod Requests
-pub mod Second

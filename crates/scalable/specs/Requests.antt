@@ -1,7 +1,7 @@
 -- A read or write in scalable mode, from registers to answer, as one rules tree.
 use Prim.Native.Nat.{ℕ, _^_, _%_, _<_, _≤_}
 use mathlib.Core.Bool.{Bool, false, not, _&&_}
-use mathlib.Core.List.{List}
+use mathlib.Core.List.{List, []}
 use mathlib.Core.Path.{_≡_}
 use lib.Dec.{eqb, leb}
 use lib.ListN.{length}
@@ -20,21 +20,24 @@ use Rattle.pasid.specs.declared.Pasid.{Pasid}
 use Rattle.pasid.specs.declared.ScalableRegisters.{ScalableRegisters}
 use Rattle.pasid.specs.declared.table.PasidEntry.{PasidEntry}
 use Rattle.scalable.specs.Lookup.{Lookup, pasidEntry, noPasidEntry, lookupRules}
-use Rattle.scalable.specs.Second.{Walked, page, fault, atTop, secondRules}
+use Rattle.flags.specs.Flags.{setFlags}
+use Rattle.second.specs.Second.{Walked, page, fault as walkFault, atTop, secondRules}
+use Rattle.second.specs.declared.step.Wanted.{Wanted}
 use Rattle.nested.specs.Then.{thenRules}
 use Rattle.scalable.specs.declared.ScalableRequest.{ScalableRequest}
-use Rattle.scalable.specs.declared.second.Wanted.{Wanted}
 
--- the address itself, where the PASID table entry passes through; or what a walk answers
+-- the address itself, where the PASID table entry passes through; the page that is reached: its frame, the level of its entry, where in host
+-- memory the address is, and the flags of the entries that were used; or a fault with FPD
 pub data Translation : Type 0 where
   through : Translation
-  walked : Walked → Translation
+  reached : (frame level host : ℕ) (flags : List ℕ) → Translation
+  fault : (reason : ℕ) (fpd : Bool) → Translation
 
 -- a PASID of more than 20 bits
 abbrev pub pasidTooWide : Pasid → Bool
 pasidTooWide pasid = pasid .present && leb (2 ^ 20) (pasid .value)
 
--- as long as the first level, nested translation and the second level's flags are not there, the unit is one that has none of them
+-- as long as the first level and nested translation are not there, the unit is one that has none of them
 abbrev pub secondLevelOnly : ScalableRegisters → ScalableRegisters
 secondLevelOnly r =
     record {
@@ -45,7 +48,7 @@ secondLevelOnly r =
       pt = r .pt;
       fl5lp = r .fl5lp;
       fl1gp = r .fl1gp;
-      slads = false;
+      slads = r .slads;
       eafs = r .eafs;
       srs = r .srs;
       smpwc = r .smpwc;
@@ -58,56 +61,75 @@ wantedFor write = record { read = not write; write = write; dirty = write }
 -- a lookup that found no PASID table entry ends the request; the other case doesn't come up
 abbrev pub withoutEntry : Lookup → Translation
 withoutEntry (pasidEntry p) = through
-withoutEntry (noPasidEntry reason fpd) = walked (fault reason fpd)
+withoutEntry (noPasidEntry reason fpd) = fault reason fpd
+
+-- what a second-level walk of an address reaches
+abbrev pub paged : (address : ℕ) → Walked → Translation
+paged address (page frame level writable flags) = reached frame level (hostAddress level frame address) flags
+paged address (walkFault reason fpd) = fault reason fpd
 
 module _ (r : ScalableRegisters) (address : ℕ) (write : Bool) where
   -- PGTT 4 passes through, whatever the address. PGTT 2: an address at or above 2^X is 84h; then the second-level walk
   unfoldable pub typeRules : PasidEntry → Rules Translation
   typeRules p =
       if eqb (p .kind) 4 then answer through
-      else if overflows (r .base) (p .«second_levels») address then answer (walked (fault 0x84 (p .fpd)))
-      else mapRules walked (secondRules r p (wantedFor write) address (p .«second_levels») (p .«second_top») atTop)
+      else if overflows (r .base) (p .«second_levels») address then answer (fault 0x84 (p .fpd))
+      else mapRules (paged address) (secondRules r p (wantedFor write) address (p .«second_levels») (p .«second_top») (atTop []))
 
   abbrev pub lookedUp : Lookup → Rules Translation
   lookedUp (pasidEntry p) = typeRules p
-  lookedUp (noPasidEntry reason fpd) = answer (walked (fault reason fpd))
+  lookedUp (noPasidEntry reason fpd) = answer (fault reason fpd)
 
   abbrev pub translationRules : Pasid → (source : ℕ) → Rules Translation
   translationRules pasid source = thenRules withoutEntry lookedUp (lookupRules r pasid source)
 
+-- what a request is answered, and the flags that it sets: those of a granted one, and no other's
+pub record Decision : Type 0 where
+  pub outcome : MemoryOutcome
+  pub flags : List ℕ
+
+abbrev pub sayOnly : MemoryOutcome → Decision
+sayOnly o = record { outcome = o; flags = [] }
+
 -- a page with a byte in the interrupt range is refusal 4, whatever the address's offset in it
-abbrev pub scalableOutcome : ScalableRequest → Translation → MemoryOutcome
-scalableOutcome q through = granted (q .address)
-scalableOutcome q (walked (page frame level writable)) =
-    if meetsInterruptRange frame (spanAt level) then refused 4 else granted (hostAddress level frame (q .address))
-scalableOutcome q (walked (fault reason fpd)) =
-    blocked (scalableFault reason fpd (q .source .id) (q .address) (q .write) (q .pasid))
+abbrev pub decision : ScalableRequest → Translation → Decision
+decision q through = sayOnly (granted (q .address))
+decision q (reached frame level host flags) =
+    if meetsInterruptRange frame (spanAt level) then sayOnly (refused 4) else record { outcome = granted host; flags = flags }
+decision q (fault reason fpd) = sayOnly (blocked (scalableFault reason fpd (q .source .id) (q .address) (q .write) (q .pasid)))
 
 -- past admission: a PASID of more than 20 bits is refusal 6
-abbrev pub takenRules : ScalableRegisters → ScalableRequest → Rules MemoryOutcome
+abbrev pub takenRules : ScalableRegisters → ScalableRequest → Rules Decision
 takenRules r q =
-    if pasidTooWide (q .pasid) then answer (refused 6)
-    else mapRules (scalableOutcome q) (translationRules (secondLevelOnly r) (q .address) (q .write) (q .pasid) (q .source .id))
+    if pasidTooWide (q .pasid) then answer (sayOnly (refused 6))
+    else mapRules (decision q) (translationRules (secondLevelOnly r) (q .address) (q .write) (q .pasid) (q .source .id))
 
 -- refusals 1 and 2 are those of legacy mode, and 6 comes after them; with TE off the address itself is granted
-unfoldable pub scalableRules : ScalableRegisters → ScalableRequest → Rules MemoryOutcome
+unfoldable pub scalableRules : ScalableRegisters → ScalableRequest → Rules Decision
 scalableRules r q =
-    onAdmission (admission (r .base) (inInterruptRange (q .address)) (r .base .te)) refused
-    (if pasidTooWide (q .pasid) then refused 6 else granted (q .address)) (takenRules r q)
+    onAdmission (admission (r .base) (inInterruptRange (q .address)) (r .base .te)) (λ number. sayOnly (refused number))
+    (sayOnly (if pasidTooWide (q .pasid) then refused 6 else granted (q .address))) (takenRules r q)
 
 -- the entry concerned in an answer: the one at which the rules stopped, where they ended in a fault
 abbrev pub scalablePlace : ScalableRegisters → ScalableRequest → Memory → Place
-scalablePlace r q m = concerned (run (scalableRules r q) m) (stoppedAt (scalableRules r q) m)
+scalablePlace r q m = concerned (run (scalableRules r q) m .outcome) (stoppedAt (scalableRules r q) m)
 
 -- over lent memory, windows on a run of bytes: windows that are bad are refusal 1, like bad registers
+abbrev pub scalableDecision : ScalableRegisters → ScalableRequest → (windows bytes : List ℕ) → Decision
+scalableDecision r q windows bytes =
+    if badWindows windows (length bytes) then sayOnly (refused 1) else run (scalableRules r q) (ofWindows windows bytes)
+
 abbrev pub scalableAnswer : ScalableRegisters → ScalableRequest → (windows bytes : List ℕ) → MemoryOutcome
-scalableAnswer r q windows bytes =
-    if badWindows windows (length bytes) then refused 1 else run (scalableRules r q) (ofWindows windows bytes)
+scalableAnswer r q windows bytes = scalableDecision r q windows bytes .outcome
 
 abbrev pub scalableAnswerPlace : ScalableRegisters → ScalableRequest → (windows bytes : List ℕ) → Place
 scalableAnswerPlace r q windows bytes =
     if badWindows windows (length bytes) then noEntry else scalablePlace r q (ofWindows windows bytes)
 
+-- what the request leaves in the run
+abbrev pub scalableWritten : ScalableRegisters → ScalableRequest → (windows bytes : List ℕ) → List ℕ
+scalableWritten r q windows bytes = setFlags windows (scalableDecision r q windows bytes .flags) bytes
+
 -- a PASID table entry that such a unit's check lets pass: for the code's contracts
 abbrev pub Walkable : PasidEntry → Type 0
-Walkable p = (p .kind ≡ 4 → ⊥) → (0 < p .«second_levels») × (p .«second_levels» ≤ 5) × (p .«second_top» % 4096 ≡ 0)
+Walkable p = (p .kind ≡ 4 → ⊥) → (0 < p .«second_levels») × (p .«second_levels» ≤ 5) × (p .«second_top» % 4096 ≡ 0) × (p .«second_top» < 2 ^ 52)

@@ -1,18 +1,23 @@
 // Requests in scalable mode: untranslated reads and writes, with a PASID or none.
+ghost use mathlib.Core.Bool.{false};
+ghost use mathlib.Core.List.{List};
 ghost use mathlib.Core.Path.{_≡_};
-ghost use Rattle.image.specs.Place.{Place};
+ghost use lib.ListN.{length, take};
+ghost use Prim.Native.Nat.{ℕ, _%_, _^_, _<_, _≤_};
+ghost use Rattle.image.specs.Place.{Place, stoppedAt};
+ghost use Rattle.image.specs.Rules.{run};
+ghost use Rattle.image.specs.Windows.{ofWindows, badWindows};
 ghost use Rattle.dma.specs.Requests.{concerned};
+ghost use Rattle.flags.specs.Flags.{setFlags};
 ghost use Rattle.scalable.specs.Answers.{outcomeOf, entryOf, translationOf, TranslationNames, TranslationReachable};
-ghost use Rattle.scalable.specs.Requests.{pasidTooWide, scalableOutcome, walked, scalableAnswer, scalableAnswerPlace};
-ghost use Rattle.scalable.specs.Second.{page, Reachable};
+ghost use Rattle.scalable.specs.Requests.{reached, pasidTooWide, decision, takenRules, scalableAnswer, scalableAnswerPlace, scalableWritten};
 
 mod context32;
 mod lookup;
-mod second;
-mod second_walk;
 mod translation;
 
 use dma::meets_interrupt_range;
+use flags::set_flags;
 pub use image::EntryAddress;
 use image::bad_windows;
 use pasid::Pasid;
@@ -24,7 +29,6 @@ use registers::SourceId;
 use registers::admit;
 use registers::in_interrupt_range;
 use translation::Translation;
-use translation::host_address;
 use translation::second_level_only;
 use translation::translate;
 
@@ -50,26 +54,26 @@ fn pasid_too_wide(pasid: Pasid) -> bool
     pasid.present & (0x10_0000 <= pasid.value)
 }
 
-// A page that the walk ended with: refusal 4, or the host address.
-fn page_answer(request: ScalableRequest, frame: u64, level: u32, writable: bool) -> ScalableAnswer
-    requires { ⌜ Reachable (page frame level writable) ⌝ }
-    ensures { λ r. ⌜ outcomeOf r ≡ scalableOutcome request (walked (page frame level writable)) ⌝ }
+// A page that is reached: refusal 4, or the host address.
+fn page_answer(frame: u64, level: u32, host: u64) -> ScalableAnswer
+    requires { ⌜ (frame < 2 ^ 52) × (0 < level) × (level ≤ 3) ⌝ }
+    ensures { λ r. ⌜ ((request : ScalableRequest) (flags : List ℕ) → outcomeOf r ≡ decision request (reached frame level host flags) .outcome) ⌝ }
     ensures { λ r. ⌜ ((place : Place) → entryOf r ≡ concerned (outcomeOf r) place) ⌝ }
 {
     if meets_interrupt_range(level, frame) {
         return ScalableAnswer::Refused(4);
     }
-    ScalableAnswer::Granted(host_address(level, frame, request.address))
+    ScalableAnswer::Granted(host)
 }
 
 fn answer(request: ScalableRequest, translated: Translation) -> ScalableAnswer
     requires { ⌜ TranslationReachable translated ⌝ }
-    ensures { λ r. ⌜ outcomeOf r ≡ scalableOutcome request (translationOf translated) ⌝ }
+    ensures { λ r. ⌜ ((flags : List ℕ) → outcomeOf r ≡ decision request (translationOf translated flags) .outcome) ⌝ }
     ensures { λ r. ⌜ ((place : Place) → TranslationNames translated place → entryOf r ≡ concerned (outcomeOf r) place) ⌝ }
 {
     match translated {
         Translation::Through => ScalableAnswer::Granted(request.address),
-        Translation::Page(frame, level, writable) => page_answer(request, frame, level, writable),
+        Translation::Page(frame, level, host, _) => page_answer(frame, level, host),
         Translation::Fault(reason, fpd, at) => ScalableAnswer::Blocked(
             scalable_fault(
                 reason,
@@ -84,20 +88,61 @@ fn answer(request: ScalableRequest, translated: Translation) -> ScalableAnswer
     }
 }
 
-// Where a read or a write of a device may go.
+// How many of the collected flags are set: none where the page is refused.
+fn flags_to_set(translated: Translation) -> usize
+    requires { ⌜ TranslationReachable translated ⌝ }
+    ensures { λ r. ⌜ ((request : ScalableRequest) (flags : List ℕ) → take r flags ≡ decision request (translationOf translated flags) .flags) ⌝ }
+    ensures { λ r. ⌜ r ≤ 48 ⌝ }
+{
+    match translated {
+        Translation::Through => 0,
+        Translation::Page(frame, level, _, count) => {
+            if meets_interrupt_range(level, frame) {
+                return 0;
+            }
+            count
+        }
+        Translation::Fault(_, _, _) => 0,
+    }
+}
+
+// A request that is admitted. At most 47 flags are collected.
+fn take_up(
+    registers: ScalableRegisters,
+    windows: &[u64],
+    image: &mut [u8],
+    request: ScalableRequest,
+) -> ScalableAnswer
+    requires { ⌜ (badWindows (now windows) (length (now image)) ≡ false) × (registers .base .«root_table» % 4096 ≡ 0) × (registers .base .haw ≤ 52) ⌝ }
+    ensures { λ r. ⌜ outcomeOf r ≡ run (takenRules registers request) (ofWindows (now (windows .entry)) (now (image .entry))) .outcome ⌝ }
+    ensures { λ r. ⌜ entryOf r ≡ concerned (outcomeOf r) (stoppedAt (takenRules registers request) (ofWindows (now (windows .entry)) (now (image .entry)))) ⌝ }
+    ensures { λ r. ⌜ now (image .exit) ≡ setFlags (now (windows .entry)) (run (takenRules registers request) (ofWindows (now (windows .entry)) (now (image .entry))) .flags) (now (image .entry)) ⌝ }
+{
+    if pasid_too_wide(request.pasid) {
+        return ScalableAnswer::Refused(6);
+    }
+    let unit = second_level_only(registers);
+    let mut flags = [0u64; 48];
+    let translated = translate(windows, image, unit, request, &mut flags);
+    let count = flags_to_set(translated);
+    set_flags(windows, image, &flags, count);
+    answer(request, translated)
+}
+
+// Where a read or a write of a device may go. A granted one sets its flags in the entries that it used; any other answer leaves every byte.
 pub fn scalable_request(
     registers: ScalableRegisters,
     windows: &[u64],
-    image: &[u8],
+    image: &mut [u8],
     request: ScalableRequest,
 ) -> ScalableAnswer
     ensures { λ r. ⌜ outcomeOf r ≡ scalableAnswer registers request (now (windows .entry)) (now (image .entry)) ⌝ }
     ensures { λ r. ⌜ entryOf r ≡ scalableAnswerPlace registers request (now (windows .entry)) (now (image .entry)) ⌝ }
+    ensures { λ r. ⌜ now (image .exit) ≡ scalableWritten registers request (now (windows .entry)) (now (image .entry)) ⌝ }
 {
     if bad_windows(windows, image.len()) {
         return ScalableAnswer::Refused(1);
     }
-    let wide = pasid_too_wide(request.pasid);
     match admit(
         registers.base,
         in_interrupt_range(request.address),
@@ -105,17 +150,11 @@ pub fn scalable_request(
     ) {
         Admission::Refused(number) => ScalableAnswer::Refused(number),
         Admission::Passed => {
-            if wide {
+            if pasid_too_wide(request.pasid) {
                 return ScalableAnswer::Refused(6);
             }
             ScalableAnswer::Granted(request.address)
         }
-        Admission::Taken => {
-            if wide {
-                return ScalableAnswer::Refused(6);
-            }
-            let unit = second_level_only(registers);
-            answer(request, translate(windows, image, unit, request))
-        }
+        Admission::Taken => take_up(registers, windows, image, request),
     }
 }

@@ -6,32 +6,30 @@ ghost use Prim.Native.Nat.{_%_, _≤_};
 ghost use Rattle.image.specs.Place.{entryAt, lastTried, stoppedAt};
 ghost use Rattle.image.specs.Rules.{run};
 ghost use Rattle.image.specs.Windows.{ofWindows, badWindows};
-ghost use Rattle.dma.specs.Page.{hostAddress};
 ghost use Rattle.scalable.specs.Answers.{translationOf, TranslationNames, TranslationReachable};
 ghost use Rattle.scalable.specs.Requests.{secondLevelOnly, typeRules, translationRules, Walkable};
-ghost use Rattle.scalable.specs.Second.{page, Reachable};
 use crate::ScalableRequest;
 use crate::lookup::PasidLookup;
 use crate::lookup::find_pasid_entry;
-use crate::second::Wanted;
-use crate::second_walk::Walked;
-use crate::second_walk::second_walk;
 use dma::overflows;
 use pasid::PasidEntry;
 use pasid::ScalableReason;
 use pasid::ScalableRegisters;
-use registers::Page4K;
+use second::Walked;
+use second::Wanted;
+use second::host_address;
+use second::second_walk;
 
 pub enum Translation {
     // The address itself.
     Through,
-    // The frame of a page, the level of its entry, and whether all entries had W.
-    Page(u64, u32, bool),
+    // The frame of a page, the level of its entry, the host address, and how many flags are collected.
+    Page(u64, u32, u64, usize),
     // Why, FPD as it was read by then, and the host address of the entry concerned.
     Fault(ScalableReason, bool, u64),
 }
 
-// The unit as it is without the first level, nested translation and the second level's flags.
+// The unit as it is without the first level and nested translation.
 pub(crate) fn second_level_only(registers: ScalableRegisters) -> ScalableRegisters
     ensures { λ r. ⌜ r ≡ secondLevelOnly registers ⌝ }
 {
@@ -44,19 +42,11 @@ pub(crate) fn second_level_only(registers: ScalableRegisters) -> ScalableRegiste
         pt: registers.pt,
         fl5lp: registers.fl5lp,
         fl1gp: registers.fl1gp,
-        slads: false,
+        slads: registers.slads,
         eafs: registers.eafs,
         srs: registers.srs,
         smpwc: registers.smpwc,
     }
-}
-
-// The frame plus the address's low 12, 21 or 30 bits.
-pub(crate) fn host_address(level: u32, frame: u64, address: u64) -> u64
-    requires { ⌜ Reachable (page frame level false) ⌝ }
-    ensures { λ r. ⌜ r ≡ hostAddress level frame address ⌝ }
-{
-    frame + address % (1u64 << (Page4K::SHIFT + 9 * (level - 1)))
 }
 
 // By PGTT, in a PASID table entry that stands at an address.
@@ -67,9 +57,10 @@ fn translate_in(
     request: ScalableRequest,
     entry: PasidEntry,
     at: u64,
+    flags: &mut [u64],
 ) -> Translation
-    requires { ⌜ (badWindows (now windows) (length (now image)) ≡ false) × Walkable entry ⌝ }
-    ensures { λ r. ⌜ translationOf r ≡ run (typeRules registers (request .address) (request .write) entry) (ofWindows (now (windows .entry)) (now (image .entry))) ⌝ }
+    requires { ⌜ (badWindows (now windows) (length (now image)) ≡ false) × Walkable entry × (48 ≤ length (now flags)) ⌝ }
+    ensures { λ r. ⌜ translationOf r (now (flags .exit)) ≡ run (typeRules registers (request .address) (request .write) entry) (ofWindows (now (windows .entry)) (now (image .entry))) ⌝ }
     ensures { λ r. ⌜ TranslationNames r (lastTried (entryAt at) (typeRules registers (request .address) (request .write) entry) (ofWindows (now (windows .entry)) (now (image .entry)))) ⌝ }
     ensures { λ r. ⌜ TranslationReachable r ⌝ }
 {
@@ -85,8 +76,25 @@ fn translate_in(
         write,
         dirty: write,
     };
-    match second_walk(windows, image, registers, entry, wanted, request.address) {
-        Walked::Page(frame, level, writable) => Translation::Page(frame, level, writable),
+    let walked = second_walk(
+        windows,
+        image,
+        registers,
+        entry,
+        wanted,
+        request.address,
+        flags,
+        0,
+    );
+    match walked {
+        Walked::Page(frame, level, _, count) => {
+            Translation::Page(
+                frame,
+                level,
+                host_address(level, frame, request.address),
+                count,
+            )
+        }
         Walked::Fault(reason, fpd, place) => Translation::Fault(reason, fpd, place),
     }
 }
@@ -96,9 +104,10 @@ pub(crate) fn translate(
     image: &[u8],
     registers: ScalableRegisters,
     request: ScalableRequest,
+    flags: &mut [u64],
 ) -> Translation
-    requires { ⌜ (badWindows (now windows) (length (now image)) ≡ false) × (registers .base .«root_table» % 4096 ≡ 0) × (registers .base .haw ≤ 52) × (registers .flts ≡ false) × (registers .nest ≡ false) ⌝ }
-    ensures { λ r. ⌜ translationOf r ≡ run (translationRules registers (request .address) (request .write) (request .pasid) (request .source .id)) (ofWindows (now (windows .entry)) (now (image .entry))) ⌝ }
+    requires { ⌜ (badWindows (now windows) (length (now image)) ≡ false) × (registers .base .«root_table» % 4096 ≡ 0) × (registers .base .haw ≤ 52) × (registers .flts ≡ false) × (registers .nest ≡ false) × (48 ≤ length (now flags)) ⌝ }
+    ensures { λ r. ⌜ translationOf r (now (flags .exit)) ≡ run (translationRules registers (request .address) (request .write) (request .pasid) (request .source .id)) (ofWindows (now (windows .entry)) (now (image .entry))) ⌝ }
     ensures { λ r. ⌜ TranslationNames r (stoppedAt (translationRules registers (request .address) (request .write) (request .pasid) (request .source .id)) (ofWindows (now (windows .entry)) (now (image .entry)))) ⌝ }
     ensures { λ r. ⌜ TranslationReachable r ⌝ }
 {
@@ -110,6 +119,7 @@ pub(crate) fn translate(
             request,
             entry,
             at,
+            flags,
         ),
         PasidLookup::Fault(reason, fpd, at) => Translation::Fault(reason, fpd, at),
     }

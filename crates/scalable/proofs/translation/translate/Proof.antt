@@ -1,54 +1,82 @@
+use Prim.Native.Nat.{ℕ}
 use mathlib.Core.Path.{_≡_, refl, ap, sym, _∙_, subst}
-use Rattle.image.specs.Windows.{ofWindows, badWindows}
+use Rattle.image.specs.Memory.{Memory}
 use Rattle.image.specs.Place.{Place, noEntry, lastTried}
-use Rattle.image.specs.Rules.{run}
+use Rattle.image.specs.Rules.{Rules, run}
+use Rattle.image.specs.Windows.{ofWindows}
 use Rattle.pasid.specs.Reason.{numberOf}
 use Rattle.scalable.specs.Answers.{lookupOf, lookupPlace, TranslationNames}
-use Rattle.scalable.specs.Lookup.{pasidEntry, noPasidEntry, lookupRules}
-use Rattle.scalable.specs.Requests.{lookedUp}
+use Rattle.scalable.specs.Lookup.{Lookup, pasidEntry, noPasidEntry, lookupRules}
+use Rattle.scalable.specs.Requests.{Translation, lookedUp, translationRules}
 use Rattle.scalable.proofs.Found.{looked-up, looked-up-at, Finds, finds}
 use borrow.Author.Needs.{needs}
 use Rattle.scalable.proofs.translation.translate.Statement.{statement}
 use Rattle.scalable.proofs.translation.translate.Tie as tie
 
-find-pasid-entry-requires : tie.Need-find-pasid-entry-requires
-find-pasid-entry-requires c κs = search needs
+module _ (s : tie.Start) where
+  abbrev memory : Memory
+  memory = ofWindows (s .args .windows .now) (s .args .image .now)
 
-enum-known-entry : tie.Need-enum-known-entry
-enum-known-entry c = search needs
+  abbrev first : Rules Lookup
+  first = lookupRules (s .args .registers) (s .args .request .pasid) (s .args .request .source .id)
+
+  -- what follows the lookup
+  abbrev next : Lookup → Rules Translation
+  next = lookedUp (s .args .registers) (s .args .request .address) (s .args .request .write)
+
+  abbrev whole : Rules Translation
+  whole = translationRules (s .args .registers) (s .args .request .address) (s .args .request .write) (s .args .request .pasid) (s .args .request .source .id)
+
+  ran : {l : Lookup} → l ≡ run first memory → run (next l) memory ≡ run whole memory
+  ran told =
+      ap (λ (x : Lookup). run (next x) memory) told
+      ∙ sym (looked-up (s .args .registers) (s .args .request .address) (s .args .request .write) (s .args .request .pasid) (s .args .request .source .id) memory)
+
+  stopped : {l : Lookup} {place : Place} → l ≡ run first memory → place ≡ lastTried noEntry first memory → lastTried place (next l) memory ≡ lastTried noEntry whole memory
+  stopped {l} told there =
+      ap (λ (p : Place). lastTried p (next l) memory) there
+      ∙ ap (λ (x : Lookup). lastTried (lastTried noEntry first memory) (next x) memory) told
+      ∙ sym (looked-up-at (s .args .registers) (s .args .request .address) (s .args .request .write) (s .args .request .pasid) (s .args .request .source .id) memory noEntry)
 
 translate-in-requires : tie.Need-translate-in-requires
-translate-in-requires c κs = (c .before .before .before .before .before .before .pre .0, subst (Finds (c .before .before .before .before .before .before .args .registers) (c .before .before .before .before .before .before .pre .3) (c .before .before .before .before .before .before .pre .4)) (sym (sym (ap lookupOf (c .before .entry .given .1)) ∙ c .before .before .before .find-pasid-entry .ensures .0)) (finds (c .before .before .before .before .before .before .args .registers) (c .before .before .before .before .before .before .pre .3) (c .before .before .before .before .before .before .pre .4) (c .before .before .before .before .before .before .args .request .pasid) (c .before .before .before .before .before .before .args .request .source .id) (ofWindows (c .before .before .before .before .before .before .args .windows .now) (c .before .before .before .before .before .before .args .image .now))))
-
-enum-known-reason : tie.Need-enum-known-reason
-enum-known-reason c = search needs
+translate-in-requires c κs =
+    let e = c .before .before in
+    let f = e .before .before in
+    let s = f .before .before .before .before in
+    let told = sym (ap lookupOf (e .entry .given .1)) ∙ f .find-pasid-entry .ensures .0 in
+    let good = Finds (s .args .registers) (s .pre .3) (s .pre .4) (s .pre .2) in
+    (s .pre .0, subst good (sym told) (finds (s .args .registers) (s .pre .3) (s .pre .4) (s .pre .2) (s .args .request .pasid) (s .args .request .source .id) (memory s)), s .pre .5)
 
 returns : tie.Need-returns
 returns c =
-    let told = sym (ap lookupOf (c .before .before .entry .given .1)) ∙ c .before .before .before .before .find-pasid-entry .ensures .0 in
-    let there = sym (ap lookupPlace (c .before .before .entry .given .1)) ∙ c .before .before .before .before .find-pasid-entry .ensures .1 noEntry in
-    let stopped = ap (λ place. lastTried place (lookedUp (c .before .before .before .before .before .before .before .args .registers) (c .before .before .before .before .before .before .before .args .request .address) (c .before .before .before .before .before .before .before .args .request .write) (pasidEntry (c .before .before .entry .given .0 .0))) (ofWindows (c .before .before .before .before .before .before .before .args .windows .now) (c .before .before .before .before .before .before .before .args .image .now))) there ∙ ap (λ l. lastTried (lastTried noEntry (lookupRules (c .before .before .before .before .before .before .before .args .registers) (c .before .before .before .before .before .before .before .args .request .pasid) (c .before .before .before .before .before .before .before .args .request .source .id)) (ofWindows (c .before .before .before .before .before .before .before .args .windows .now) (c .before .before .before .before .before .before .before .args .image .now))) (lookedUp (c .before .before .before .before .before .before .before .args .registers) (c .before .before .before .before .before .before .before .args .request .address) (c .before .before .before .before .before .before .before .args .request .write) l) (ofWindows (c .before .before .before .before .before .before .before .args .windows .now) (c .before .before .before .before .before .before .before .args .image .now))) told ∙ sym (looked-up-at (c .before .before .before .before .before .before .before .args .registers) (c .before .before .before .before .before .before .before .args .request .address) (c .before .before .before .before .before .before .before .args .request .write) (c .before .before .before .before .before .before .before .args .request .pasid) (c .before .before .before .before .before .before .before .args .request .source .id) (ofWindows (c .before .before .before .before .before .before .before .args .windows .now) (c .before .before .before .before .before .before .before .args .image .now)) noEntry) in (
-      c .translate-in .ensures .0 ∙ ap (λ l. run (lookedUp (c .before .before .before .before .before .before .before .args .registers) (c .before .before .before .before .before .before .before .args .request .address) (c .before .before .before .before .before .before .before .args .request .write) l) (ofWindows (c .before .before .before .before .before .before .before .args .windows .now) (c .before .before .before .before .before .before .before .args .image .now))) told ∙ sym (looked-up (c .before .before .before .before .before .before .before .args .registers) (c .before .before .before .before .before .before .before .args .request .address) (c .before .before .before .before .before .before .before .args .request .write) (c .before .before .before .before .before .before .before .args .request .pasid) (c .before .before .before .before .before .before .before .args .request .source .id) (ofWindows (c .before .before .before .before .before .before .before .args .windows .now) (c .before .before .before .before .before .before .before .args .image .now))),
-      (subst (λ (place : Place). TranslationNames (c .translate-in .result) place) stopped (c .translate-in .ensures .1 .0), c .translate-in .ensures .1 .1),
+    let k = c .before .before in
+    let e = k .before .before .before in
+    let f = e .before .before in
+    let s = f .before .before .before .before in
+    let told = sym (ap lookupOf (e .entry .given .1)) ∙ f .find-pasid-entry .ensures .0 in
+    let there = sym (ap lookupPlace (e .entry .given .1)) ∙ f .find-pasid-entry .ensures .1 noEntry in (
+      k .translate-in .ensures .0 ∙ ran s told,
+      (subst (λ (place : Place). TranslationNames (k .translate-in .result) place) (stopped s told there) (k .translate-in .ensures .1 .0), k .translate-in .ensures .1 .1),
     )
 
 returns-2 : tie.Need-returns-2
 unfolding run lastTried
 returns-2 c =
-    let told = sym (ap lookupOf (c .before .reason .given .1)) ∙ c .before .before .before .find-pasid-entry .ensures .0 in
-    let there = sym (ap lookupPlace (c .before .reason .given .1)) ∙ c .before .before .before .find-pasid-entry .ensures .1 noEntry in
-    let none = noPasidEntry (numberOf (c .before .reason .given .0 .0)) (c .before .reason .given .0 .1 .0) in (
-      ap (λ l. run (lookedUp (c .before .before .before .before .before .before .args .registers) (c .before .before .before .before .before .before .args .request .address) (c .before .before .before .before .before .before .args .request .write) l) (ofWindows (c .before .before .before .before .before .before .args .windows .now) (c .before .before .before .before .before .before .args .image .now))) told ∙ sym (looked-up (c .before .before .before .before .before .before .args .registers) (c .before .before .before .before .before .before .args .request .address) (c .before .before .before .before .before .before .args .request .write) (c .before .before .before .before .before .before .args .request .pasid) (c .before .before .before .before .before .before .args .request .source .id) (ofWindows (c .before .before .before .before .before .before .args .windows .now) (c .before .before .before .before .before .before .args .image .now))),
-      (ap (λ place. lastTried place (lookedUp (c .before .before .before .before .before .before .args .registers) (c .before .before .before .before .before .before .args .request .address) (c .before .before .before .before .before .before .args .request .write) none) (ofWindows (c .before .before .before .before .before .before .args .windows .now) (c .before .before .before .before .before .before .args .image .now))) there ∙ ap (λ l. lastTried (lastTried noEntry (lookupRules (c .before .before .before .before .before .before .args .registers) (c .before .before .before .before .before .before .args .request .pasid) (c .before .before .before .before .before .before .args .request .source .id)) (ofWindows (c .before .before .before .before .before .before .args .windows .now) (c .before .before .before .before .before .before .args .image .now))) (lookedUp (c .before .before .before .before .before .before .args .registers) (c .before .before .before .before .before .before .args .request .address) (c .before .before .before .before .before .before .args .request .write) l) (ofWindows (c .before .before .before .before .before .before .args .windows .now) (c .before .before .before .before .before .before .args .image .now))) told ∙ sym (looked-up-at (c .before .before .before .before .before .before .args .registers) (c .before .before .before .before .before .before .args .request .address) (c .before .before .before .before .before .before .args .request .write) (c .before .before .before .before .before .before .args .request .pasid) (c .before .before .before .before .before .before .args .request .source .id) (ofWindows (c .before .before .before .before .before .before .args .windows .now) (c .before .before .before .before .before .before .args .image .now)) noEntry), tt),
-    )
+    let e = c .before in
+    let f = e .before .before in
+    let s = f .before .before .before .before in
+    let told = sym (ap lookupOf (e .reason .given .1)) ∙ f .find-pasid-entry .ensures .0 in
+    let there = sym (ap lookupPlace (e .reason .given .1)) ∙ f .find-pasid-entry .ensures .1 noEntry in
+    (ran s told, (stopped s told there, tt))
 
 pub translate-spec : {M : Type 1} → statement M
 translate-spec =
     tie.close
     (tie.spec
-    find-pasid-entry-requires
-    enum-known-entry
+    (λ c κs. search needs)
+    (λ c. search needs)
     translate-in-requires
-    enum-known-reason
+    (λ c. search needs)
+    (λ c. search needs)
     returns
     returns-2)

@@ -1,0 +1,73 @@
+use Prim.Native.Nat.{ℕ, _≤_}
+use mathlib.Core.List.{List, []}
+use mathlib.Core.Path.{_≡_, refl, ap, sym, _∙_, subst}
+use native.Mathlib.Omega.{arith}
+use Rattle.image.specs.Memory.{Memory}
+use Rattle.image.specs.Place.{Place, stoppedAt}
+use Rattle.image.specs.Rules.{run}
+use Rattle.image.specs.Windows.{ofWindows}
+use Rattle.pasid.specs.declared.ScalableRegisters.{ScalableRegisters}
+use Rattle.flags.specs.Flags.{setFlags}
+use Rattle.scalable.specs.Answers.{TranslationNames}
+use Rattle.scalable.specs.Requests.{Decision, decision, translationRules}
+use Rattle.scalable.proofs.Admitted.{too-wide, narrow, narrow-at}
+use borrow.Author.Needs.{needs}
+use Rattle.scalable.proofs.take_up.Statement.{statement}
+use Rattle.scalable.proofs.take_up.Tie as tie
+
+abbrev memory : tie.Start → Memory
+memory s = ofWindows (s .args .windows .now) (s .args .image .now)
+
+returns : tie.Need-returns
+unfolding setFlags
+returns c =
+    let s = c .before .before .before .before in
+    let is = too-wide (s .args .registers) (s .args .request) (memory s) (sym (c .before .pasid-too-wide .ensures) ∙ c .if1 .taken) in
+    (ap (λ (d : Decision). d .outcome) is, (refl, ap (λ (d : Decision). setFlags (s .args .windows .now) (d .flags) (s .args .image .now)) is))
+
+translate-requires : tie.Need-translate-requires
+translate-requires c κs =
+    let u = c .before .before in
+    let p = u .before .before .before .before .before .pre in
+    rw (u .second-level-only .ensures) (p .0, p .1, p .2, refl, refl, omega arith)
+
+returns-2 : tie.Need-returns-2
+returns-2 c =
+    let w = c .before .before .before in
+    let n = w .before .before .before in
+    let t = n .before .before in
+    let u = t .before .before .before in
+    let e = u .before in
+    let s = e .before .before .before .before in
+    let a = s .args in
+    let q = a .request in
+    let buffer = t .translate .last .1 .1 .1 .1 .0 in
+    let slim = sym (e .before .pasid-too-wide .ensures) ∙ e .if1 .left in
+    let is = t .translate .ensures .0
+    ∙ ap (λ (r : ScalableRegisters). run (translationRules r (q .address) (q .write) (q .pasid) (q .source .id)) (memory s)) (u .second-level-only .ensures) in
+    let whole = ap (decision q) is ∙ narrow (a .registers) q (memory s) slim in
+    let stopped = ap (λ (r : ScalableRegisters). stoppedAt (translationRules r (q .address) (q .write) (q .pasid) (q .source .id)) (memory s)) (u .second-level-only .ensures)
+    ∙ narrow-at (a .registers) q (memory s) slim in
+    let there = subst (λ (place : Place). TranslationNames (t .translate .result) place) stopped (t .translate .ensures .1 .0) in (
+      c .answer .ensures .0 buffer ∙ ap (λ (d : Decision). d .outcome) whole,
+      (
+        c .answer .ensures .1 _ there,
+        w .set-flags .ensures ∙ ap (λ (l : List ℕ). setFlags (a .windows .now) l (a .image .now)) (n .flags-to-set .ensures .0 q buffer ∙ ap (λ (d : Decision). d .flags) whole),
+      ),
+    )
+
+pub take-up-spec : {M : Type 1} → statement M
+take-up-spec =
+    tie.close
+    (tie.spec
+    (λ c κs. search needs)
+    returns
+    (λ c κs. search needs)
+    (λ c. search needs)
+    translate-requires
+    (λ c κs. search needs)
+    (λ c. search needs)
+    (λ c κs. search needs)
+    (λ c κs. search needs)
+    (λ c. search needs)
+    returns-2)
