@@ -1,0 +1,4 @@
+pub mod Addresses
+pub mod Entries
+pub mod Passes
+pub mod Steps
