@@ -1,4 +1,7 @@
 pub mod Addresses
 pub mod Entries
+pub mod Mapped
+pub mod Pages
 pub mod Passes
 pub mod Steps
+pub mod Unmapped
