@@ -29,9 +29,17 @@ module _ (at size : ℕ) where
   below-range h = rw (le-leb at 0xFEEF_FFFF h) (and-true (ltb 0xFEE0_0000 (at + size)))
 
 -- a choice that came out 0 wasn't the number's
-none : (t : Bool) (n rest : ℕ) → 0 < n → (if t then n else rest) ≡ 0 → (t ≡ false) × (rest ≡ 0)
-none true n rest h e = absurd (omega arith)
-none false n rest h e = (refl, e)
+pub none-of : (t : Bool) (n rest : ℕ) → 0 < n → (if t then n else rest) ≡ 0 → (t ≡ false) × (rest ≡ 0)
+none-of true n rest h e = absurd (omega arith)
+none-of false n rest h e = (refl, e)
+
+-- neither of two
+pub both-0 : (a b : ℕ) → orElse a b ≡ 0 → (a ≡ 0) × (b ≡ 0)
+both-0 a b h = go (eqb a 0) refl h
+  where
+    go : (t : Bool) → eqb a 0 ≡ t → (if t then b else a) ≡ 0 → (a ≡ 0) × (b ≡ 0)
+    go true e k = (eqb-true a 0 e, k)
+    go false e k = let z : _≡_ {A = Bool} true false = sym (eq-eqb a 0 k) ∙ e in let y : _≡_ {A = ℕ} 0 1 = cc in absurd (omega arith)
 
 module _ (registers : Registers) (levels : ℕ) (item : Item) where
   pub size-1 : badSize registers item ≡ true → 1 ≡ placeReason registers levels item
@@ -64,7 +72,7 @@ module _ (registers : Registers) (levels : ℕ) (item : Item) where
 
   pub sized : placeReason registers levels item ≡ 0 → item .size ≤ 2 ^ 21
   unfolding placeReason
-  sized h = sizes (none (badSize registers item) 1 _ (omega arith) h .0) .1
+  sized h = sizes (none-of (badSize registers item) 1 _ (omega arith) h .0) .1
 
   pub reason-first : {reason : ℕ} → reason ≡ placeReason registers levels item → (reason ≡ 0 → ⊥) → reason ≡ itemReason registers levels item
   reason-first p h =
@@ -76,20 +84,13 @@ module _ (registers : Registers) (levels : ℕ) (item : Item) where
       let this : eqb (placeReason registers levels item) 0 ≡ true = eq-eqb (placeReason registers levels item) 0 h in
       rw this p
 
-  both-0 : (a b : ℕ) → orElse a b ≡ 0 → b ≡ 0
-  both-0 a b h = go (eqb a 0) refl h
-    where
-      go : (t : Bool) → eqb a 0 ≡ t → (if t then b else a) ≡ 0 → b ≡ 0
-      go true e k = k
-      go false e k = let z : _≡_ {A = Bool} true false = sym (eq-eqb a 0 k) ∙ e in let y : _≡_ {A = ℕ} 0 1 = cc in absurd (omega arith)
-
   -- a frame that nothing is said against
   pub frame-below : itemReason registers levels item ≡ 0 → unmaps item ≡ false → registers .haw < 53 → item .frame < 2 ^ 52
   unfolding mapReason
   frame-below h maps haw =
-      let r = both-0 (placeReason registers levels item) (mapReason registers item) h in
-      let s = none (eqb (rights item) 0) 4 _ (omega arith) (rw maps at r) in
-      let f = none (badFrame registers item) 5 0 (omega arith) (s .1) in
+      let r = both-0 (placeReason registers levels item) (mapReason registers item) h .1 in
+      let s = none-of (eqb (rights item) 0) 4 _ (omega arith) (rw maps at r) in
+      let f = none-of (badFrame registers item) 5 0 (omega arith) (s .1) in
       let b = leb-false (2 ^ registers .haw) (item .frame) (neither (leb (2 ^ registers .haw) (item .frame)) (meetsInterruptRange (item .frame) (item .size)) (f .0) .0) in
       omega (arith, b, pow-mono {i = registers .haw} {j = 52} (omega (arith, haw)))
 

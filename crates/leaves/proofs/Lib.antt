@@ -1,5 +1,6 @@
 pub mod Addresses
 pub mod Entries
+pub mod Items
 pub mod Mapped
 pub mod Pages
 pub mod Passes

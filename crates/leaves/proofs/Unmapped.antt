@@ -33,16 +33,28 @@ stop-there : (bytes : List ℕ) (tree : Tree) (q n page : ℕ) → Passes bytes 
 stop-there bytes tree q n page p =
     passing bytes tree q n (omega arith) p ∙ way-here bytes (tree .start) q n n page (ends-last n n (entryOn bytes q page n) refl)
 
+maps-ends : (n e : ℕ) → mapsPage n e ≡ true → leadsOn n e ≡ false
+maps-ends n e h = rw h (go (present e))
+  where
+    go : (p : Bool) → (p && false) ≡ false
+    go true = refl
+    go false = refl
+
 module _ (tree : Tree) (place : ℕ) where
-  -- one table: the one over it is passed too
+  -- a table was released: the way comes to the one over it
+  record Released (below : ℕ) (before after : Tables) : Type 0 where
+    pub kept : Kept tree before after
+    pub upper : ℕ
+    pub passes : Passes (after .bytes) tree place (suc below) upper
+
   release : (below page : ℕ) (t : Tables) → WellBuilt (t .bytes) (t .marks) tree → below < tree .below → Passes (t .bytes) tree place below page
-      → emptyTable (t .bytes) (way (t .bytes) tree place below .table) ≡ true → (go-on : (upper : ℕ) (u : Tables) → Kept tree t u → Passes (u .bytes) tree place (suc below) upper → Kept tree t (released tree place (tree .below - suc below) (suc below) u))
-      → Kept tree t (released tree place (tree .below - suc below) (suc below) (withoutTable (way (t .bytes) tree place below .table) (way (t .bytes) tree place (suc below) .at) t))
-  release below page t w less (at-top level top) empty go-on = absurd (omega arith)
-  release below page t w less (onward upper p leads down) empty go-on =
+      → emptyTable (t .bytes) (way (t .bytes) tree place below .table) ≡ true
+      → Released below t (withoutTable (way (t .bytes) tree place below .table) (way (t .bytes) tree place (suc below) .at) t)
+  release below page t w less (at-top level top) empty = absurd (omega arith)
+  release below page t w less (onward upper p leads down) empty =
       let x = number place upper (suc below) in
-      let passes : Passes (t .bytes) tree place below page = onward upper p leads down in
-      let table : way (t .bytes) tree place below .table ≡ 4096 * page = ap (λ (s : Stop). s .table) (stop-there (t .bytes) tree place below page passes) in
+      let table : way (t .bytes) tree place below .table ≡ 4096 * page =
+            ap (λ (s : Stop). s .table) (stop-there (t .bytes) tree place below page (onward upper p leads down)) in
       let at : way (t .bytes) tree place (suc below) .at ≡ 8 * x =
             ap (λ (s : Stop). s .at) (stop-there (t .bytes) tree place (suc below) upper p) ∙ placed place upper (suc below) in
       let mark : getD (t .marks) (x / 512) 0 ≡ suc (suc below) =
@@ -51,10 +63,76 @@ module _ (tree : Tree) (place : ℕ) where
       let absent : (y : ℕ) → y / 512 ≡ page → present (entryOf (t .bytes) (8 * y)) ≡ false =
             λ y in-it. (let spot : 8 * y ≡ 4096 * page + 8 * (y % 512) = omega arith in rw spot (each-absent 512 (t .bytes) (4096 * page) (y % 512) all (omega arith))) in
       let index-back : 4096 * page / 4096 ≡ page = omega arith in
-      let u : Tables = tables (withWord (t .bytes) (8 * x) 0) (set (t .marks) page 0) in
-      let kept : Kept tree t u =
-            record {
-              built = freed-built (t .bytes) (t .marks) tree w x (suc below) page mark leads down less absent;
-              same = freed-leaf (t .bytes) (t .marks) tree w x (suc below) page mark leads down less absent;
-            } in
-      rw (table, at, index-back) (go-on upper u kept (freed-passes (t .bytes) (t .marks) tree w x (suc below) page mark leads down less absent place p))
+      rw (table, at, index-back)
+      (record {
+        kept = record {
+          built = freed-built (t .bytes) (t .marks) tree w x (suc below) page mark leads down less absent;
+          same = freed-leaf (t .bytes) (t .marks) tree w x (suc below) page mark leads down less absent;
+        };
+        upper = upper;
+        passes = freed-passes (t .bytes) (t .marks) tree w x (suc below) page mark leads down less absent place p;
+      })
+
+  released-kept : (k below page : ℕ) (t : Tables) → WellBuilt (t .bytes) (t .marks) tree → below + k ≤ tree .below
+      → Passes (t .bytes) tree place below page → Kept tree t (released tree place k below t)
+  unfolding released
+  released-kept zero below page t w less passes = record { built = w; same = λ q. refl }
+  released-kept (suc k) below page t w less passes =
+      go (emptyTable (t .bytes) (way (t .bytes) tree place below .table)) refl (λ upper. released-kept k (suc below) upper)
+    where
+      u : Tables
+      u = withoutTable (way (t .bytes) tree place below .table) (way (t .bytes) tree place (suc below) .at) t
+
+      go : (b : Bool) → emptyTable (t .bytes) (way (t .bytes) tree place below .table) ≡ b
+          → ((upper : ℕ) (v : Tables) → WellBuilt (v .bytes) (v .marks) tree → suc below + k ≤ tree .below
+          → Passes (v .bytes) tree place (suc below) upper → Kept tree v (released tree place k (suc below) v))
+          → Kept tree t (if b then released tree place k (suc below) u else t)
+      go false e on = record { built = w; same = λ q. refl }
+      go true e on =
+          let r = release below page t w (omega arith) passes e in
+          let later = on (r .upper) u (r .kept .built) (omega arith) (r .passes) in
+          record { built = later .built; same = λ q. later .same q ∙ r .kept .same q }
+
+  module _ (last : ℕ) (reached : place < 2 ^ (12 + 9 * (tree .below + 1))) (t : Tables) (w : WellBuilt (t .bytes) (t .marks) tree) (less : last ≤ tree .below) where
+    -- its entry is at a place of the last table on the way
+    cut : (page : ℕ) → Passes (t .bytes) tree place last page → mapsPage last (entryOn (t .bytes) place page last) ≡ true
+        → Changed tree place last none t
+        (released tree place (tree .below - last) last (tables (withWord (t .bytes) (8 * number place page last) 0) (t .marks)))
+    cut page p maps =
+        let x = number place page last in
+        let mark : getD (t .marks) (x / 512) 0 ≡ suc last = rw (page-is place page last) (passed-mark (t .bytes) (t .marks) tree w place p) in
+        let was = maps-ends last (entryOf (t .bytes) (8 * x)) maps in
+        let is = absent-ends last 0 zero-absent in
+        let small : 0 < 2 ^ 64 = omega arith in
+        let u : Tables = tables (withWord (t .bytes) (8 * x) 0) (t .marks) in
+        let kept = released-kept (tree .below - last) last page u (stored-built (t .bytes) (t .marks) tree w x last mark 0 small was is) (omega arith)
+              (stored-still (t .bytes) (t .marks) tree w x last mark 0 small was is place p) in
+        record {
+          built = kept .built;
+          here = λ q h. kept .same q ∙ stored-here (t .bytes) (t .marks) tree w x last mark 0 small was is place page p refl q h ∙ rw zero-absent;
+          elsewhere = λ q hq h. kept .same q ∙ stored-elsewhere (t .bytes) (t .marks) tree w x last mark 0 small was is place page p refl reached q hq h;
+        }
+
+    pub unmapped-changed : unmapped tree place last t .0 ≡ 0 → Changed tree place last none t (unmapped tree place last t .1)
+    unfolding unmapped
+    unmapped-changed taken =
+        go (arrives (t .bytes) (t .marks) tree w place last less) (leafHere last (way (t .bytes) tree place last)) refl taken
+      where
+        stop : Stop
+        stop = way (t .bytes) tree place last
+
+        go : Arrived (t .bytes) (t .marks) tree w place last stop → (b : Bool) → leafHere last stop ≡ b
+            → (if_then_else_ {A = ℕ × Tables} b (0, released tree place (tree .below - last) last (tables (withWord (t .bytes) (stop .at) 0) (t .marks))) (8, t)) .0 ≡ 0
+            → Changed tree place last none t
+            ((if_then_else_ {A = ℕ × Tables} b (0, released tree place (tree .below - last) last (tables (withWord (t .bytes) (stop .at) 0) (t .marks))) (8, t)) .1)
+        go a false e taken = absurd (omega arith)
+        go a true e taken =
+            let b = both (eqb (stop .below) last && present (stop .entry)) (mapsPage last (stop .entry)) e in
+            let level = eqb-true (stop .below) last (both (eqb (stop .below) last) (present (stop .entry)) (b .0) .0) in
+            let there : stop ≡ stopIn (t .bytes) place last (4096 * a .page) = a .is ∙ ap (λ (n : ℕ). stopIn (t .bytes) place n (4096 * a .page)) level in
+            let at : 8 * number place (a .page) last ≡ stop .at = sym (placed place (a .page) last) ∙ sym (ap (λ (s : Stop). s .at) there) in
+            let entry : entryOn (t .bytes) place (a .page) last ≡ stop .entry =
+                  ap (entryOf (t .bytes)) (sym (placed place (a .page) last)) ∙ sym (ap (λ (s : Stop). s .entry) there) in
+            subst (λ (at : ℕ). Changed tree place last none t
+            (released tree place (tree .below - last) last (tables (withWord (t .bytes) at 0) (t .marks)))) at
+            (cut (a .page) (subst (λ (n : ℕ). Passes (t .bytes) tree place n (a .page)) level (a .passes)) (rw entry (b .1)))
