@@ -2,6 +2,7 @@ pub mod Addresses
 pub mod Entries
 pub mod Items
 pub mod Mapped
+pub mod Marked
 pub mod Pages
 pub mod Passes
 pub mod Steps

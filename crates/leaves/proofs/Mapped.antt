@@ -65,7 +65,7 @@ module _ (tree : Tree) (place last word : ℕ) (reached : place < 2 ^ (12 + 9 * 
       let deep : 0 < last + suc k = omega arith in
       let next : last + suc k ≡ suc (last + k) = omega arith in
       let mark : getD (t .marks) (x / 512) 0 ≡ suc (last + suc k) =
-            rw (page-is place page (last + suc k)) (passed-mark (t .bytes) (t .marks) tree w place passes) in
+      rw (page-is place page (last + suc k)) (passed-mark (t .bytes) (t .marks) tree w place passes) in
       let w′ = made-built (t .bytes) (t .marks) tree w x (last + suc k) f mark deep (free .0) (free .1) absent in
       let passes′ = made-passes (t .bytes) (t .marks) tree w x (last + suc k) f mark deep (free .0) (free .1) absent place page (last + k) next passes refl in
       let absent′ = made-absent (t .bytes) (t .marks) tree w x (last + suc k) f mark deep (free .0) (free .1) absent place (last + k) in
@@ -99,9 +99,9 @@ module _ (tree : Tree) (place last word : ℕ) (reached : place < 2 ^ (12 + 9 * 
       go a false e false l taken =
           let back : last + (stop .below - last) ≡ stop .below = omega (arith, a .reached) in
           let at : 8 * number place (a .page) (last + (stop .below - last)) ≡ stop .at =
-                ap (λ (n : ℕ). 8 * number place (a .page) n) back ∙ sym (placed place (a .page) (stop .below)) ∙ sym (ap (λ (s : Stop). s .at) (a .is)) in
+          ap (λ (n : ℕ). 8 * number place (a .page) n) back ∙ sym (placed place (a .page) (stop .below)) ∙ sym (ap (λ (s : Stop). s .at) (a .is)) in
           let entry : entryOn (t .bytes) place (a .page) (last + (stop .below - last)) ≡ stop .entry =
-                ap (entryOf (t .bytes)) (ap (λ (n : ℕ). 8 * number place (a .page) n) back ∙ sym (placed place (a .page) (stop .below)))
-                ∙ sym (ap (λ (s : Stop). s .entry) (a .is)) in
+          ap (entryOf (t .bytes)) (ap (λ (n : ℕ). 8 * number place (a .page) n) back ∙ sym (placed place (a .page) (stop .below)))
+          ∙ sym (ap (λ (s : Stop). s .entry) (a .is)) in
           subst (λ (at : ℕ). Changed tree place last (leaf last word) t (withLeaf (tree .start) place last word (stop .below - last) at t)) at
           (put (stop .below - last) (a .page) t w (rw back (a .passes)) (rw entry e) (ltb-false (freePages (t .marks)) (stop .below - last) l))

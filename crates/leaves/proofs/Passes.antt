@@ -103,7 +103,7 @@ pub passing-too : (bytes : List ℕ) (tree : Tree) (q r : ℕ) {n page : ℕ} �
 passing-too bytes tree q r same (at-top level top) = at-top level top
 passing-too bytes tree q r {n} {page} same (onward upper p leads down) =
     let i : index r (suc n) ≡ index q (suc n) =
-          omega (arith, above-split r (suc n), above-split q (suc n), index-small r (suc n), index-small q (suc n)) in
+    omega (arith, above-split r (suc n), above-split q (suc n), index-small r (suc n), index-small q (suc n)) in
     let a : above r (suc (suc n)) ≡ above q (suc (suc n)) = rw (above-next r (suc n), above-next q (suc n), same) in
     onward {page = page} upper (passing-too bytes tree q r a p) (rw i leads) (rw i down)
 
@@ -251,7 +251,7 @@ module _ (bytes marks : List ℕ) (tree : Tree) (w : WellBuilt bytes marks tree)
   passing-still bytes′ level same q less (at-top level′ top) = at-top level′ top
   passing-still bytes′ level same q {n} {page} less (onward upper p leads down) =
       let e : entryOn bytes′ q upper (suc n) ≡ entryOn bytes q upper (suc n) =
-            same (number q upper (suc n)) (suc n) (omega arith) (rw (page-of q upper (suc n)) (passed-mark q p)) in
+      same (number q upper (suc n)) (suc n) (omega arith) (rw (page-of q upper (suc n)) (passed-mark q p)) in
       onward {page = page} upper (passing-still bytes′ level same q (omega arith) p) (rw e leads) (rw e down)
 
 -- the page over an address is in the last of the tables that its way passes through

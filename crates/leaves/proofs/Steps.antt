@@ -46,7 +46,7 @@ none-below bytes start q n page f leads down h =
     ap leafAt (way-down bytes start q 0 n page (goes-on 0 n (entryOn bytes q page (suc n)) (omega arith) leads) ∙ ap (wayTo bytes start q 0 n) down)
     ∙ none-here bytes start q n f h
 
-contradicts : {b : Bool} → b ≡ false → b ≡ true → ⊥
+pub contradicts : {b : Bool} → b ≡ false → b ≡ true → ⊥
 contradicts f t = let z : _≡_ {A = Bool} true false = sym t ∙ f in let y : _≡_ {A = ℕ} 0 1 = cc in omega arith
 
 -- an entry elsewhere stays
@@ -102,7 +102,7 @@ module _ (bytes marks : List ℕ) (tree : Tree) (w : WellBuilt bytes marks tree)
       stored-here q same =
           let upper : above q (suc level) ≡ above place (suc level) = rw (above-next q level, above-next place level, same) in
           let i : index q level ≡ index place level =
-                omega (arith, above-split q level, above-split place level, index-small q level, index-small place level) in
+          omega (arith, above-split q level, above-split place level, index-small q level, index-small place level) in
           let e : entryOn (withWord bytes (8 * x) word) q page level ≡ word = rw (i, here) (entry-stored bytes (8 * x) word inside fits) in
           leaf-in (withWord bytes (8 * x) word) tree q (still q (omega arith) (passing-too bytes tree place q upper passes)) (rw e is) ∙ rw e
 
@@ -121,13 +121,13 @@ module _ (bytes marks : List ℕ) (tree : Tree) (w : WellBuilt bytes marks tree)
               let m″ : getD marks page 0 ≡ suc n = rw is-page at m in
               let deep : n ≡ level = omega arith in
               let on′ : Passes bytes tree q level page =
-                    subst (λ (k : ℕ). Passes bytes tree q k page) deep (subst (λ (u : ℕ). Passes bytes tree q n u) is-page on) in
+              subst (λ (k : ℕ). Passes bytes tree q k page) deep (subst (λ (u : ℕ). Passes bytes tree q n u) is-page on) in
               let a = one-way bytes marks tree w q place hq hp on′ passes in
               let i′ : index q level ≡ index place level = rw deep at i in
               above-split q level ∙ rw (a, i′) (sym (above-split place level))
 
 -- the mark of another page stays
-other-mark : (marks : List ℕ) (f level page : ℕ) → (page ≡ f → ⊥) → getD (set marks f level) page 0 ≡ getD marks page 0
+pub other-mark : (marks : List ℕ) (f level page : ℕ) → (page ≡ f → ⊥) → getD (set marks f level) page 0 ≡ getD marks page 0
 other-mark marks f level page apart = getD-set-other marks f page level 0 apart
 
 -- an entry of a table leads on: bits 1:0 are set, bit 7 isn't
@@ -265,8 +265,8 @@ module _ (bytes marks : List ℕ) (tree : Tree) (w : WellBuilt bytes marks tree)
   pub made-passes : (place page n : ℕ) → level ≡ suc n → Passes bytes tree place level page → number place page level ≡ x → Passes made tree place n f
   made-passes place page n is passes here =
       let p : Passes made tree place level page =
-            passing-still bytes marks tree w made level
-            (λ y k less m. made-other y (λ same. let m′ : getD marks (x / 512) 0 ≡ suc k = rw same at m in omega arith) (not-free y k m)) place (omega arith) passes in
+      passing-still bytes marks tree w made level
+      (λ y k less m. made-other y (λ same. let m′ : getD marks (x / 512) 0 ≡ suc k = rw same at m in omega arith) (not-free y k m)) place (omega arith) passes in
       onward {page = f} page (subst (λ (k : ℕ). Passes made tree place k page) is p) (rw (← is, here) made-leads) (rw (← is, here) made-down)
 
 -- an empty table is released

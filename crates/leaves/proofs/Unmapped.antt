@@ -54,14 +54,14 @@ module _ (tree : Tree) (place : ℕ) where
   release below page t w less (onward upper p leads down) empty =
       let x = number place upper (suc below) in
       let table : way (t .bytes) tree place below .table ≡ 4096 * page =
-            ap (λ (s : Stop). s .table) (stop-there (t .bytes) tree place below page (onward upper p leads down)) in
+      ap (λ (s : Stop). s .table) (stop-there (t .bytes) tree place below page (onward upper p leads down)) in
       let at : way (t .bytes) tree place (suc below) .at ≡ 8 * x =
-            ap (λ (s : Stop). s .at) (stop-there (t .bytes) tree place (suc below) upper p) ∙ placed place upper (suc below) in
+      ap (λ (s : Stop). s .at) (stop-there (t .bytes) tree place (suc below) upper p) ∙ placed place upper (suc below) in
       let mark : getD (t .marks) (x / 512) 0 ≡ suc (suc below) =
-            rw (page-is place upper (suc below)) (passed-mark (t .bytes) (t .marks) tree w place p) in
+      rw (page-is place upper (suc below)) (passed-mark (t .bytes) (t .marks) tree w place p) in
       let all : emptyTable (t .bytes) (4096 * page) ≡ true = rw table at empty in
       let absent : (y : ℕ) → y / 512 ≡ page → present (entryOf (t .bytes) (8 * y)) ≡ false =
-            λ y in-it. (let spot : 8 * y ≡ 4096 * page + 8 * (y % 512) = omega arith in rw spot (each-absent 512 (t .bytes) (4096 * page) (y % 512) all (omega arith))) in
+      λ y in-it. (let spot : 8 * y ≡ 4096 * page + 8 * (y % 512) = omega arith in rw spot (each-absent 512 (t .bytes) (4096 * page) (y % 512) all (omega arith))) in
       let index-back : 4096 * page / 4096 ≡ page = omega arith in
       rw (table, at, index-back)
       (record {
@@ -106,7 +106,7 @@ module _ (tree : Tree) (place : ℕ) where
         let small : 0 < 2 ^ 64 = omega arith in
         let u : Tables = tables (withWord (t .bytes) (8 * x) 0) (t .marks) in
         let kept = released-kept (tree .below - last) last page u (stored-built (t .bytes) (t .marks) tree w x last mark 0 small was is) (omega arith)
-              (stored-still (t .bytes) (t .marks) tree w x last mark 0 small was is place p) in
+        (stored-still (t .bytes) (t .marks) tree w x last mark 0 small was is place p) in
         record {
           built = kept .built;
           here = λ q h. kept .same q ∙ stored-here (t .bytes) (t .marks) tree w x last mark 0 small was is place page p refl q h ∙ rw zero-absent;
@@ -132,7 +132,7 @@ module _ (tree : Tree) (place : ℕ) where
             let there : stop ≡ stopIn (t .bytes) place last (4096 * a .page) = a .is ∙ ap (λ (n : ℕ). stopIn (t .bytes) place n (4096 * a .page)) level in
             let at : 8 * number place (a .page) last ≡ stop .at = sym (placed place (a .page) last) ∙ sym (ap (λ (s : Stop). s .at) there) in
             let entry : entryOn (t .bytes) place (a .page) last ≡ stop .entry =
-                  ap (entryOf (t .bytes)) (sym (placed place (a .page) last)) ∙ sym (ap (λ (s : Stop). s .entry) there) in
+            ap (entryOf (t .bytes)) (sym (placed place (a .page) last)) ∙ sym (ap (λ (s : Stop). s .entry) there) in
             subst (λ (at : ℕ). Changed tree place last none t
             (released tree place (tree .below - last) last (tables (withWord (t .bytes) at 0) (t .marks)))) at
             (cut (a .page) (subst (λ (n : ℕ). Passes (t .bytes) tree place n (a .page)) level (a .passes)) (rw entry (b .1)))
