@@ -78,6 +78,29 @@ static inline const char *galitzaf_first_bad_text(uint32_t first_bad)
     }
 }
 
+/* Why a list of pages was refused, in words, from the answer of galitzaf_build; the item without its index. */
+static inline const char *galitzaf_build_text(uint32_t status)
+{
+    switch (status) {
+    case GALITZAF_OK: return "done";
+    case GALITZAF_REFUSED_1: return "bad registers or windows";
+    case GALITZAF_BUILD_TE_OFF: return "translation is off";
+    case GALITZAF_BUILD_CONTEXT: return "the context doesn't translate";
+    case GALITZAF_BUILD_REGION: return "bad region";
+    case GALITZAF_BUILD_TABLES: return "the tables aren't as built here";
+    case GALITZAF_BUILD_BUFFERS: return "buffers that don't fit the region";
+    case GALITZAF_ITEM_SIZE: return "bad or unsupported size";
+    case GALITZAF_ITEM_ALIGNMENT: return "bad alignment";
+    case GALITZAF_ITEM_PLACE: return "bad place";
+    case GALITZAF_ITEM_RIGHTS: return "no rights";
+    case GALITZAF_ITEM_FRAME: return "bad frame";
+    case GALITZAF_ITEM_OVERLAP: return "overlap with a mapped page";
+    case GALITZAF_ITEM_PAGES: return "too few free pages";
+    case GALITZAF_ITEM_NOT_MAPPED: return "no such page is mapped";
+    default: return "malformed";
+    }
+}
+
 /* A line being written: length counts also what had no room. */
 struct galitzaf_line {
     char *text;

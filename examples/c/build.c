@@ -1,10 +1,10 @@
 /* Page tables built in a region of guest memory, over galitzaf.h: pages mapped, a list refused whole, pages unmapped, and
- * what is mapped after each. build.stdout has what it prints.
+ * what is mapped after each, in words of galitzaf_text.h. build.stdout has what it prints.
  *
  *     packaging/archive
  *     cc -std=c11 -Iinclude examples/c/build.c target/staticlib/libgalitzaf.a -o build
  */
-#include "galitzaf.h"
+#include "galitzaf_text.h"
 
 #include <inttypes.h>
 #include <stdio.h>
@@ -36,9 +36,9 @@ static void build(const char *what, const struct galitzaf_item *items, size_t co
     if (status == GALITZAF_OK)
         printf("%s: done\n", what);
     else if (status >= GALITZAF_ITEM_SIZE && status <= GALITZAF_ITEM_NOT_MAPPED)
-        printf("%s: item %" PRIu64 " is refused, %02" PRIX32 "h\n", what, item, status);
+        printf("%s: item %" PRIu64 " is refused, %s\n", what, item, galitzaf_build_text(status));
     else
-        printf("%s: refused, %02" PRIX32 "h\n", what, status);
+        printf("%s: refused, %s\n", what, galitzaf_build_text(status));
 }
 
 static void list(void)

@@ -307,6 +307,17 @@ impl Laid {
             Spoil::OneRight => host.set(table, word - 1 - random.below(2)),
             Spoil::Twice => host.set(beside, word),
             Spoil::Itself => host.set(beside, table / KIB_4 * KIB_4 + 3),
+            Spoil::Graph => {
+                let Region { start, length } = self.region;
+                let any = |random: &mut Random| start + KIB_4 * random.below(length / KIB_4);
+                let top = host.word(self.context_entry(host)) >> 12 << 12;
+                for _ in 0..random.below(200) {
+                    let from = any(random) + 8 * random.below(512);
+                    let to = any(random);
+                    host.set(from, to | random.pick(&[1, 2, 3, 3, 3, 3, 0x83]));
+                }
+                host.set(top + 8 * random.below(512), top | 3);
+            }
             Spoil::TableOutside => {
                 let outside = FIRST + self.region.length / KIB_4;
                 host.set(table, host.page(random.pick(&[3, outside])) | 3);

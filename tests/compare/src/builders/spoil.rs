@@ -57,6 +57,8 @@ pub enum Spoil {
     Twice,
     /// A table entry leads to its own table.
     Itself,
+    /// Pages of the region lead to each other at random, at any level, one of them to itself.
+    Graph,
     /// A table leads outside.
     TableOutside,
     /// A table below the top one is empty.
@@ -69,7 +71,7 @@ pub enum Spoil {
 
 impl Spoil {
     /// Each of them, with what it leads to: the status, or 0 where items are taken.
-    pub const ALL: [(Spoil, u32); 30] = [
+    pub const ALL: [(Spoil, u32); 31] = [
         (Spoil::Registers, 0x01),
         (Spoil::Windows, 0x01),
         (Spoil::TeOff, 0xA1),
@@ -96,6 +98,7 @@ impl Spoil {
         (Spoil::OneRight, 0xA4),
         (Spoil::Twice, 0xA4),
         (Spoil::Itself, 0xA4),
+        (Spoil::Graph, 0xA4),
         (Spoil::TableOutside, 0xA4),
         (Spoil::TableEmpty, 0xA4),
         (Spoil::OneGib, 0xA4),
@@ -132,6 +135,7 @@ impl fmt::Display for Spoil {
             Spoil::OneRight => "table entry with one right",
             Spoil::Twice => "two entries to one table",
             Spoil::Itself => "table that leads to itself",
+            Spoil::Graph => "tables that lead to each other at random",
             Spoil::TableOutside => "table outside the region",
             Spoil::TableEmpty => "empty table",
             Spoil::OneGib => "page of 1 GiB",
