@@ -155,7 +155,8 @@ function import(f,    list, n, i, s, target, names, part, m, j, k, hit, tail) {
         m = split(s, part, /[.+]/)
         for (j = 1; j <= m; j++) hit = hit items[part[j]]
         if (hit == "") wild = 1
-        if (s ~ /\.(Tie|Lts|Code|Proof)$/) { m = split(hit, part, " "); for (j = 1; j <= m; j++) if (part[j] in bodyOf) hit = hit " " bodyOf[part[j]] }
+        # a function's module is its contract, and so are Met and Statement below it; the others there are of its body
+        if (!(part[m] in items) && part[m] !~ /^(Met|Statement)$/) { m = split(hit, part, " "); for (j = 1; j <= m; j++) if (part[j] in bodyOf) hit = hit " " bodyOf[part[j]] }
         always = always hit
     }
 }
