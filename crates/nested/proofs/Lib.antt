@@ -1,2 +1,4 @@
+pub mod Firsts
+pub mod Nested
 pub mod Thens
 pub mod Ways

@@ -1,6 +1,6 @@
 -- Laws of a walk with a way to its entries, over any format of the entries and any way.
 use Prim.Native.Nat.{ℕ, zero, suc, _-_, _<_}
-use mathlib.Core.Path.{_≡_, refl, ap, sym, _∙_, fun-ext}
+use mathlib.Core.Path.{_≡_, refl, ap, sym, _∙_, fun-ext, subst}
 use native.Mathlib.Omega.{arith}
 use Rattle.image.specs.EntryKind.{EntryKind, pageEntry, wordsOf}
 use Rattle.image.specs.Memory.{Memory, Fetched, missing, found, entry, onFetch}
@@ -96,6 +96,85 @@ module _ {S A : Type 0} (kind : EntryKind) (address : ℕ) (locate : S → (plac
           on (located place t) = fetched place t (entry (wordsOf kind) m place)
           on (lost a) = refl
 
+  -- one level, by what the way to its entry and the fetch say
+  module _ (m : Memory) (n table : ℕ) (s : S) where
+    abbrev way : Located S A
+    way = run (locate s (placeIn address table n)) m
+
+    pub lost-over : {a : A} → lost a ≡ way → done a ≡ wayOver kind address locate none step m n table s
+    unfolding wayOver
+    lost-over h = rw (← h)
+
+    pub lost-tried : (before : Place) {a : A} → lost a ≡ way
+        → lastTried before (locate s (placeIn address table n)) m ≡ triedOver kind address locate none step before m n table s
+    unfolding triedOver
+    lost-tried before h = rw (← h)
+
+    module _ {place : ℕ} {t : S} (h : located place t ≡ way) where
+      pub missed-over : missing ≡ entry (wordsOf kind) m place → done (none t) ≡ wayOver kind address locate none step m n table s
+      unfolding wayOver
+      missed-over f = rw (← h, ← f)
+
+      pub fetched-over : {e : ℕ} → found e ≡ entry (wordsOf kind) m place
+          → step (suc n) place t e ≡ wayOver kind address locate none step m n table s
+      unfolding wayOver
+      fetched-over f = rw (← h, ← f)
+
+      pub found-tried : (before : Place) → entryAt place ≡ triedOver kind address locate none step before m n table s
+      unfolding triedOver
+      found-tried before = rw (← h)
+
+    -- a level that leads down has an entry whose step does
+    pub leads-by : (P : ℕ → Type 0) → ((place : ℕ) (t : S) (e next : ℕ) (u : S) → down next u ≡ step (suc n) place t e → P next)
+        → {next : ℕ} {u : S} → down next u ≡ wayOver kind address locate none step m n table s → P next
+    unfolding wayOver
+    leads-by P steps {next} {u} = on way
+      where
+        fetched : (place : ℕ) (t : S) (f : Fetched) → down next u ≡ onFetch f (done (none t)) (step (suc n) place t) → P next
+        fetched place t missing h = let z : _≡_ {A = ℕ} 0 1 = cc in absurd (omega arith)
+        fetched place t (found e) h = steps place t e next u h
+
+        on : (l : Located S A)
+            → down next u ≡ onLocated l done (λ place t. onFetch (entry (wordsOf kind) m place) (done (none t)) (step (suc n) place t)) → P next
+        on (located place t) h = fetched place t (entry (wordsOf kind) m place) h
+        on (lost a) h = let z : _≡_ {A = ℕ} 0 1 = cc in absurd (omega arith)
+
+  -- a walk by what its first level does: for the code's loop
+  module _ (ends : (s : S) (place : ℕ) → Outside IsLost (locate s place)) (m : Memory) (level table : ℕ) (s : S) (more : 0 < level) where
+    abbrev level-over : Step S A
+    level-over = wayOver kind address locate none step m (level - 1) table s
+
+    abbrev level-tried : Place → Place
+    level-tried before = triedOver kind address locate none step before m (level - 1) table s
+
+    first : run (walk level table s) m ≡ onStep level-over (λ a. a) (λ next t. run (walk (level - 1) next t) m)
+    first =
+        let this : level ≡ suc (level - 1) = omega arith in
+        ap (λ (l : ℕ). run (walk l table s) m) this ∙ way-step ends m (level - 1) table s
+
+    first-at : (before : Place) → lastTried before (walk level table s) m
+        ≡ onStep level-over (λ a. level-tried before) (λ next t. lastTried (level-tried before) (walk (level - 1) next t) m)
+    first-at before =
+        let this : level ≡ suc (level - 1) = omega arith in
+        ap (λ (l : ℕ). lastTried before (walk l table s) m) this ∙ way-tried ends m (level - 1) table s before
+
+    -- it ends the walk, or leads on
+    pub ended-way : {a : A} → done a ≡ level-over → a ≡ run (walk level table s) m
+    ended-way h = sym (rw (← h) at first)
+
+    pub onward-way : {to : ℕ} {t : S} → down to t ≡ level-over → run (walk (level - 1) to t) m ≡ run (walk level table s) m
+    onward-way h = sym (rw (← h) at first)
+
+    -- where the walk stopped, in either case
+    pub ended-way-at : (before : Place) {here : Place} {a : A} → here ≡ level-tried before → done a ≡ level-over
+        → here ≡ lastTried before (walk level table s) m
+    ended-way-at before there h = there ∙ sym (rw (← h) at first-at before)
+
+    pub onward-way-at : (before : Place) {here : Place} {to : ℕ} {t : S} → here ≡ level-tried before → down to t ≡ level-over
+        → lastTried here (walk (level - 1) to t) m ≡ lastTried before (walk level table s) m
+    onward-way-at before {here} {to} {t} there h =
+        ap (λ (place : Place). lastTried place (walk (level - 1) to t) m) there ∙ sym (rw (← h) at first-at before)
+
   -- every answer to an entry that can't be fetched is of a kind
   pub outside-way : (Kind : A → Type 0) → ((s : S) → Kind (none s)) → ((s : S) (place : ℕ) → Outside (λ l. Kind (end l)) (locate s place))
       → (level table : ℕ) (s : S) → Outside Kind (walk level table s)
@@ -127,3 +206,10 @@ straight {S} {A} address none step (suc n) table s =
         ≡ onStep x answer (walkRules address none step n)
     stepped (done a) ih = refl
     stepped (down to t) ih = ih to t
+
+pub outside-walk : {S A : Type 0} (Kind : A → Type 0) (address : ℕ) (none : S → A) (step : (level place : ℕ) → S → (e : ℕ) → Step S A)
+    → ((s : S) → Kind (none s)) → (level table : ℕ) (s : S) → Outside Kind (walkRules address none step level table s)
+unfolding Outside
+outside-walk Kind address none step lacks level table s =
+    subst (λ q. Outside Kind q) (straight address none step level table s)
+    (outside-way pageEntry address (λ s place. answer (located place s)) none step Kind lacks (λ s place. tt) level table s)

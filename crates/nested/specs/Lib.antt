@@ -1,2 +1,4 @@
+pub mod Answers
+pub mod Pages
 pub mod Then
 pub mod Way

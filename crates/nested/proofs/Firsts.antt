@@ -1,0 +1,109 @@
+-- What a first-level entry's step says, told as a step of the walk, and where it leads.
+use Prim.Native.Nat.{ℕ, zero, suc, _+_, _-_, _%_, _<_, _≤_}
+use mathlib.Core.Bool.{Bool, true, false, not, _&&_}
+use mathlib.Core.List.{List, [], _∷_, _++_, map}
+use mathlib.Core.Path.{_≡_, refl, ap, sym, _∙_}
+use native.Mathlib.Omega.{arith}
+use Rattle.image.specs.Bits.{bit}
+use Rattle.image.specs.Choice.{if_then_else_}
+use Rattle.image.specs.Memory.{Memory}
+use Rattle.dma.specs.Page.{hostAddress, leafAt}
+use Rattle.dma.specs.Walk.{Step, done, down}
+use Rattle.dma.proofs.Stepped.{more-levels}
+use Rattle.pasid.specs.declared.ScalableRegisters.{ScalableRegisters}
+use Rattle.pasid.specs.declared.table.PasidEntry.{PasidEntry}
+use Rattle.flags.specs.Flags.{flag}
+use Rattle.first.specs.First.{FirstStep, down as downTo, page, fault as stop, onFirst, firstReserved, flagClear, notSnooped, userDenied, writeDenied, firstFrame, firstStep}
+use Rattle.nested.specs.Pages.{Pages, reached, fault, Handed, handed, entryFlags, unfetched, locate, walkStep, levelOver}
+use Rattle.image.specs.EntryKind.{firstLevelEntry}
+use Rattle.nested.specs.Answers.{LevelGrows}
+use Rattle.nested.specs.declared.level.Level.{Level}
+use Rattle.nested.specs.declared.level.Level.the-variants as level
+use Rattle.nested.proofs.Ways.{leads-by}
+
+-- the flags of an entry, one by one
+pub one-by-one : (p : PasidEntry) (dirty : Bool) (place : ℕ) (l : List ℕ)
+    → ((l ++ (flag place 5 ∷ [])) ++ (if dirty then flag place 6 ∷ [] else [])) ++ (if p .eafe then flag place 10 ∷ [] else [])
+    ≡ l ++ entryFlags p dirty true place
+one-by-one p dirty place l = by dirty (p .eafe)
+  where
+    together : (a b c : List ℕ) → (a ++ b) ++ c ≡ a ++ (b ++ c)
+    together [] b c = refl
+    together (x ∷ a) b c = ap (λ (t : List ℕ). x ∷ t) (together a b c)
+
+    by : (d x : Bool)
+        → ((l ++ (flag place 5 ∷ [])) ++ (if d then flag place 6 ∷ [] else [])) ++ (if x then flag place 10 ∷ [] else [])
+        ≡ l ++ map (flag place) (5 ∷ (if d then 6 ∷ [] else []) ++ (if x then 10 ∷ [] else []))
+    by true true = together (l ++ (flag place 5 ∷ [])) _ _ ∙ together l _ _
+    by true false = together (l ++ (flag place 5 ∷ [])) _ _ ∙ together l _ _
+    by false true = together (l ++ (flag place 5 ∷ [])) _ _ ∙ together l _ _
+    by false false = together (l ++ (flag place 5 ∷ [])) _ _ ∙ together l _ _
+
+module _ (r : ScalableRegisters) (p : PasidEntry) (address : ℕ) (write : Bool) (level place : ℕ) (s : Handed) (e : ℕ) where
+  told : {x : FirstStep} → x ≡ firstStep r p write (s .writable) level e
+      → onFirst x (λ table. down table (handed false (s .flags ++ entryFlags p write false place)))
+      (λ frame level. done (reached frame level (hostAddress level frame address) (s .flags ++ entryFlags p write true place)))
+      (λ reason fpd. done (fault reason fpd))
+      ≡ walkStep r p address write level place s e
+  told h =
+      ap
+      (λ x. onFirst x (λ table. down table (handed false (s .flags ++ entryFlags p write false place)))
+      (λ frame level. done (reached frame level (hostAddress level frame address) (s .flags ++ entryFlags p write true place)))
+      (λ reason fpd. done (fault reason fpd)))
+      h
+
+  pub down-told : {table : ℕ} → downTo table ≡ firstStep r p write (s .writable) level e
+      → down table (handed false (s .flags ++ entryFlags p write false place)) ≡ walkStep r p address write level place s e
+  down-told h = told h
+
+  pub page-told : {frame of : ℕ} → page frame of ≡ firstStep r p write (s .writable) level e
+      → done (reached frame of (hostAddress of frame address) (s .flags ++ entryFlags p write true place)) ≡ walkStep r p address write level place s e
+  page-told h = told h
+
+  pub fault-told : {reason : ℕ} {fpd : Bool} → stop reason fpd ≡ firstStep r p write (s .writable) level e
+      → done (fault reason fpd) ≡ walkStep r p address write level place s e
+  fault-told h = told h
+
+-- a step that leads down is past each test that would end the walk
+past : (b : Bool) (x rest : FirstStep) {table : ℕ} → (downTo table ≡ x → ⊥) → downTo table ≡ (if b then x else rest)
+    → (b ≡ false) × (downTo table ≡ rest)
+past true x rest other h = absurd (other h)
+past false x rest other h = (refl, h)
+
+-- it is the step of an entry that is no page's
+leads : (r : ScalableRegisters) (p : PasidEntry) (write writable : Bool) (level e : ℕ) {table : ℕ}
+    → downTo table ≡ firstStep r p write writable level e → leafAt level e ≡ false
+unfolding firstStep
+leads r p write writable level e {table} h =
+    let clear = flagClear p write (leafAt level e) e in
+    let h1 = past (not (bit e 0)) (stop 0x71 (p .fpd)) _ (λ x. let z : _≡_ {A = ℕ} 0 1 = cc in omega arith) h in
+    let h2 = past (firstReserved r (p .nxe) level e) (stop 0x72 (p .fpd)) _ (λ x. let z : _≡_ {A = ℕ} 0 1 = cc in omega arith) (h1 .1) in
+    let h3 = past (notSnooped r p clear) (stop 0x7C (p .fpd)) _ (λ x. let z : _≡_ {A = ℕ} 0 1 = cc in omega arith) (h2 .1) in
+    let h4 = past (userDenied p e) (stop 0x81 (p .fpd)) _ (λ x. let z : _≡_ {A = ℕ} 0 1 = cc in omega arith) (h3 .1) in
+    let h5 = past (writeDenied p write writable clear e) (stop 0x85 (p .fpd)) _ (λ x. let z : _≡_ {A = ℕ} 0 1 = cc in omega arith) (h4 .1) in
+    past (leafAt level e) (page (firstFrame level e) level) _ (λ x. let z : _≡_ {A = ℕ} 0 1 = cc in omega arith) (h5 .1) .0
+
+module _ (r : ScalableRegisters) (p : PasidEntry) (address : ℕ) (write : Bool) (m : Memory) (n table : ℕ) (s : Handed) where
+  step-leads : (place : ℕ) (t : Handed) (e next : ℕ) (u : Handed) → down next u ≡ walkStep r p address write (suc n) place t e → 0 < n
+  step-leads place t e next u = by (firstStep r p write (t .writable) (suc n) e) refl
+    where
+      by : (x : FirstStep) → x ≡ firstStep r p write (t .writable) (suc n) e
+          → down next u
+          ≡ onFirst x (λ table. down table (handed false (t .flags ++ entryFlags p write false place)))
+          (λ frame level. done (reached frame level (hostAddress level frame address) (t .flags ++ entryFlags p write true place)))
+          (λ reason fpd. done (fault reason fpd))
+          → 0 < n
+      by (downTo to) is h = more-levels n e (leads r p write (t .writable) (suc n) e is)
+      by (page frame level) is h = let z : _≡_ {A = ℕ} 0 1 = cc in absurd (omega arith)
+      by (stop reason fpd) is h = let z : _≡_ {A = ℕ} 0 1 = cc in absurd (omega arith)
+
+  -- a level that leads down is not the last
+  pub not-last : {next : ℕ} {t : Handed} → down next t ≡ levelOver r p address write m n table s → 0 < n
+  not-last =
+      leads-by firstLevelEntry address (locate r p) (unfetched p) (walkStep r p address write) m n table s (λ next. 0 < n) step-leads
+
+-- the number of flags by a larger bound
+pub grows-more : (l : Level) (most most′ : ℕ) → most ≤ most′ → LevelGrows l most → LevelGrows l most′
+grows-more (level.Down table at n) most most′ h g = omega (arith, g)
+grows-more (level.Page frame of at n) most most′ h g = omega (arith, g)
+grows-more (level.Fault reason fpd at) most most′ h g = tt
