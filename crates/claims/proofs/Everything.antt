@@ -31,6 +31,8 @@ use Rattle.scalable.proofs.Isolation.{scalable-locality}
 use Rattle.cache.proofs.PageWords.{page-words}
 use Rattle.cache.proofs.Runs.{equal, as-cached, as-now}
 use Rattle.agreement.proofs.Agreement.{windows-tell, listed-where-walked, spans-agree, others-lack, spans-in-order}
+use Rattle.built.proofs.Answers.{built-answers}
+use Rattle.built.proofs.Inside.{builds-inside, refusal-leaves}
 use Rattle.interrupts.proofs.Exact.{sets-exactly, leaves-all, stays-inside}
 use Rattle.interrupts.proofs.Isolation.{isolated, same-bits}
 use Rattle.interrupts.proofs.Named.{index-bound, entry-of-index, no-wrap, at-most-ten, none-before-table}
@@ -130,6 +132,9 @@ everything =
       spans-agree = spans-agree;
       others-lack = others-lack;
       spans-in-order = spans-in-order;
+      builds-inside = builds-inside;
+      refusal-leaves = refusal-leaves;
+      built-answers = built-answers;
       first-ticks = first-ticks;
       decay = decay;
       never-above = never-above;

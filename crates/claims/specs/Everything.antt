@@ -25,6 +25,8 @@ use Rattle.cache.specs.Claims.{Equal, AsCached, AsNow, OnlyPages, AtMost64, Hel
 use Rattle.cache.specs.Lent.{AsDefined, EqualCalls}
 use Rattle.scalable.specs.Isolation.{ScalableLocality}
 use Rattle.agreement.specs.Claims.{WindowsTell, ListedWhereWalked, SpansAgree, OthersLack, SpansInOrder}
+use Rattle.built.specs.Claims.{BuiltAnswers}
+use Rattle.built.specs.Inside.{BuildsInside, RefusalLeaves}
 use Rattle.interrupts.specs.Claims.{SetsExactly, NotificationExactly, LeavesAll, StaysInside, IndexBound, EntryOfIndex, NoWrap, AtMostTen, NoneBeforeTable, InterruptAccessMeansUnfetched, Isolated, SameBits}
 use Rattle.interrupts.specs.RaisedBy.{RemappedByEntry, PostedByEntry, OneSource, ExactSource}
 use Rattle.takes.specs.Claims.{ClearsExactly, TakesStayInside, HandsHighest, NoneStands, FewerUntilHandedOut, HandedOutWithin, HandedOutWithin256, Conserved, NoneInvented, EitherOrder}
@@ -123,6 +125,10 @@ pub record Everything : Type 0 where
   pub spans-agree : SpansAgree
   pub others-lack : OthersLack
   pub spans-in-order : SpansInOrder
+  -- document 02, Ask 8: tables built
+  pub builds-inside : BuildsInside
+  pub refusal-leaves : RefusalLeaves
+  pub built-answers : BuiltAnswers
   -- meters: exact at first, bounded always, and a byte for each
   pub first-ticks : FirstTicks
   pub decay : Decays

@@ -1,0 +1,16 @@
+pub mod Answers
+pub mod Apart
+pub mod Builds
+pub mod Copies
+pub mod Fine
+pub mod Formats
+pub mod Inside
+pub mod Items
+pub mod Left
+pub mod Others
+pub mod Own
+pub mod Setting
+pub mod Stores
+pub mod Through
+pub mod Unmoved
+pub mod Walked
