@@ -28,6 +28,7 @@ use Rattle.cache.proofs.AsDefined.{as-defined, equal-calls}
 use Rattle.cache.proofs.History.{when-cached, domain-as-cached}
 use Rattle.cache.proofs.Holding.{only-pages, at-most-64, held64, pushed-out, by-domain, newest, must-answer, just-those}
 use Rattle.scalable.proofs.Isolation.{scalable-locality}
+use Rattle.scalable.proofs.Written.{scalable-leaves-all, scalable-sets-exactly}
 use Rattle.cache.proofs.PageWords.{page-words}
 use Rattle.cache.proofs.Runs.{equal, as-cached, as-now}
 use Rattle.agreement.proofs.Agreement.{windows-tell, listed-where-walked, spans-agree, others-lack, spans-in-order}
@@ -168,4 +169,6 @@ everything =
       none-of-its-own = none-of-its-own;
       answers-traced = answers-traced;
       scalable-locality = scalable-locality;
+      scalable-sets-exactly = scalable-sets-exactly;
+      scalable-leaves-all = scalable-leaves-all;
     }

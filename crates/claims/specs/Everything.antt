@@ -23,7 +23,7 @@ use Rattle.dma.specs.Reached.{GrantedByOwnWalk}
 use Rattle.translation.specs.Claims.{TranslationLocality, TranslationAccessMeansUnfetched, TranslationAtMostNine, TranslationNoneUntaken, TranslationReadsWords, TranslationAlwaysAnEntry, EnginesAgree, OnlyType1}
 use Rattle.cache.specs.Claims.{Equal, AsCached, AsNow, OnlyPages, AtMost64, Held64, PushedOut, ByDomain, Newest, MustAnswer, JustThose, PageWords, WhenCached, DomainAsCached}
 use Rattle.cache.specs.Lent.{AsDefined, EqualCalls}
-use Rattle.scalable.specs.Isolation.{ScalableLocality}
+use Rattle.scalable.specs.Isolation.{ScalableLocality, ScalableSetsExactly, ScalableLeavesAll}
 use Rattle.agreement.specs.Claims.{WindowsTell, ListedWhereWalked, SpansAgree, OthersLack, SpansInOrder}
 use Rattle.built.specs.Claims.{BuiltAnswers}
 use Rattle.built.specs.Inside.{BuildsInside, RefusalLeaves}
@@ -165,5 +165,7 @@ pub record Everything : Type 0 where
   pub named-exactly : NamedExactly
   pub none-of-its-own : NoneOfItsOwn
   pub answers-traced : AnswersTraced
-  -- scalable mode, as far as it is there
+  -- scalable mode
   pub scalable-locality : ScalableLocality
+  pub scalable-sets-exactly : ScalableSetsExactly
+  pub scalable-leaves-all : ScalableLeavesAll

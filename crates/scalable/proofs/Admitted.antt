@@ -14,12 +14,12 @@ use Rattle.registers.specs.Admission.{Admitted, refusal, pass, takenUp, admissi
 use Rattle.dma.specs.Requests.{MemoryOutcome, granted, refused, concerned}
 use Rattle.flags.specs.Flags.{setFlags}
 use Rattle.pasid.specs.declared.ScalableRegisters.{ScalableRegisters}
-use Rattle.scalable.specs.Requests.{Translation, pasidTooWide, secondLevelOnly, translationRules, Decision, sayOnly, decision, takenRules, scalableRules, scalablePlace, scalableDecision, scalableAnswer, scalableAnswerPlace, scalableWritten}
+use Rattle.scalable.specs.Requests.{Translation, pasidTooWide, translationRules, Decision, sayOnly, decision, takenRules, scalableRules, scalablePlace, scalableDecision, scalableAnswer, scalableAnswerPlace, scalableWritten}
 use Rattle.scalable.specs.declared.ScalableRequest.{ScalableRequest}
 
 module _ (r : ScalableRegisters) (q : ScalableRequest) (m : Memory) where
   abbrev pub rules : Rules Translation
-  rules = translationRules (secondLevelOnly r) (q .address) (q .write) (q .pasid) (q .source .id)
+  rules = translationRules r (q .address) (q .write) (q .pasid) (q .source .id)
 
   -- admission with the address's kind as the code found it
   module _ {wrong : Bool} (kind : wrong ≡ inInterruptRange (q .address)) where

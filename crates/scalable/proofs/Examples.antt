@@ -21,7 +21,7 @@ use Rattle.pasid.specs.Table.{featureReserved, pointersReserved, tableReserved,
 use Rattle.pasid.specs.declared.Pasid.{Pasid}
 use Rattle.pasid.specs.declared.ScalableRegisters.{ScalableRegisters}
 use Rattle.scalable.specs.Lookup.{tableRules, directoryRules, contextRules, lookupRules}
-use Rattle.scalable.specs.Requests.{typeRules, scalableRules}
+use Rattle.scalable.specs.Requests.{secondPages, pagedRules, typeRules, scalableRules}
 use Rattle.nested.specs.Then.{thenRules}
 use Rattle.scalable.specs.declared.ScalableRequest.{ScalableRequest}
 
@@ -98,7 +98,7 @@ pub worked-out : (answered false (of 0x45) ≡ granted 0x1234_5ABC)
     × (answered false (of 0x46) ≡ faulted 0x59 false (of 0x46))
     × (answered false (of 0x2000) ≡ faulted 0x46 false (of 0x2000))
     × (answered false (of 0x10_0000) ≡ refused 6)
-unfolding scalableRules typeRules thenRules lookupRules contextRules directoryRules tableRules run mapRules walkRules entry bits admission registersBad rootCheck rootReserved contextCheck contextReserved contextInvalid directoryCheck directoryReserved tableCheck tableReserved pointersReserved featureReserved tableInvalid pageReserved
+unfolding scalableRules typeRules pagedRules secondPages thenRules lookupRules contextRules directoryRules tableRules run mapRules walkRules entry bits admission registersBad rootCheck rootReserved contextCheck contextReserved contextInvalid directoryCheck directoryReserved tableCheck tableReserved pointersReserved featureReserved tableInvalid pageReserved
 worked-out = (refl, refl, refl, refl, refl, refl)
 
 -- the upper word of a record: a read of source 0310h with PASID 12345h, reason 71h

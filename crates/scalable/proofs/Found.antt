@@ -27,7 +27,7 @@ use Rattle.pasid.specs.declared.table.PasidEntry.{PasidEntry}
 use Rattle.scalable.specs.Lookup.{Lookup, pasidEntry, noPasidEntry, tableRules, directoryRules, contextRules, lookupRules}
 use Rattle.scalable.specs.Requests.{withoutEntry, lookedUp, translationRules, Walkable}
 use Rattle.nested.proofs.Thens.{Ends, run-then, tried-then}
-use Rattle.scalable.proofs.Tables.{either, below-haw}
+use Rattle.scalable.proofs.Tables.{either, below-haw, first-below}
 
 module _ (r : ScalableRegisters) (address : ℕ) (write : Bool) where
   abbrev Last : Lookup → Type 0
@@ -79,30 +79,41 @@ module _ (r : ScalableRegisters) (address : ℕ) (write : Bool) where
         ≡ lastTried (lastTried before (lookupRules r pasid source) m) (lookedUp r address write (run (lookupRules r pasid source) m)) m
     looked-up-at before = tried-then withoutEntry (lookedUp r address write) before (lookupRules r pasid source) m (outside pasid source)
 
--- an entry of a unit without first level and nested translation
-module _ (r : ScalableRegisters) (no-first : r .flts ≡ false) (no-nested : r .nest ≡ false) (low : r .base .haw ≤ 52) where
-  -- PGTT is 2 where it isn't 4
-  second : (pgtt : ℕ) → not (typeSupported r pgtt) ≡ false → (pgtt ≡ 4 → ⊥) → pgtt ≡ 2
-  second pgtt h other = one (eqb pgtt 1) refl h
+-- what the check ensures of an entry that it lets pass
+module _ (r : ScalableRegisters) (low : r .base .haw ≤ 52) where
+  -- PGTT is 1 or 3 where it isn't 2 or 4
+  has-first : (pgtt : ℕ) → not (typeSupported r pgtt) ≡ false → (pgtt ≡ 4 → ⊥) → (pgtt ≡ 2 → ⊥) → (eqb pgtt 1 || eqb pgtt 3) ≡ true
+  has-first pgtt h not-4 not-2 = one (eqb pgtt 1) refl h
     where
-      four : (t : Bool) → eqb pgtt 4 ≡ t → not (if t then r .pt else false) ≡ false → pgtt ≡ 2
-      four true q h = absurd (other (eqb-true pgtt 4 q))
+      four : (t : Bool) → eqb pgtt 4 ≡ t → not (if t then r .pt else false) ≡ false → _≡_ {A = Bool} false true
+      four true q h = absurd (not-4 (eqb-true pgtt 4 q))
       four false q h = let z : _≡_ {A = ℕ} 0 1 = cc in absurd (omega arith)
 
-      three : (t : Bool) → eqb pgtt 3 ≡ t → not (if t then r .nest else if eqb pgtt 4 then r .pt else false) ≡ false → pgtt ≡ 2
-      three true q h = let x : not false ≡ false = rw no-nested at h in let z : _≡_ {A = ℕ} 0 1 = cc in absurd (omega arith)
+      three : (t : Bool) → eqb pgtt 3 ≡ t → not (if t then r .nest else if eqb pgtt 4 then r .pt else false) ≡ false → t ≡ true
+      three true q h = refl
       three false q h = four (eqb pgtt 4) refl h
 
       two : (t : Bool) → eqb pgtt 2 ≡ t
-          → not (if t then r .slts else if eqb pgtt 3 then r .nest else if eqb pgtt 4 then r .pt else false) ≡ false → pgtt ≡ 2
-      two true q h = eqb-true pgtt 2 q
+          → not (if t then r .slts else if eqb pgtt 3 then r .nest else if eqb pgtt 4 then r .pt else false) ≡ false → eqb pgtt 3 ≡ true
+      two true q h = absurd (not-2 (eqb-true pgtt 2 q))
       two false q h = three (eqb pgtt 3) refl h
 
       one : (t : Bool) → eqb pgtt 1 ≡ t
           → not (if t then r .flts else if eqb pgtt 2 then r .slts else if eqb pgtt 3 then r .nest else if eqb pgtt 4 then r .pt else false) ≡ false
-          → pgtt ≡ 2
-      one true q h = let x : not false ≡ false = rw no-first at h in let z : _≡_ {A = ℕ} 0 1 = cc in absurd (omega arith)
+          → (t || eqb pgtt 3) ≡ true
+      one true q h = refl
       one false q h = two (eqb pgtt 2) refl h
+
+  mode : (flpm : ℕ) → not (modeSupported r flpm) ≡ false → flpm ≤ 1
+  mode flpm h = none (eqb flpm 0) refl h
+    where
+      some : (t : Bool) → eqb flpm 1 ≡ t → not (t && r .fl5lp) ≡ false → flpm ≤ 1
+      some true q h = omega (arith, eqb-true flpm 1 q)
+      some false q h = let z : _≡_ {A = ℕ} 0 1 = cc in absurd (omega arith)
+
+      none : (t : Bool) → eqb flpm 0 ≡ t → not (t || eqb flpm 1 && r .fl5lp) ≡ false → flpm ≤ 1
+      none true q h = omega (arith, eqb-true flpm 0 q)
+      none false q h = some (eqb flpm 1) refl h
 
   width : (aw : ℕ) → not (widthSupported (r .base) aw) ≡ false → aw ≤ 3
   width aw h = one (eqb aw 1) refl h
@@ -131,16 +142,30 @@ module _ (r : ScalableRegisters) (no-first : r .flts ≡ false) (no-nested : r .
       let is : p ≡ pasidEntryOf privileged fpd e = cc in
       let kinds = not (typeSupported r (bits e 8 6)) in
       let widths = (eqb (bits e 8 6) 2 || eqb (bits e 8 6) 3) && not (widthSupported (r .base) (bits e 4 2)) in
-      let valid = either (kinds || widths) ((eqb (bits e 8 6) 1 || eqb (bits e 8 6) 3) && not (modeSupported r (bits e 131 130))) (h3 .0) .0 in
-      let parts = either kinds widths valid in
-      let pointers = anySet e 63 (r .base .haw) || anySet e 191 (128 + r .base .haw) in
+      let modes = (eqb (bits e 8 6) 1 || eqb (bits e 8 6) 3) && not (modeSupported r (bits e 131 130)) in
+      let valid = either (kinds || widths) modes (h3 .0) in
+      let parts = either kinds widths (valid .0) in
       let others = anySet e 11 10 || anySet e 86 80 || anySet e 139 136 || anySet e 511 192 in
-      let clear = either (anySet e 63 (r .base .haw)) (anySet e 191 (128 + r .base .haw)) (either others pointers (either (others || pointers) (featureReserved r e) (h2 .0) .0) .1) .0 in
+      let pointers = anySet e 63 (r .base .haw) || anySet e 191 (128 + r .base .haw) in
+      let clear = either (anySet e 63 (r .base .haw)) (anySet e 191 (128 + r .base .haw)) (either others pointers (either (others || pointers) (featureReserved r e) (h2 .0) .0) .1) in
       rw is
-      (λ other.
-      let two = second (bits e 8 6) (parts .0) other in
-      let aw : not (widthSupported (r .base) (bits e 4 2)) ≡ false = rw two at (parts .1) in
-      (omega arith, omega (arith, width (bits e 4 2) aw), omega arith, below-haw (r .base .haw) e low clear))
+      (λ not-4.
+      (
+        λ two.
+            let aw : not (widthSupported (r .base) (bits e 4 2)) ≡ false = rw two at (parts .1) in
+            (omega arith, omega (arith, width (bits e 4 2) aw), omega arith, below-haw (r .base .haw) e low (clear .0)),
+        λ not-2.
+            let flpm : not (modeSupported r (bits e 131 130)) ≡ false = rw (has-first (bits e 8 6) (parts .0) not-4 not-2) at (valid .1) in
+            (
+              omega arith,
+              omega (arith, mode (bits e 131 130) flpm),
+              omega arith,
+              first-below (r .base .haw) e low (clear .1),
+              λ three.
+                  let aw : not (widthSupported (r .base) (bits e 4 2)) ≡ false = rw three at (parts .1) in
+                  (omega arith, omega (arith, width (bits e 4 2) aw), omega arith, below-haw (r .base .haw) e low (clear .0)),
+            ),
+      ))
 
   abbrev pub Finds : Lookup → Type 0
   Finds (pasidEntry p) = Walkable p

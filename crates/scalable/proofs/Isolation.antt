@@ -1,5 +1,5 @@
 -- Every answer to an entry that can't be fetched is an access fault, so any other is settled by the named words.
-use Prim.Native.Nat.{ℕ, zero, suc}
+use Prim.Native.Nat.{ℕ}
 use mathlib.Core.Bool.{Bool, true, false, _||_}
 use mathlib.Core.List.{[]}
 use mathlib.Core.Path.{_≡_, refl, ap, ap₂, sym, _∙_}
@@ -15,7 +15,6 @@ use Rattle.image.proofs.Trees.{met, outside-map, outside-if}
 use Rattle.registers.specs.Admission.{Admitted, refusal, pass, takenUp, admission, onAdmission, inInterruptRange}
 use Rattle.dma.specs.Requests.{MemoryOutcome, granted, blocked, refused, concerned}
 use Rattle.dma.specs.Translation.{overflows}
-use Rattle.dma.specs.Walk.{Step, done, down, onStep, placeIn, walkRules}
 use Rattle.pasid.specs.Context.{contextCheck}
 use Rattle.pasid.specs.Directory.{directoryCheck}
 use Rattle.pasid.specs.Record.{scalableFault}
@@ -27,30 +26,21 @@ use Rattle.pasid.specs.declared.context.ScalableContext.{ScalableContext}
 use Rattle.pasid.specs.declared.table.PasidEntry.{PasidEntry}
 use Rattle.scalable.specs.Isolation.{accessReason, accessFault, ScalableLocality}
 use Rattle.scalable.specs.Lookup.{Lookup, pasidEntry, noPasidEntry, tableRules, directoryRules, contextRules, lookupRules}
-use Rattle.scalable.specs.Requests.{Translation, through, reached, fault, pasidTooWide, secondLevelOnly, wantedFor, withoutEntry, paged, lookedUp, typeRules, translationRules, Decision, sayOnly, decision, takenRules, scalableRules}
-use Rattle.second.specs.Second.{Walked, page, fault as walkFault, atTop, unfetchable, secondStep, secondRules}
+use Rattle.scalable.specs.Requests.{Translation, through, translated, pasidTooWide, withoutEntry, secondPages, pagedRules, lookedUp, typeRules, translationRules, Decision, sayOnly, decision, takenRules, scalableRules}
+use Rattle.first.specs.First.{notCanonical, unfetchable as noFirst}
+use Rattle.second.specs.Second.{atTop, unfetchable, secondStep, secondRules}
+use Rattle.nested.specs.Pages.{Pages, reached, fault, wantedOfPage, toPage}
+use Rattle.nested.proofs.Nested.{outside-pages}
+use Rattle.nested.proofs.Ways.{outside-walk}
 use Rattle.nested.proofs.Thens.{outside-then}
 use Rattle.scalable.specs.declared.ScalableRequest.{ScalableRequest}
 use lib.Dec.{eqb}
 
--- a walk by levels, over any format of its entries
-outside-walk : {S A : Type 0} (Kind : A → Type 0) (address : ℕ) (none : S → A) (step : (level place : ℕ) → S → (e : ℕ) → Step S A)
-    → ((s : S) → Kind (none s)) → (level table : ℕ) (s : S) → Outside Kind (walkRules address none step level table s)
-unfolding Outside walkRules
-outside-walk Kind address none step lost zero table s = tt
-outside-walk {S} {A} Kind address none step lost (suc n) table s =
-    (lost s, λ e. on (step (suc n) (placeIn address table n) s e) (outside-walk Kind address none step lost n))
-  where
-    on : (x : Step S A) → ((table : ℕ) (s : S) → Outside Kind (walkRules address none step n table s))
-        → Outside Kind (onStep x answer (walkRules address none step n))
-    on (done a) ih = tt
-    on (down next t) ih = ih next t
-
 -- a translation that an access fault ends
 abbrev Access : Translation → Type 0
 Access through = ⊥
-Access (reached frame level host flags) = ⊥
-Access (fault reason fpd) = accessReason reason ≡ true
+Access (translated (reached frame level host flags)) = ⊥
+Access (translated (fault reason fpd)) = accessReason reason ≡ true
 
 abbrev Lost : Lookup → Type 0
 Lost l = Access (withoutEntry l)
@@ -92,18 +82,37 @@ module _ (r : ScalableRegisters) where
         (λ reason told. tt) (λ table told. lost-context pasid source table),
   )
 
-  top-or-not : (t fpd : Bool) → Access (fault (if t then 0x7B else 0x78) fpd)
-  top-or-not true fpd = refl
-  top-or-not false fpd = refl
+  second-lost : (fpd top : Bool) → Access (translated (fault (if top then 0x7B else 0x78) fpd))
+  second-lost fpd true = refl
+  second-lost fpd false = refl
+
+  first-lost : (fpd top : Bool) → Access (translated (fault (noFirst top) fpd))
+  first-lost fpd true = refl
+  first-lost fpd false = refl
+
+  abbrev AccessPage : Pages → Type 0
+  AccessPage w = Access (translated w)
+
+  lost-second : (address : ℕ) (write : Bool) (p : PasidEntry) → Outside AccessPage (secondPages r address write p)
+  unfolding Outside secondPages
+  lost-second address write p =
+      outside-if AccessPage (overflows (r .base) (p .«second_levels») address) (answer (fault 0x84 (p .fpd))) _ tt
+      (outside-map (toPage address) AccessPage (secondRules r p (wantedOfPage write) address (p .«second_levels») (p .«second_top») (atTop []))
+      (outside-walk (λ w. AccessPage (toPage address w)) address (unfetchable r p (wantedOfPage write)) (secondStep r p (wantedOfPage write))
+      (λ above. second-lost (p .fpd) (above .top)) (p .«second_levels») (p .«second_top») (atTop [])))
+
+  lost-pages : (address : ℕ) (write : Bool) (p : PasidEntry) → Outside AccessPage (pagedRules r address write p)
+  unfolding Outside pagedRules
+  lost-pages address write p =
+      outside-if AccessPage (eqb (p .kind) 2) (secondPages r address write p) _ (lost-second address write p)
+      (outside-if AccessPage (notCanonical (p .«first_levels») address) (answer (fault 0x80 (p .fpd))) _ tt
+      (outside-pages r p address write AccessPage (first-lost (p .fpd)) (second-lost (p .fpd))))
 
   lost-type : (address : ℕ) (write : Bool) (p : PasidEntry) → Outside Access (typeRules r address write p)
   unfolding Outside typeRules
   lost-type address write p =
       outside-if Access (eqb (p .kind) 4) (answer through) _ tt
-      (outside-if Access (overflows (r .base) (p .«second_levels») address) (answer (fault 0x84 (p .fpd))) _ tt
-      (outside-map (paged address) Access (secondRules r p (wantedFor write) address (p .«second_levels») (p .«second_top») (atTop []))
-      (outside-walk (λ w. Access (paged address w)) address (unfetchable r p (wantedFor write)) (secondStep r p (wantedFor write))
-      (λ above. top-or-not (above .top) (p .fpd)) (p .«second_levels») (p .«second_top») (atTop []))))
+      (outside-map translated Access (pagedRules r address write p) (lost-pages address write p))
 
   follows : (address : ℕ) (write : Bool) (l : Lookup) → Outside Access (lookedUp r address write l)
   unfolding Outside
@@ -116,8 +125,8 @@ Fault d = accessFault (d .outcome) ≡ true
 told : (q : ScalableRequest) (t : Translation) → Access t → Fault (decision q t)
 unfolding scalableFault
 told q through h = absurd h
-told q (reached frame level host flags) h = absurd h
-told q (fault reason fpd) h = h
+told q (translated (reached frame level host flags)) h = absurd h
+told q (translated (fault reason fpd)) h = h
 
 outside-weaken : {A : Type 0} (Kind Kind′ : A → Type 0) → ((a : A) → Kind a → Kind′ a) → (q : Rules A) → Outside Kind q → Outside Kind′ q
 unfolding Outside
@@ -127,13 +136,12 @@ outside-weaken Kind Kind′ so (fetch kind at outside next) h = (so outside (h .
 outside-taken : (r : ScalableRegisters) (q : ScalableRequest) → Outside Fault (takenRules r q)
 unfolding Outside
 outside-taken r q =
-    let unit = secondLevelOnly r in
-    let rules = translationRules unit (q .address) (q .write) (q .pasid) (q .source .id) in
+    let rules = translationRules r (q .address) (q .write) (q .pasid) (q .source .id) in
     outside-if Fault (pasidTooWide (q .pasid)) (answer (sayOnly (refused 6))) _ tt
     (outside-map (decision q) Fault rules
     (outside-weaken Access (λ t. Fault (decision q t)) (told q) rules
-    (outside-then Access withoutEntry (lookedUp unit (q .address) (q .write)) (lookupRules unit (q .pasid) (q .source .id))
-    (lost unit (q .pasid) (q .source .id)) (follows unit (q .address) (q .write)))))
+    (outside-then Access withoutEntry (lookedUp r (q .address) (q .write)) (lookupRules r (q .pasid) (q .source .id))
+    (lost r (q .pasid) (q .source .id)) (follows r (q .address) (q .write)))))
 
 outside-request : (r : ScalableRegisters) (q : ScalableRequest) → Outside Fault (scalableRules r q)
 unfolding Outside scalableRules

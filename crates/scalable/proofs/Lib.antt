@@ -5,3 +5,4 @@ pub mod Found
 pub mod Isolation
 pub mod Pairs
 pub mod Tables
+pub mod Written

@@ -2,15 +2,15 @@
 use Prim.Native.Nat.{ℕ, _+_, _*_, _/_, _%_, _^_, _≤_, _<_}
 use mathlib.Core.Bool.{Bool, true, false, not, _&&_, _||_}
 use mathlib.Core.Path.{_≡_, refl, ap, sym, _∙_}
-use native.Mathlib.Nat.{div-one, lt-of-lt-of-le, le-trans}
+use native.Mathlib.Nat.{div-one, lt-of-lt-of-le, le-trans, mod-lt, mod-add-div}
 use native.Mathlib.Omega.{arith}
-use lib.Dec.{leb}
-use lib.Pow.{pow-mono}
+use lib.Dec.{leb, eqb}
+use lib.Pow.{pow-mono, pow-pos}
 use borrow.Author.Tests.{leb-false}
 use Rattle.image.specs.Bits.{bits, bit, anySet, inPlace}
 use Rattle.image.specs.Check.{go}
 use Rattle.image.specs.Choice.{if_then_else_}
-use Rattle.image.proofs.Fields.{fits, in-place-le}
+use Rattle.image.proofs.Fields.{fits, in-place-le, above-digit}
 use Rattle.dma.proofs.Address.{above}
 use Rattle.dma.proofs.Steps.{past}
 use Rattle.pasid.specs.Context.{contextReserved, beyond, contextInvalid, pasidOf, contextOf, contextCheck, Usable}
@@ -87,3 +87,12 @@ directory-place directory pasid h = omega arith
 pub context-place : (table source : ℕ) → _≡_ {A = ℕ} (table + 32 * (source % 128)) (table + 32 * bits source 6 0)
 unfolding bits
 context-place table source = rw (div-one source)
+
+-- the first level's top table, in bits 191:140
+high-field : (k e high low : ℕ) → bits e (k + high) (k + low) ≡ bits (e / 2 ^ k) high low
+high-field k e high low =
+    ap (λ (x : ℕ). bits x (k + high) (k + low)) (sym (mod-add-div e (2 ^ k))) ∙ above-digit k (e / 2 ^ k) (mod-lt e (pow-pos k)) high low
+
+pub first-below : (haw e : ℕ) → haw ≤ 52 → anySet e 191 (128 + haw) ≡ false → bits e 191 140 * 2 ^ 12 < 2 ^ 52
+first-below haw e low clear =
+    rw (high-field 128 e 63 12) (below-haw haw (e / 2 ^ 128) low (ap (λ (x : ℕ). not (eqb x 0)) (sym (high-field 128 e 63 haw)) ∙ clear))

@@ -9,7 +9,8 @@ use Rattle.dma.specs.Requests.{MemoryOutcome, granted, blocked, refused}
 use Rattle.pasid.specs.Answers.{faultOf}
 use Rattle.pasid.specs.Reason.{numberOf}
 use Rattle.scalable.specs.Lookup.{Lookup, pasidEntry, noPasidEntry}
-use Rattle.scalable.specs.Requests.{Translation, through, reached, fault}
+use Rattle.nested.specs.Pages.{reached, fault}
+use Rattle.scalable.specs.Requests.{Translation, through, translated}
 use Rattle.scalable.specs.declared.translation.Translation.{Translation as TranslationCode}
 use Rattle.scalable.specs.declared.translation.Translation.the-variants as translation
 use Rattle.scalable.specs.declared.ScalableAnswer.{ScalableAnswer}
@@ -29,8 +30,8 @@ lookupPlace (lookup.Fault reason fpd at) = entryAt at
 -- the flags are the buffer's first
 abbrev pub translationOf : TranslationCode → (flags : List ℕ) → Translation
 translationOf translation.Through flags = through
-translationOf (translation.Page frame level host n) flags = reached frame level host (take n flags)
-translationOf (translation.Fault reason fpd at) flags = fault (numberOf reason) fpd
+translationOf (translation.Page frame level host n) flags = translated (reached frame level host (take n flags))
+translationOf (translation.Fault reason fpd at) flags = translated (fault (numberOf reason) fpd)
 
 -- the entry that a fault names; where there is no fault, the place handed in
 abbrev pub translationPlace : TranslationCode → Place → Place
@@ -44,7 +45,7 @@ TranslationNames r place = translationPlace r place ≡ place
 
 abbrev pub TranslationReachable : TranslationCode → Type 0
 TranslationReachable translation.Through = Unit {0}
-TranslationReachable (translation.Page frame level host n) = (frame < 2 ^ 52) × (0 < level) × (level ≤ 3) × (n ≤ 48)
+TranslationReachable (translation.Page frame level host n) = (frame < 2 ^ 52) × (0 < level) × (level ≤ 3) × (n ≤ 47)
 TranslationReachable (translation.Fault reason fpd at) = Unit {0}
 
 abbrev pub outcomeOf : ScalableAnswer → MemoryOutcome

@@ -1,6 +1,6 @@
 -- A read or write in scalable mode, from registers to answer, as one rules tree.
-use Prim.Native.Nat.{ℕ, _^_, _%_, _<_, _≤_}
-use mathlib.Core.Bool.{Bool, false, not, _&&_}
+use Prim.Native.Nat.{ℕ, _^_}
+use mathlib.Core.Bool.{Bool, _&&_}
 use mathlib.Core.List.{List, []}
 use mathlib.Core.Path.{_≡_}
 use lib.Dec.{eqb, leb}
@@ -12,7 +12,6 @@ use Rattle.image.specs.Rules.{Rules, answer, run, mapRules}
 use Rattle.image.specs.Windows.{ofWindows, badWindows}
 use Rattle.registers.specs.Admission.{admission, onAdmission, inInterruptRange}
 use Rattle.dma.specs.InterruptRange.{meetsInterruptRange, spanAt}
-use Rattle.dma.specs.Page.{hostAddress}
 use Rattle.dma.specs.Requests.{MemoryOutcome, granted, blocked, refused, concerned}
 use Rattle.dma.specs.Translation.{overflows}
 use Rattle.pasid.specs.Record.{scalableFault}
@@ -21,64 +20,47 @@ use Rattle.pasid.specs.declared.ScalableRegisters.{ScalableRegisters}
 use Rattle.pasid.specs.declared.table.PasidEntry.{PasidEntry}
 use Rattle.scalable.specs.Lookup.{Lookup, pasidEntry, noPasidEntry, lookupRules}
 use Rattle.flags.specs.Flags.{setFlags}
-use Rattle.second.specs.Second.{Walked, page, fault as walkFault, atTop, secondRules}
-use Rattle.second.specs.declared.step.Wanted.{Wanted}
+use Rattle.first.specs.First.{notCanonical}
+use Rattle.second.specs.Second.{atTop, secondRules}
+use Rattle.nested.specs.Pages.{Pages, reached, fault, wantedOfPage, toPage, pagesRules, SecondWalkable, FirstWalkable}
 use Rattle.nested.specs.Then.{thenRules}
 use Rattle.scalable.specs.declared.ScalableRequest.{ScalableRequest}
 
--- the address itself, where the PASID table entry passes through; the page that is reached: its frame, the level of its entry, where in host
--- memory the address is, and the flags of the entries that were used; or a fault with FPD
+-- the address itself, where the PASID table entry passes through; or the page or the fault that it comes to
 pub data Translation : Type 0 where
   through : Translation
-  reached : (frame level host : ℕ) (flags : List ℕ) → Translation
-  fault : (reason : ℕ) (fpd : Bool) → Translation
+  translated : Pages → Translation
 
 -- a PASID of more than 20 bits
 abbrev pub pasidTooWide : Pasid → Bool
 pasidTooWide pasid = pasid .present && leb (2 ^ 20) (pasid .value)
 
--- as long as the first level and nested translation are not there, the unit is one that has none of them
-abbrev pub secondLevelOnly : ScalableRegisters → ScalableRegisters
-secondLevelOnly r =
-    record {
-      base = r .base;
-      flts = false;
-      slts = r .slts;
-      nest = false;
-      pt = r .pt;
-      fl5lp = r .fl5lp;
-      fl1gp = r .fl1gp;
-      slads = r .slads;
-      eafs = r .eafs;
-      srs = r .srs;
-      smpwc = r .smpwc;
-    }
-
--- a read needs R, a write W
-abbrev pub wantedFor : (write : Bool) → Wanted
-wantedFor write = record { read = not write; write = write; dirty = write }
-
 -- a lookup that found no PASID table entry ends the request; the other case doesn't come up
 abbrev pub withoutEntry : Lookup → Translation
 withoutEntry (pasidEntry p) = through
-withoutEntry (noPasidEntry reason fpd) = fault reason fpd
-
--- what a second-level walk of an address reaches
-abbrev pub paged : (address : ℕ) → Walked → Translation
-paged address (page frame level writable flags) = reached frame level (hostAddress level frame address) flags
-paged address (walkFault reason fpd) = fault reason fpd
+withoutEntry (noPasidEntry reason fpd) = translated (fault reason fpd)
 
 module _ (r : ScalableRegisters) (address : ℕ) (write : Bool) where
-  -- PGTT 4 passes through, whatever the address. PGTT 2: an address at or above 2^X is 84h; then the second-level walk
+  -- the second level alone: an address at or above 2^X is 84h; then the second-level walk
+  unfoldable pub secondPages : PasidEntry → Rules Pages
+  secondPages p =
+      if overflows (r .base) (p .«second_levels») address then answer (fault 0x84 (p .fpd))
+      else mapRules (toPage address) (secondRules r p (wantedOfPage write) address (p .«second_levels») (p .«second_top») (atTop []))
+
+  -- PGTT 2: the second level. PGTT 1 and 3: an address that isn't canonical is 80h; then the first-level walk, nested with 3
+  unfoldable pub pagedRules : PasidEntry → Rules Pages
+  pagedRules p =
+      if eqb (p .kind) 2 then secondPages p
+      else if notCanonical (p .«first_levels») address then answer (fault 0x80 (p .fpd))
+      else pagesRules r p address write
+
+  -- PGTT 4 passes through, whatever the address
   unfoldable pub typeRules : PasidEntry → Rules Translation
-  typeRules p =
-      if eqb (p .kind) 4 then answer through
-      else if overflows (r .base) (p .«second_levels») address then answer (fault 0x84 (p .fpd))
-      else mapRules (paged address) (secondRules r p (wantedFor write) address (p .«second_levels») (p .«second_top») (atTop []))
+  typeRules p = if eqb (p .kind) 4 then answer through else mapRules translated (pagedRules p)
 
   abbrev pub lookedUp : Lookup → Rules Translation
   lookedUp (pasidEntry p) = typeRules p
-  lookedUp (noPasidEntry reason fpd) = answer (fault reason fpd)
+  lookedUp (noPasidEntry reason fpd) = answer (translated (fault reason fpd))
 
   abbrev pub translationRules : Pasid → (source : ℕ) → Rules Translation
   translationRules pasid source = thenRules withoutEntry lookedUp (lookupRules r pasid source)
@@ -94,15 +76,15 @@ sayOnly o = record { outcome = o; flags = [] }
 -- a page with a byte in the interrupt range is refusal 4, whatever the address's offset in it
 abbrev pub decision : ScalableRequest → Translation → Decision
 decision q through = sayOnly (granted (q .address))
-decision q (reached frame level host flags) =
+decision q (translated (reached frame level host flags)) =
     if meetsInterruptRange frame (spanAt level) then sayOnly (refused 4) else record { outcome = granted host; flags = flags }
-decision q (fault reason fpd) = sayOnly (blocked (scalableFault reason fpd (q .source .id) (q .address) (q .write) (q .pasid)))
+decision q (translated (fault reason fpd)) = sayOnly (blocked (scalableFault reason fpd (q .source .id) (q .address) (q .write) (q .pasid)))
 
 -- past admission: a PASID of more than 20 bits is refusal 6
 abbrev pub takenRules : ScalableRegisters → ScalableRequest → Rules Decision
 takenRules r q =
     if pasidTooWide (q .pasid) then answer (sayOnly (refused 6))
-    else mapRules (decision q) (translationRules (secondLevelOnly r) (q .address) (q .write) (q .pasid) (q .source .id))
+    else mapRules (decision q) (translationRules r (q .address) (q .write) (q .pasid) (q .source .id))
 
 -- refusals 1 and 2 are those of legacy mode, and 6 comes after them; with TE off the address itself is granted
 unfoldable pub scalableRules : ScalableRegisters → ScalableRequest → Rules Decision
@@ -130,6 +112,9 @@ scalableAnswerPlace r q windows bytes =
 abbrev pub scalableWritten : ScalableRegisters → ScalableRequest → (windows bytes : List ℕ) → List ℕ
 scalableWritten r q windows bytes = setFlags windows (scalableDecision r q windows bytes .flags) bytes
 
--- a PASID table entry that such a unit's check lets pass: for the code's contracts
+-- a PASID table entry whose tables can be walked, as each is that the check lets pass: for the code's contracts
+abbrev pub PagesWalkable : PasidEntry → Type 0
+PagesWalkable p = (p .kind ≡ 2 → SecondWalkable p) × ((p .kind ≡ 2 → ⊥) → FirstWalkable p)
+
 abbrev pub Walkable : PasidEntry → Type 0
-Walkable p = (p .kind ≡ 4 → ⊥) → (0 < p .«second_levels») × (p .«second_levels» ≤ 5) × (p .«second_top» % 4096 ≡ 0) × (p .«second_top» < 2 ^ 52)
+Walkable p = (p .kind ≡ 4 → ⊥) → PagesWalkable p

@@ -9,8 +9,9 @@ ghost use Rattle.image.specs.Rules.{run};
 ghost use Rattle.image.specs.Windows.{ofWindows, badWindows};
 ghost use Rattle.dma.specs.Requests.{concerned};
 ghost use Rattle.flags.specs.Flags.{setFlags};
+ghost use Rattle.nested.specs.Pages.{reached};
 ghost use Rattle.scalable.specs.Answers.{outcomeOf, entryOf, translationOf, TranslationNames, TranslationReachable};
-ghost use Rattle.scalable.specs.Requests.{reached, pasidTooWide, decision, takenRules, scalableAnswer, scalableAnswerPlace, scalableWritten};
+ghost use Rattle.scalable.specs.Requests.{translated, pasidTooWide, decision, takenRules, scalableAnswer, scalableAnswerPlace, scalableWritten};
 
 mod context32;
 mod lookup;
@@ -29,7 +30,6 @@ use registers::SourceId;
 use registers::admit;
 use registers::in_interrupt_range;
 use translation::Translation;
-use translation::second_level_only;
 use translation::translate;
 
 pub struct ScalableRequest {
@@ -57,7 +57,7 @@ fn pasid_too_wide(pasid: Pasid) -> bool
 // A page that is reached: refusal 4, or the host address.
 fn page_answer(frame: u64, level: u32, host: u64) -> ScalableAnswer
     requires { ⌜ (frame < 2 ^ 52) × (0 < level) × (level ≤ 3) ⌝ }
-    ensures { λ r. ⌜ ((request : ScalableRequest) (flags : List ℕ) → outcomeOf r ≡ decision request (reached frame level host flags) .outcome) ⌝ }
+    ensures { λ r. ⌜ ((request : ScalableRequest) (flags : List ℕ) → outcomeOf r ≡ decision request (translated (reached frame level host flags)) .outcome) ⌝ }
     ensures { λ r. ⌜ ((place : Place) → entryOf r ≡ concerned (outcomeOf r) place) ⌝ }
 {
     if meets_interrupt_range(level, frame) {
@@ -92,7 +92,7 @@ fn answer(request: ScalableRequest, translated: Translation) -> ScalableAnswer
 fn flags_to_set(translated: Translation) -> usize
     requires { ⌜ TranslationReachable translated ⌝ }
     ensures { λ r. ⌜ ((request : ScalableRequest) (flags : List ℕ) → take r flags ≡ decision request (translationOf translated flags) .flags) ⌝ }
-    ensures { λ r. ⌜ r ≤ 48 ⌝ }
+    ensures { λ r. ⌜ r ≤ 47 ⌝ }
 {
     match translated {
         Translation::Through => 0,
@@ -106,7 +106,7 @@ fn flags_to_set(translated: Translation) -> usize
     }
 }
 
-// A request that is admitted. At most 47 flags are collected.
+// A request that is admitted. It collects at most 47 flags: nested, with 5 and 5 levels, 5 × (5 + 1 + 2) + 1 and 5 + 1.
 fn take_up(
     registers: ScalableRegisters,
     windows: &[u64],
@@ -121,9 +121,8 @@ fn take_up(
     if pasid_too_wide(request.pasid) {
         return ScalableAnswer::Refused(6);
     }
-    let unit = second_level_only(registers);
-    let mut flags = [0u64; 48];
-    let translated = translate(windows, image, unit, request, &mut flags);
+    let mut flags = [0u64; 47];
+    let translated = translate(windows, image, registers, request, &mut flags);
     let count = flags_to_set(translated);
     set_flags(windows, image, &flags, count);
     answer(request, translated)

@@ -6,12 +6,18 @@ ghost use Prim.Native.Nat.{_%_, _≤_};
 ghost use Rattle.image.specs.Place.{entryAt, lastTried, stoppedAt};
 ghost use Rattle.image.specs.Rules.{run};
 ghost use Rattle.image.specs.Windows.{ofWindows, badWindows};
+ghost use Rattle.nested.specs.Answers.{pagesOf, PagesNames, PagesGrows};
+ghost use Rattle.nested.specs.Pages.{Reachable, SecondWalkable};
 ghost use Rattle.scalable.specs.Answers.{translationOf, TranslationNames, TranslationReachable};
-ghost use Rattle.scalable.specs.Requests.{secondLevelOnly, typeRules, translationRules, Walkable};
+ghost use Rattle.scalable.specs.Requests.{secondPages, pagedRules, typeRules, translationRules, PagesWalkable, Walkable};
 use crate::ScalableRequest;
 use crate::lookup::PasidLookup;
 use crate::lookup::find_pasid_entry;
 use dma::overflows;
+use first::not_canonical;
+use nested::Asked;
+use nested::Pages;
+use nested::walk_pages;
 use pasid::PasidEntry;
 use pasid::ScalableReason;
 use pasid::ScalableRegisters;
@@ -29,48 +35,25 @@ pub enum Translation {
     Fault(ScalableReason, bool, u64),
 }
 
-// The unit as it is without the first level and nested translation.
-pub(crate) fn second_level_only(registers: ScalableRegisters) -> ScalableRegisters
-    ensures { λ r. ⌜ r ≡ secondLevelOnly registers ⌝ }
-{
-    let base = registers.base;
-    ScalableRegisters {
-        base,
-        flts: false,
-        slts: registers.slts,
-        nest: false,
-        pt: registers.pt,
-        fl5lp: registers.fl5lp,
-        fl1gp: registers.fl1gp,
-        slads: registers.slads,
-        eafs: registers.eafs,
-        srs: registers.srs,
-        smpwc: registers.smpwc,
-    }
-}
-
-// By PGTT, in a PASID table entry that stands at an address.
-fn translate_in(
+// The second level alone. at: the host address of the PASID table entry, which was tried last.
+fn second_pages(
     windows: &[u64],
     image: &[u8],
     registers: ScalableRegisters,
-    request: ScalableRequest,
     entry: PasidEntry,
     at: u64,
+    asked: Asked,
     flags: &mut [u64],
-) -> Translation
-    requires { ⌜ (badWindows (now windows) (length (now image)) ≡ false) × Walkable entry × (48 ≤ length (now flags)) ⌝ }
-    ensures { λ r. ⌜ translationOf r (now (flags .exit)) ≡ run (typeRules registers (request .address) (request .write) entry) (ofWindows (now (windows .entry)) (now (image .entry))) ⌝ }
-    ensures { λ r. ⌜ TranslationNames r (lastTried (entryAt at) (typeRules registers (request .address) (request .write) entry) (ofWindows (now (windows .entry)) (now (image .entry)))) ⌝ }
-    ensures { λ r. ⌜ TranslationReachable r ⌝ }
+) -> Pages
+    requires { ⌜ (badWindows (now windows) (length (now image)) ≡ false) × SecondWalkable entry × (47 ≤ length (now flags)) ⌝ }
+    ensures { λ r. ⌜ pagesOf r (now (flags .exit)) ≡ run (secondPages registers (asked .address) (asked .write) entry) (ofWindows (now (windows .entry)) (now (image .entry))) ⌝ }
+    ensures { λ r. ⌜ PagesNames r (lastTried (entryAt at) (secondPages registers (asked .address) (asked .write) entry) (ofWindows (now (windows .entry)) (now (image .entry)))) ⌝ }
+    ensures { λ r. ⌜ Reachable (pagesOf r (now (flags .exit))) × PagesGrows r 47 ⌝ }
 {
-    if entry.kind == 4 {
-        return Translation::Through;
+    if overflows(registers.base, entry.second_levels, asked.address) {
+        return Pages::Fault(ScalableReason::AddressOverflow, entry.fpd, at);
     }
-    if overflows(registers.base, entry.second_levels, request.address) {
-        return Translation::Fault(ScalableReason::AddressOverflow, entry.fpd, at);
-    }
-    let write = request.write;
+    let write = asked.write;
     let wanted = Wanted {
         read: !write,
         write,
@@ -82,20 +65,63 @@ fn translate_in(
         registers,
         entry,
         wanted,
-        request.address,
+        asked.address,
         flags,
         0,
     );
     match walked {
         Walked::Page(frame, level, _, count) => {
-            Translation::Page(
-                frame,
-                level,
-                host_address(level, frame, request.address),
-                count,
-            )
+            Pages::Reached(frame, level, host_address(level, frame, asked.address), count)
         }
-        Walked::Fault(reason, fpd, place) => Translation::Fault(reason, fpd, place),
+        Walked::Fault(reason, fpd, place) => Pages::Fault(reason, fpd, place),
+    }
+}
+
+// By PGTT, where it is none that passes through.
+fn find_pages(
+    windows: &[u64],
+    image: &[u8],
+    registers: ScalableRegisters,
+    entry: PasidEntry,
+    at: u64,
+    asked: Asked,
+    flags: &mut [u64],
+) -> Pages
+    requires { ⌜ (badWindows (now windows) (length (now image)) ≡ false) × PagesWalkable entry × (47 ≤ length (now flags)) ⌝ }
+    ensures { λ r. ⌜ pagesOf r (now (flags .exit)) ≡ run (pagedRules registers (asked .address) (asked .write) entry) (ofWindows (now (windows .entry)) (now (image .entry))) ⌝ }
+    ensures { λ r. ⌜ PagesNames r (lastTried (entryAt at) (pagedRules registers (asked .address) (asked .write) entry) (ofWindows (now (windows .entry)) (now (image .entry)))) ⌝ }
+    ensures { λ r. ⌜ Reachable (pagesOf r (now (flags .exit))) × PagesGrows r 47 ⌝ }
+{
+    if entry.kind == 2 {
+        return second_pages(windows, image, registers, entry, at, asked, flags);
+    }
+    if not_canonical(entry.first_levels, asked.address) {
+        return Pages::Fault(ScalableReason::NotCanonical, entry.fpd, at);
+    }
+    walk_pages(windows, image, registers, entry, at, asked, flags)
+}
+
+fn translate_in(
+    windows: &[u64],
+    image: &[u8],
+    registers: ScalableRegisters,
+    entry: PasidEntry,
+    at: u64,
+    asked: Asked,
+    flags: &mut [u64],
+) -> Translation
+    requires { ⌜ (badWindows (now windows) (length (now image)) ≡ false) × Walkable entry × (47 ≤ length (now flags)) ⌝ }
+    ensures { λ r. ⌜ translationOf r (now (flags .exit)) ≡ run (typeRules registers (asked .address) (asked .write) entry) (ofWindows (now (windows .entry)) (now (image .entry))) ⌝ }
+    ensures { λ r. ⌜ TranslationNames r (lastTried (entryAt at) (typeRules registers (asked .address) (asked .write) entry) (ofWindows (now (windows .entry)) (now (image .entry)))) ⌝ }
+    ensures { λ r. ⌜ TranslationReachable r ⌝ }
+{
+    if entry.kind == 4 {
+        return Translation::Through;
+    }
+    let pages = find_pages(windows, image, registers, entry, at, asked, flags);
+    match pages {
+        Pages::Reached(frame, level, host, count) => Translation::Page(frame, level, host, count),
+        Pages::Fault(reason, fpd, place) => Translation::Fault(reason, fpd, place),
     }
 }
 
@@ -106,21 +132,19 @@ pub(crate) fn translate(
     request: ScalableRequest,
     flags: &mut [u64],
 ) -> Translation
-    requires { ⌜ (badWindows (now windows) (length (now image)) ≡ false) × (registers .base .«root_table» % 4096 ≡ 0) × (registers .base .haw ≤ 52) × (registers .flts ≡ false) × (registers .nest ≡ false) × (48 ≤ length (now flags)) ⌝ }
+    requires { ⌜ (badWindows (now windows) (length (now image)) ≡ false) × (registers .base .«root_table» % 4096 ≡ 0) × (registers .base .haw ≤ 52) × (47 ≤ length (now flags)) ⌝ }
     ensures { λ r. ⌜ translationOf r (now (flags .exit)) ≡ run (translationRules registers (request .address) (request .write) (request .pasid) (request .source .id)) (ofWindows (now (windows .entry)) (now (image .entry))) ⌝ }
     ensures { λ r. ⌜ TranslationNames r (stoppedAt (translationRules registers (request .address) (request .write) (request .pasid) (request .source .id)) (ofWindows (now (windows .entry)) (now (image .entry)))) ⌝ }
     ensures { λ r. ⌜ TranslationReachable r ⌝ }
 {
+    let asked = Asked {
+        address: request.address,
+        write: request.write,
+    };
     match find_pasid_entry(windows, image, registers, request.source, request.pasid) {
-        PasidLookup::Found(entry, at) => translate_in(
-            windows,
-            image,
-            registers,
-            request,
-            entry,
-            at,
-            flags,
-        ),
+        PasidLookup::Found(entry, at) => {
+            translate_in(windows, image, registers, entry, at, asked, flags)
+        }
         PasidLookup::Fault(reason, fpd, at) => Translation::Fault(reason, fpd, at),
     }
 }

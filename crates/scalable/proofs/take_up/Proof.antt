@@ -3,13 +3,11 @@ use mathlib.Core.List.{List, []}
 use mathlib.Core.Path.{_≡_, refl, ap, sym, _∙_, subst}
 use native.Mathlib.Omega.{arith}
 use Rattle.image.specs.Memory.{Memory}
-use Rattle.image.specs.Place.{Place, stoppedAt}
-use Rattle.image.specs.Rules.{run}
+use Rattle.image.specs.Place.{Place}
 use Rattle.image.specs.Windows.{ofWindows}
-use Rattle.pasid.specs.declared.ScalableRegisters.{ScalableRegisters}
 use Rattle.flags.specs.Flags.{setFlags}
 use Rattle.scalable.specs.Answers.{TranslationNames}
-use Rattle.scalable.specs.Requests.{Decision, decision, translationRules}
+use Rattle.scalable.specs.Requests.{Decision, decision}
 use Rattle.scalable.proofs.Admitted.{too-wide, narrow, narrow-at}
 use borrow.Author.Needs.{needs}
 use Rattle.scalable.proofs.take_up.Statement.{statement}
@@ -27,27 +25,23 @@ returns c =
 
 translate-requires : tie.Need-translate-requires
 translate-requires c κs =
-    let u = c .before .before in
-    let p = u .before .before .before .before .before .pre in
-    rw (u .second-level-only .ensures) (p .0, p .1, p .2, refl, refl, omega arith)
+    let p = c .before .before .before .before .before .before .pre in
+    (p .0, p .1, p .2, omega arith)
 
 returns-2 : tie.Need-returns-2
 returns-2 c =
     let w = c .before .before .before in
     let n = w .before .before .before in
     let t = n .before .before in
-    let u = t .before .before .before in
-    let e = u .before in
+    let e = t .before .before .before in
     let s = e .before .before .before .before in
     let a = s .args in
     let q = a .request in
     let buffer = t .translate .last .1 .1 .1 .1 .0 in
     let slim = sym (e .before .pasid-too-wide .ensures) ∙ e .if1 .left in
-    let is = t .translate .ensures .0
-    ∙ ap (λ (r : ScalableRegisters). run (translationRules r (q .address) (q .write) (q .pasid) (q .source .id)) (memory s)) (u .second-level-only .ensures) in
+    let is = t .translate .ensures .0 in
     let whole = ap (decision q) is ∙ narrow (a .registers) q (memory s) slim in
-    let stopped = ap (λ (r : ScalableRegisters). stoppedAt (translationRules r (q .address) (q .write) (q .pasid) (q .source .id)) (memory s)) (u .second-level-only .ensures)
-    ∙ narrow-at (a .registers) q (memory s) slim in
+    let stopped = narrow-at (a .registers) q (memory s) slim in
     let there = subst (λ (place : Place). TranslationNames (t .translate .result) place) stopped (t .translate .ensures .1 .0) in (
       c .answer .ensures .0 buffer ∙ ap (λ (d : Decision). d .outcome) whole,
       (
@@ -62,7 +56,6 @@ take-up-spec =
     (tie.spec
     (λ c κs. search needs)
     returns
-    (λ c κs. search needs)
     (λ c. search needs)
     translate-requires
     (λ c κs. search needs)

@@ -44,8 +44,8 @@ translate-in-requires c κs =
     let f = e .before .before in
     let s = f .before .before .before .before in
     let told = sym (ap lookupOf (e .entry .given .1)) ∙ f .find-pasid-entry .ensures .0 in
-    let good = Finds (s .args .registers) (s .pre .3) (s .pre .4) (s .pre .2) in
-    (s .pre .0, subst good (sym told) (finds (s .args .registers) (s .pre .3) (s .pre .4) (s .pre .2) (s .args .request .pasid) (s .args .request .source .id) (memory s)), s .pre .5)
+    let good = Finds (s .args .registers) (s .pre .2) in
+    (s .pre .0, subst good (sym told) (finds (s .args .registers) (s .pre .2) (s .args .request .pasid) (s .args .request .source .id) (memory s)), s .pre .3)
 
 returns : tie.Need-returns
 returns c =
