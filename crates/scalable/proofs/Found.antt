@@ -149,14 +149,12 @@ module _ (r : ScalableRegisters) (low : r .base .haw ≤ 52) where
       let pointers = anySet e 63 (r .base .haw) || anySet e 191 (128 + r .base .haw) in
       let clear = either (anySet e 63 (r .base .haw)) (anySet e 191 (128 + r .base .haw)) (either others pointers (either (others || pointers) (featureReserved r e) (h2 .0) .0) .1) in
       rw is
-      (λ not-4.
-      (
+      (λ not-4. (
         λ two.
             let aw : not (widthSupported (r .base) (bits e 4 2)) ≡ false = rw two at (parts .1) in
             (omega arith, omega (arith, width (bits e 4 2) aw), omega arith, below-haw (r .base .haw) e low (clear .0)),
         λ not-2.
-            let flpm : not (modeSupported r (bits e 131 130)) ≡ false = rw (has-first (bits e 8 6) (parts .0) not-4 not-2) at (valid .1) in
-            (
+            let flpm : not (modeSupported r (bits e 131 130)) ≡ false = rw (has-first (bits e 8 6) (parts .0) not-4 not-2) at (valid .1) in (
               omega arith,
               omega (arith, mode (bits e 131 130) flpm),
               omega arith,

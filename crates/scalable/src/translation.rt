@@ -71,7 +71,12 @@ fn second_pages(
     );
     match walked {
         Walked::Page(frame, level, _, count) => {
-            Pages::Reached(frame, level, host_address(level, frame, asked.address), count)
+            Pages::Reached(
+                frame,
+                level,
+                host_address(level, frame, asked.address),
+                count,
+            )
         }
         Walked::Fault(reason, fpd, place) => Pages::Fault(reason, fpd, place),
     }

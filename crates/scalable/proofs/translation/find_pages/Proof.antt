@@ -42,8 +42,7 @@ returns-3 c =
     let k = c .before .before in
     let t = k .before .before in
     let n = t .before in
-    let e = k .walk-pages .ensures in
-    (
+    let e = k .walk-pages .ensures in (
       rw (ne-eqb _ _ (n .before .if1 .left), ← n .not-canonical .ensures, t .if2 .left) (e .0),
       (rw (ne-eqb _ _ (n .before .if1 .left), ← n .not-canonical .ensures, t .if2 .left) (e .1 .0), (e .1 .1 .0, e .1 .1 .1)),
     )

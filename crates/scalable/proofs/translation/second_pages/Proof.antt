@@ -64,9 +64,9 @@ returns-2 c =
     let grown = subst (λ r. Grown r 0 (0 + s .args .entry .«second_levels» + 1)) (w .walked .given .1) (k .second-walk .ensures .1 .1 .1) in
     let few = s .pre .1 .1 in (
       rw (← e .before .overflows .ensures, e .if1 .left)
-      (ap (λ (host : ℕ). reached (n .0) (n .1 .0) host (take (n .1 .1 .1 .0) (after k))) (c .host-address .ensures)
-      ∙ ap (toPage (s .args .asked .address)) told
-      ∙ sym (run-map (toPage (s .args .asked .address)) (walk s) (memory s))),
+          (ap (λ (host : ℕ). reached (n .0) (n .1 .0) host (take (n .1 .1 .1 .0) (after k))) (c .host-address .ensures)
+          ∙ ap (toPage (s .args .asked .address)) told
+          ∙ sym (run-map (toPage (s .args .asked .address)) (walk s) (memory s))),
       (refl, ((r .0, r .1, r .2), omega (arith, grown .1, few))),
     )
 
@@ -80,10 +80,10 @@ returns-3 c =
     let told = sym (ap (λ r. walkedOf r (after k)) (w .walked2 .given .1)) ∙ k .second-walk .ensures .0 in
     let there = subst (λ r. Names r (lastTried (entryAt (s .args .at)) (walk s) (memory s))) (w .walked2 .given .1) (k .second-walk .ensures .1 .0 (entryAt (s .args .at))) in (
       rw (← e .before .overflows .ensures, e .if1 .left)
-      (ap (toPage (s .args .asked .address)) told ∙ sym (run-map (toPage (s .args .asked .address)) (walk s) (memory s))),
+          (ap (toPage (s .args .asked .address)) told ∙ sym (run-map (toPage (s .args .asked .address)) (walk s) (memory s))),
       (
         rw (← e .before .overflows .ensures, e .if1 .left)
-        (there ∙ sym (tried-map (toPage (s .args .asked .address)) (entryAt (s .args .at)) (walk s) (memory s))),
+            (there ∙ sym (tried-map (toPage (s .args .asked .address)) (entryAt (s .args .at)) (walk s) (memory s))),
         (tt, tt),
       ),
     )
