@@ -10,7 +10,7 @@ ghost use Rattle.builder.specs.Answers.{readinessOf};
 ghost use Rattle.builder.specs.Ready.{sized, topOutside, inContext, readiness, Usable, IfReady};
 use dma::Context;
 use dma::Lookup;
-use dma::find_device_context;
+use dma::find_context;
 use image::bad_windows;
 use image::first_span;
 use region::bad_region;
@@ -94,7 +94,7 @@ pub(crate) fn make_ready(
         return Ready::NotYet(1);
     }
     let first = first_span(windows);
-    let found = find_device_context(first, windows, memory, registers, source);
+    let found = find_context(first, windows, memory, registers, source);
     let Lookup::Found(context, _) = found else {
         return Ready::NotYet(2);
     };

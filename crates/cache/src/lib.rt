@@ -18,11 +18,12 @@ mod state;
 use dma::Lookup;
 use dma::MemoryAnswer;
 use dma::MemoryRequest;
+use dma::answer;
+use dma::find_context;
+use dma::translate_in;
 use dma::without_context;
 use image::bad_windows;
-use misses::find_missed_context;
-use misses::missed_answer;
-use misses::translate_missed;
+use image::first_span;
 use places::WORDS;
 use places::clear;
 use places::sift;
@@ -47,13 +48,14 @@ fn walk_and_keep(
     ensures { λ r. ⌜ entryOf r ≡ concerned (outcomeOf r) (stoppedAt (translationRules registers (request .address) (request .write) (request .source .id)) (ofWindows (now (windows .entry)) (now (image .entry)))) ⌝ }
     ensures { λ _. ⌜ now (state .exit) ≡ kept (now (state .entry)) request (run (translationRules registers (request .address) (request .write) (request .source .id)) (ofWindows (now (windows .entry)) (now (image .entry)))) (domainOver registers (request .source .id) (ofWindows (now (windows .entry)) (now (image .entry)))) ⌝ }
 {
-    let found = find_missed_context(windows, image, registers, request.source);
+    let first = first_span(windows);
+    let found = find_context(first, windows, image, registers, request.source);
     let Lookup::Found(context, at) = found else {
-        return missed_answer(request, without_context(found));
+        return answer(request, without_context(found));
     };
-    let translated = translate_missed(windows, image, registers, request, context, at);
+    let translated = translate_in(first, windows, image, registers, request, context, at);
     keep(state, request, translated, context.domain);
-    missed_answer(request, translated)
+    answer(request, translated)
 }
 
 // Where a read or a write of a device may go, from what is held or by the walk.

@@ -78,7 +78,7 @@ fn width_supported(registers: Registers, aw: u64) -> bool
 }
 
 // Bits 11:4, 71, 127:88 and 63:HAW.
-pub fn context_reserved(haw: u8, e: Entry16) -> bool
+fn context_reserved(haw: u8, e: Entry16) -> bool
     ensures { λ r. ⌜ r ≡ contextReserved haw (number16 e) ⌝ }
 {
     any_set16(e, 11, 4)
@@ -87,20 +87,20 @@ pub fn context_reserved(haw: u8, e: Entry16) -> bool
         | at_or_above_power(e.low, haw as u32)
 }
 
-pub fn context_invalid(registers: Registers, e: Entry16) -> bool
+fn context_invalid(registers: Registers, e: Entry16) -> bool
     ensures { λ r. ⌜ r ≡ contextInvalid registers (number16 e) ⌝ }
 {
     !width_supported(registers, address_width(e)) | (translation_type(e) == 3)
 }
 
 // FPD, bit 1, read whether the entry is present or not.
-pub fn fault_processing_disabled(e: Entry16) -> bool
+fn fault_processing_disabled(e: Entry16) -> bool
     ensures { λ r. ⌜ r ≡ faultProcessingDisabled (number16 e) ⌝ }
 {
     bit16(e, 1)
 }
 
-pub fn context_of(e: Entry16) -> Context
+fn context_of(e: Entry16) -> Context
     ensures { λ r. ⌜ r ≡ contextOf (number16 e) ⌝ }
 {
     Context {

@@ -8,14 +8,14 @@ use image::bit16;
 use image::in_place;
 
 // What an entry's check says.
-pub enum Check {
+pub(crate) enum Check {
     // Why the request ends here, and the entry's host address.
     Stop(Reason, u64),
     // The address of the table, or at last the page, that the entry leads to.
     Go(u64),
 }
 
-pub fn present(e: Entry16) -> bool
+pub(crate) fn present(e: Entry16) -> bool
     ensures { λ r. ⌜ r ≡ bit (number16 e) 0 ⌝ }
 {
     bit16(e, 0)

@@ -6,7 +6,6 @@ ghost use Rattle.dma.specs.Translation.{leaf, Reachable};
 ghost use Rattle.dma.specs.Requests.{memoryOutcome, concerned, memoryAnswer, memoryAnswerPlace};
 
 mod context;
-mod device;
 mod entry;
 mod lookup;
 mod page;
@@ -16,34 +15,25 @@ mod walk;
 
 pub use context::Context;
 pub use context::Lookup;
-pub use context::context_invalid;
-pub use context::context_of;
-pub use context::context_reserved;
-pub use context::fault_processing_disabled;
-pub use device::find_device_context;
-pub use entry::Check;
-pub use entry::present;
 use faults::Fault;
 use faults::memory_fault;
 pub use image::EntryAddress;
 use image::bad_windows;
 use image::first_span;
-pub use lookup::stopped;
-pub use page::Step;
-pub use page::host_address;
+pub use lookup::find_context;
+use page::host_address;
 pub use page::is_leaf;
 pub use page::meets_interrupt_range;
-pub use page::page_check;
 pub use page::page_reserved;
 use registers::Admission;
 use registers::Registers;
 use registers::SourceId;
 use registers::admit;
 use registers::in_interrupt_range;
-pub use root::root_check;
 pub use translation::Translation;
 pub use translation::overflows;
 use translation::translate;
+pub use translation::translate_in;
 pub use translation::without_context;
 
 pub struct MemoryRequest {
@@ -73,7 +63,7 @@ fn page_answer(request: MemoryRequest, frame: u64, level: u32) -> MemoryAnswer
     MemoryAnswer::Granted(host_address(level, frame, request.address))
 }
 
-fn answer(request: MemoryRequest, translated: Translation) -> MemoryAnswer
+pub fn answer(request: MemoryRequest, translated: Translation) -> MemoryAnswer
     requires { ⌜ Reachable (translationOf translated) ⌝ }
     ensures { λ r. ⌜ outcomeOf r ≡ memoryOutcome request (translationOf translated) ⌝ }
     ensures { λ r. ⌜ ((place : Place) → Names translated place → entryOf r ≡ concerned (outcomeOf r) place) ⌝ }

@@ -22,7 +22,7 @@ use registers::Registers;
 use registers::SourceId;
 
 // A root entry's check that stopped, told as a lookup: a root entry has no FPD. The other arm is never taken.
-pub fn stopped(check: Check) -> Lookup
+fn stopped(check: Check) -> Lookup
     ensures { λ r. ⌜ lookupOf r ≡ stoppedLookup (checkOf check) ⌝ }
     ensures { λ r. ⌜ lookupPlace r ≡ checkPlace check ⌝ }
 {
@@ -53,7 +53,7 @@ fn context_in(
     context_check(registers, at, e)
 }
 
-pub(crate) fn find_context(
+pub fn find_context(
     first: Span,
     windows: &[u64],
     image: &[u8],

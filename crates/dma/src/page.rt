@@ -26,7 +26,7 @@ use registers::Registers;
 use registers::at_or_above_power;
 
 // What the walk makes of an entry. No two variants hold fields of different sizes in one place.
-pub enum Step {
+pub(crate) enum Step {
     // The next table.
     Down(u64),
     // The frame of a page, and the entry's level.
@@ -80,7 +80,7 @@ fn denial(write: bool) -> Reason
 }
 
 // The frame, or the next table's address.
-pub fn page_check(registers: Registers, write: bool, fpd: bool, level: u32, at: u64, e: u64) -> Step
+fn page_check(registers: Registers, write: bool, fpd: bool, level: u32, at: u64, e: u64) -> Step
     ensures { λ r. ⌜ stepOf r ≡ checked fpd (pageCheck registers write level e) ⌝ }
     ensures { λ r. ⌜ StepNames r (entryAt at) ⌝ }
 {
@@ -129,7 +129,7 @@ pub(crate) fn page_step(
 }
 
 // The frame plus the address's low 12, 21 or 30 bits: a shift by the level, where a choice among the page sizes costs branches.
-pub fn host_address(level: u32, frame: u64, address: u64) -> u64
+pub(crate) fn host_address(level: u32, frame: u64, address: u64) -> u64
     requires { ⌜ Reachable (leaf frame level) ⌝ }
     ensures { λ r. ⌜ r ≡ hostAddress level frame address ⌝ }
 {

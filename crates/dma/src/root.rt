@@ -20,7 +20,7 @@ fn root_reserved(haw: u8, e: Entry16) -> bool
 }
 
 // The context table's address.
-pub fn root_check(haw: u8, at: u64, e: Entry16) -> Check
+pub(crate) fn root_check(haw: u8, at: u64, e: Entry16) -> Check
     ensures { λ r. ⌜ checkOf r ≡ rootCheck haw (number16 e) ⌝ }
     ensures { λ r. ⌜ CheckNames r (entryAt at) ⌝ }
 {

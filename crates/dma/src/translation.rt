@@ -48,7 +48,7 @@ pub fn overflows(registers: Registers, levels: u32, address: u64) -> bool
 }
 
 // In a context, whose entry is at an address: the width, then pass-through or the walk.
-fn translate_in(
+pub fn translate_in(
     first: Span,
     windows: &[u64],
     image: &[u8],

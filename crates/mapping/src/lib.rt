@@ -20,7 +20,7 @@ mod search;
 
 use dma::Context;
 use dma::Lookup;
-use dma::find_device_context;
+use dma::find_context;
 use faults::Reason;
 use filling::fill;
 use image::bad_windows;
@@ -96,7 +96,7 @@ fn find_source_context(
     requires { ⌜ (badWindows (now windows) (length (now image)) ≡ false) × (registers .«root_table» % 4096 ≡ 0) ⌝ }
     ensures { λ r. ⌜ lookupOf r ≡ run (lookupRules registers (source .id)) (ofWindows (now (windows .entry)) (now (image .entry))) ⌝ }
 {
-    find_device_context(first_span(windows), windows, image, registers, source)
+    find_context(first_span(windows), windows, image, registers, source)
 }
 
 // Past the registers.

@@ -15,7 +15,7 @@ use crate::TranslationRequest;
 use crate::walk::walk;
 use dma::Context;
 use dma::Lookup;
-use dma::find_device_context;
+use dma::find_context;
 use dma::overflows;
 use faults::Reason;
 use image::Span;
@@ -83,7 +83,7 @@ pub(crate) fn complete(
     ensures { λ r. ⌜ completionOf r ≡ run (completionRules registers (request .address) (request .source .id)) (ofWindows (now (windows .entry)) (now (image .entry))) ⌝ }
     ensures { λ r. ⌜ Names r (stoppedAt (completionRules registers (request .address) (request .source .id)) (ofWindows (now (windows .entry)) (now (image .entry)))) ⌝ }
 {
-    let found = find_device_context(first, windows, image, registers, request.source);
+    let found = find_context(first, windows, image, registers, request.source);
     let Lookup::Found(context, at) = found else {
         return without_context(found);
     };

@@ -10,11 +10,11 @@ first-span-requires c κs =
     let s = c .before .before in
     three-each (now (s .args .windows)) (length (now (s .args .image))) (s .pre .0) .1
 
-find-device-context-requires : tie.Need-find-device-context-requires
-find-device-context-requires c κs = search needs
+find-context-requires : tie.Need-find-context-requires
+find-context-requires c κs = search needs
 
 returns : tie.Need-returns
 returns c = search needs
 
 pub find-source-context-spec : {M : Type 1} → statement M
-find-source-context-spec = tie.close (tie.spec first-span-requires find-device-context-requires returns)
+find-source-context-spec = tie.close (tie.spec first-span-requires find-context-requires returns)

@@ -43,8 +43,8 @@ first-span-requires c κs =
     let a = e .before .before .before .before .before .args in
     three-each (a .windows .now) (length (a .memory .now)) (fine e .0) .1
 
-find-device-context-requires : tie.Need-find-device-context-requires
-find-device-context-requires c κs =
+find-context-requires : tie.Need-find-context-requires
+find-context-requires c κs =
     let e = c .before .before .before in
     let f = fine e in
     ((f .0, c .first-span .ensures), good (e .before .before .before .before .before .args .registers) (f .1) .root .aligned)
@@ -56,7 +56,7 @@ returns-3 c =
     let e = n .before .before in
     let b = e .before in
     let a = b .before .before .before .before .args in (
-      ap (λ (l : Lookup). onLookup l (λ reason fpd. notYet 2) (inContext (a .registers) (a .windows .now) (a .memory .now) (a .start) (a .size) (a .copy) (a .marks))) (sym (ap lookupOf (c .enum-told .given .1)) ∙ f .find-device-context .ensures .0)
+      ap (λ (l : Lookup). onLookup l (λ reason fpd. notYet 2) (inContext (a .registers) (a .windows .now) (a .memory .now) (a .start) (a .size) (a .copy) (a .marks))) (sym (ap lookupOf (c .enum-told .given .1)) ∙ f .find-context .ensures .0)
           ∙ looked (a .registers) (a .windows .now) (a .memory .now) (a .start) (a .size) (a .copy) (a .marks) (a .source .id) (told b (e .if1 .left)) (n .if2 .left),
       tt,
     )
@@ -70,7 +70,7 @@ ready-in-requires c κs =
     let g = fine e in (
       g .0,
       g .1,
-      subst Finds (sym (f .find-device-context .ensures .0) ∙ ap lookupOf (d .found .given .1))
+      subst Finds (sym (f .find-context .ensures .0) ∙ ap lookupOf (d .found .given .1))
           (finds (a .registers) (a .source .id) (ofWindows (a .windows .now) (a .memory .now))),
     )
 
@@ -83,7 +83,7 @@ returns-4 c =
     let b = e .before in
     let a = b .before .before .before .before .args in (
       c .ready-in .ensures .0
-          ∙ ap (λ (l : Lookup). onLookup l (λ reason fpd. notYet 2) (inContext (a .registers) (a .windows .now) (a .memory .now) (a .start) (a .size) (a .copy) (a .marks))) (sym (ap lookupOf (d .found .given .1)) ∙ f .find-device-context .ensures .0)
+          ∙ ap (λ (l : Lookup). onLookup l (λ reason fpd. notYet 2) (inContext (a .registers) (a .windows .now) (a .memory .now) (a .start) (a .size) (a .copy) (a .marks))) (sym (ap lookupOf (d .found .given .1)) ∙ f .find-context .ensures .0)
           ∙ looked (a .registers) (a .windows .now) (a .memory .now) (a .start) (a .size) (a .copy) (a .marks) (a .source .id) (told b (e .if1 .left)) (n .if2 .left),
       c .ready-in .ensures .1,
     )
@@ -97,7 +97,7 @@ make-ready-spec =
     returns
     returns-2
     first-span-requires
-    find-device-context-requires
+    find-context-requires
     (λ c. search needs)
     (λ c. search needs)
     returns-3
