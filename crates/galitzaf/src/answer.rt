@@ -40,7 +40,7 @@ pub struct Packed {
 }
 
 // The kind, bytes 1, 2 and 3, and bytes 7:4.
-pub(crate) fn head(kind: u8, one: u8, two: u8, three: u8, four: u32) -> u64
+pub fn head(kind: u8, one: u8, two: u8, three: u8, four: u32) -> u64
     ensures { λ r. ⌜ bytesOf 8 r ≡ kind ∷ one ∷ two ∷ three ∷ bytesOf 4 four ⌝ }
 {
     kind as u64
@@ -50,14 +50,14 @@ pub(crate) fn head(kind: u8, one: u8, two: u8, three: u8, four: u32) -> u64
         + four as u64 * 0x1_0000_0000
 }
 
-pub(crate) fn flag(on: bool) -> u8
+pub fn flag(on: bool) -> u8
     ensures { λ r. ⌜ (r ≡ one-if on) × (r < 2) ⌝ }
 {
     if on { 1 } else { 0 }
 }
 
 // An answer that names no byte from 8 up.
-pub(crate) fn short(head: u64) -> Packed
+pub fn short(head: u64) -> Packed
     ensures { λ r. ⌜ bytesOfPacked r ≡ bytesOf 8 head ++ bytesOf 16 0 ++ bytesOf 8 0 ⌝ }
 {
     Packed {
@@ -69,7 +69,7 @@ pub(crate) fn short(head: u64) -> Packed
 }
 
 // Byte 3 tells whether the last word is an entry's address.
-pub(crate) fn pack_fault(fault: Fault, entry: EntryAddress) -> Packed
+pub fn pack_fault(fault: Fault, entry: EntryAddress) -> Packed
     ensures { λ r. ⌜ bytesOfPacked r ≡ blockedBytes (faultOf fault) (placeOf entry) ⌝ }
 {
     let reason = fault.reason;
@@ -91,13 +91,13 @@ pub(crate) fn pack_fault(fault: Fault, entry: EntryAddress) -> Packed
     }
 }
 
-pub(crate) fn pack_refusal(number: u8) -> Packed
+pub fn pack_refusal(number: u8) -> Packed
     ensures { λ r. ⌜ bytesOfPacked r ≡ refusedBytes number ⌝ }
 {
     short(head(REFUSED, number, 0, 0, 0))
 }
 
-pub(crate) fn pack_memory(answer: MemoryAnswer) -> Packed
+pub fn pack_memory(answer: MemoryAnswer) -> Packed
     ensures { λ r. ⌜ bytesOfPacked r ≡ memoryBytes (dma.outcomeOf answer) (dma.entryOf answer) ⌝ }
 {
     match answer {
@@ -163,7 +163,7 @@ pub(crate) fn pack_interrupt(answer: InterruptAnswer) -> Packed
     }
 }
 
-pub(crate) fn store(buffer: &mut [u8], head: u64, low: u64, high: u64, last: u64)
+pub fn store(buffer: &mut [u8], head: u64, low: u64, high: u64, last: u64)
     requires { ⌜ length (now buffer) ≡ 32 ⌝ }
     ensures { λ _. ⌜ now (buffer .exit) ≡ bytesOf 8 head ++ bytesOf 16 (spell (low ∷ high ∷ [])) ++ bytesOf 8 last ⌝ }
 {

@@ -24,7 +24,5 @@ pub const BAD_WINDOWS: u32 = 0x105;
 
 pub const BAD_METERS: u32 = 0x106;
 
-pub const BAD_CACHE: u32 = 0x108;
-
 // Plus the vector.
 pub const TAKEN: u32 = 0x200;

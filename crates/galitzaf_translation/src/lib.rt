@@ -1,30 +1,31 @@
-// Translation requests of devices with a translation cache.
+// Translation requests of devices with a translation cache, for C: a crate of its own, so that its object is one of its own. They go by the
+// lookup of memory requests, which the compiler puts into its caller only where it has one.
 ghost use mathlib.Core.Path.{_≡_};
 ghost use Rattle.image.specs.Place.{noEntry};
 ghost use Rattle.translation.specs.Answers.{sizeOf, outcomeOf, entryOf};
 ghost use Rattle.translation.specs.Requests.{translated};
 ghost use Rattle.galitzaf.specs.Answer.{bytesOfPacked};
 ghost use Rattle.galitzaf.specs.Translations.{translationBytes, translationCall};
-use crate::answer::PASSED;
-use crate::answer::Packed;
-use crate::answer::flag;
-use crate::answer::head;
-use crate::answer::pack_fault;
-use crate::answer::pack_refusal;
-use crate::answer::short;
-use crate::answer::store;
-use crate::status::BAD_ANSWER;
-use crate::status::BAD_REGISTERS;
-use crate::status::BAD_WINDOWS;
-use crate::status::OK;
-use crate::unpacking::malformed;
-use crate::unpacking::unpack;
+use galitzaf::BAD_ANSWER;
+use galitzaf::BAD_REGISTERS;
+use galitzaf::BAD_WINDOWS;
+use galitzaf::OK;
+use galitzaf::PASSED;
+use galitzaf::Packed;
+use galitzaf::flag;
+use galitzaf::head;
+use galitzaf::malformed;
+use galitzaf::pack_fault;
+use galitzaf::pack_refusal;
+use galitzaf::short;
+use galitzaf::store;
+use galitzaf::unpack;
 use registers::SourceId;
-use unit::PageSize;
-use unit::Rights;
-use unit::TranslationAnswer;
-use unit::TranslationRequest;
-use unit::translation_request;
+use translation::PageSize;
+use translation::Rights;
+use translation::TranslationAnswer;
+use translation::TranslationRequest;
+use translation::translation_request;
 
 const TRANSLATED: u8 = 7;
 

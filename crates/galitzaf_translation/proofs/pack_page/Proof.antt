@@ -6,8 +6,8 @@ use Rattle.translation.specs.Answers.{sizeOf}
 use Rattle.translation.specs.declared.PageSize.{PageSize}
 use Rattle.translation.specs.declared.PageSize.the-variants.{FourKiB, TwoMiB, OneGiB}
 use borrow.Author.Needs.{needs}
-use Rattle.galitzaf.proofs.translating.pack_page.Statement.{statement}
-use Rattle.galitzaf.proofs.translating.pack_page.Tie as tie
+use Rattle.galitzaf_translation.proofs.pack_page.Statement.{statement}
+use Rattle.galitzaf_translation.proofs.pack_page.Tie as tie
 
 some-size : (size : PageSize) → eqb (sizeOf size) 0 ≡ false
 some-size FourKiB = refl

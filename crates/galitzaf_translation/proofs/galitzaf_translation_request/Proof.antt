@@ -2,9 +2,9 @@
 use mathlib.Core.Path.{sym, _∙_}
 use borrow.Author.Needs.{needs}
 use borrow.Author.Tests.{eq-eqb, ne-eqb}
 use Rattle.galitzaf.specs.Translations.{translationCall}
-use Rattle.galitzaf.proofs.translating.galitzaf_translation_request.Statement.{statement}
-use Rattle.galitzaf.proofs.translating.galitzaf_translation_request.Tie as tie
+use Rattle.galitzaf_translation.proofs.galitzaf_translation_request.Statement.{statement}
+use Rattle.galitzaf_translation.proofs.galitzaf_translation_request.Tie as tie
 
 returns : tie.Need-returns
 unfolding translationCall

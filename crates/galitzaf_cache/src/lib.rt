@@ -1,22 +1,26 @@
-// Memory requests through a cache of translations, whose state is lent, and its invalidations.
+// Memory requests through a cache of translations, whose state is lent, and its invalidations, for C: a crate of its own, so that its
+// object is one of its own. A miss goes by the lookup and the walk of memory requests, which the compiler puts into their callers only where
+// they have one.
 ghost use mathlib.Core.Path.{_≡_};
 ghost use Rattle.galitzaf.specs.Caches.{cachedCall, invalidateCall, invalidateDomainCall};
-use crate::answer::pack_memory;
-use crate::answer::store;
-use crate::status::BAD_ANSWER;
-use crate::status::BAD_CACHE;
-use crate::status::BAD_KIND;
-use crate::status::BAD_REGISTERS;
-use crate::status::BAD_WINDOWS;
-use crate::status::OK;
-use crate::unpacking::malformed;
-use crate::unpacking::unpack;
 use cache::cached_request;
 use cache::invalidate_all;
 use cache::invalidate_domain;
+use dma::MemoryRequest;
+use galitzaf::BAD_ANSWER;
+use galitzaf::BAD_KIND;
+use galitzaf::BAD_REGISTERS;
+use galitzaf::BAD_WINDOWS;
+use galitzaf::OK;
+use galitzaf::malformed;
+use galitzaf::pack_memory;
+use galitzaf::store;
+use galitzaf::unpack;
 use places::WORDS;
 use registers::SourceId;
-use unit::MemoryRequest;
+
+// Not as many numbers as a cache has.
+const BAD_CACHE: u32 = 0x108;
 
 #[no_mangle]
 pub extern "C" fn galitzaf_cached_request(
