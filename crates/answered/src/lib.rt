@@ -38,7 +38,7 @@ const POSTED: u8 = 6;
 const NOTIFIED: u8 = 7;
 
 // A request with nothing but its answer's number.
-pub(crate) fn asked(kind: u8, source: u16, address: u64, data: u32) -> Traced
+pub fn asked(kind: u8, source: u16, address: u64, data: u32) -> Traced
     ensures { λ r. ⌜ r ≡ plain kind source address «data» 0 0 0 0 ⌝ }
 {
     Traced {

@@ -56,6 +56,10 @@ key-level (suc (suc zero)) a s w ha hs least most = level2 a s (kindOf w) ha hs 
 key-level (suc (suc (suc zero))) a s w ha hs least most = level3 a s (kindOf w) ha hs (kind-le w)
 key-level (suc (suc (suc (suc n)))) a s w ha hs least most = absurd (omega arith)
 
+-- a key of level 1 leaves room for two levels more
+pub level1-room : (a s : ℕ) (w : Bool) → a < 2 ^ 57 → s < 2 ^ 16 → keyNumber 1 a s w < 2 ^ 63
+level1-room a s w ha hs = omega (arith, key-level 1 a s w ha hs (omega arith) (omega arith) .0)
+
 -- three digits, of 45 bits and less, of 16 and of one, are told from their sum
 module _ (p q s t k j : ℕ) (sources : (s < 2 ^ 16) × (t < 2 ^ 16)) (kinds : (k ≤ 1) × (j ≤ 1)) where
   digits1 : p < 2 ^ 45 → q < 2 ^ 45 → p + 2 ^ 45 * s + 2 ^ 61 * k ≡ q + 2 ^ 45 * t + 2 ^ 61 * j → (s ≡ t) × (k ≡ j) × (p ≡ q)

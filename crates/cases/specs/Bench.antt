@@ -45,9 +45,9 @@ benchWords =
 unfoldable pub bench : List ℕ
 bench = layout 0 benchWords 32768
 
--- with TE as given, on in the twelve cases
-abbrev pub benchWith : (te : Bool) → Registers
-benchWith te =
+-- with an interrupt table of 2^(s + 1) entries at an address, and TE
+abbrev pub registersWith : (table s : ℕ) (te : Bool) → Registers
+registersWith table s te =
     record {
       haw = 39;
       mgaw = 48;
@@ -58,13 +58,17 @@ benchWith te =
       «pages_1g» = true;
       posting = true;
       «root_table» = 0x1000;
-      «interrupt_table» = 0x6000;
-      s = 3;
+      «interrupt_table» = table;
+      s = s;
       te = te;
       ire = true;
       eime = false;
       cfis = false;
     }
+
+-- with TE as given, on in the twelve cases
+abbrev pub benchWith : (te : Bool) → Registers
+benchWith te = registersWith 0x6000 3 te
 
 abbrev pub benchRegisters : Registers
 benchRegisters = benchWith true

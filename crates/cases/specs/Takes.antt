@@ -17,28 +17,11 @@ use Rattle.takes.specs.Claims.{Apart}
 use Rattle.takes.specs.Runs.{Operation, request, take, left, count, stands, standingFrom, takesAt, handsOut, postsAt, postsClear, notifications}
 use Rattle.takes.specs.Take as rules
 use Rattle.takes.specs.Take.{takeAnswer}
-use Rattle.cases.specs.Bench.{interruptRequest}
+use Rattle.cases.specs.Bench.{interruptRequest, registersWith}
 
 -- an interrupt table of two entries at an address
 abbrev pub registersAt : (table : ℕ) → Registers
-registersAt table =
-    record {
-      haw = 39;
-      mgaw = 48;
-      levels3 = true;
-      levels4 = true;
-      levels5 = false;
-      «pages_2m» = true;
-      «pages_1g» = true;
-      posting = true;
-      «root_table» = 0x1000;
-      «interrupt_table» = table;
-      s = 0;
-      te = true;
-      ire = true;
-      eime = false;
-      cfis = false;
-    }
+registersAt table = registersWith table 0 true
 
 -- from address 0: the first entry posts 31h and the second F0h, to the descriptor at 64
 abbrev pub registers : Registers

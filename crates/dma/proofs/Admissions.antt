@@ -1,17 +1,20 @@
 -- A memory request by what becomes of it at admission.
 use Prim.Native.Nat.{ℕ, _%_}
-use mathlib.Core.Bool.{Bool, true}
+use mathlib.Core.Bool.{Bool, true, false}
+use mathlib.Core.List.{List}
 use mathlib.Core.Path.{_≡_, refl, ap, sym, _∙_}
+use lib.ListN.{length}
 use Rattle.image.specs.Memory.{Memory}
 use Rattle.image.specs.Place.{noEntry, stoppedAt}
 use Rattle.image.specs.Rules.{run}
+use Rattle.image.specs.Windows.{ofWindows, badWindows}
 use Rattle.image.proofs.Places.{tried-map}
 use Rattle.image.proofs.Trees.{run-map}
 use Rattle.registers.proofs.Good.{taken-good}
 use Rattle.registers.specs.Admission.{Admitted, refusal, pass, takenUp, admission, inInterruptRange}
 use Rattle.registers.specs.Registers.{registersBad}
 use Rattle.registers.specs.declared.Registers.{Registers}
-use Rattle.dma.specs.Requests.{MemoryOutcome, granted, refused, memoryOutcome, memoryRules}
+use Rattle.dma.specs.Requests.{MemoryOutcome, granted, refused, memoryOutcome, memoryRules, concerned, memoryAnswer, memoryAnswerPlace}
 use Rattle.dma.specs.Translation.{translationRules}
 use Rattle.dma.specs.declared.MemoryRequest.{MemoryRequest}
 
@@ -48,3 +51,10 @@ module _ (registers : Registers) (request : MemoryRequest) (m : Memory) where
     takes-at h =
         rw (← kind, ← h)
         (sym (tried-map (memoryOutcome request) noEntry (translationRules registers (request .address) (request .write) (request .source .id)) m))
+
+-- What a call over lent memory says, where the windows aren't refused.
+module _ (registers : Registers) (request : MemoryRequest) (windows bytes : List ℕ) (good : badWindows windows (length bytes) ≡ false) where
+  pub memory-told : {o : MemoryOutcome} → o ≡ run (memoryRules registers request) (ofWindows windows bytes)
+      → (o ≡ memoryAnswer registers request windows bytes)
+      × (concerned o (stoppedAt (memoryRules registers request) (ofWindows windows bytes)) ≡ memoryAnswerPlace registers request windows bytes)
+  memory-told is = (rw good is, rw good (ap (λ o. concerned o (stoppedAt (memoryRules registers request) (ofWindows windows bytes))) is))

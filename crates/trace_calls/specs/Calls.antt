@@ -15,6 +15,7 @@ use Rattle.trace.specs.Reader.{Step, blockAt, stepAt}
 use Rattle.trace.specs.Writer.{Wrote, kept, full, refused, appending, closing}
 use Rattle.trace.specs.declared.Cursor.{Cursor}
 use Rattle.trace.specs.declared.writer.Writer.{Writer}
+use Rattle.answered.specs.Answered.{plain}
 use Rattle.replay.specs.Replayed as replay
 use Rattle.replay.specs.Replayed.{Replayed, replayAt}
 use Rattle.trace_calls.specs.Packed.{packedIn}
@@ -77,20 +78,7 @@ wrote other writer done = (statusOf other (done .0), writerAfter writer (done .0
 
 -- a request of a kind, to be given its answer
 abbrev pub asked : (kind source address «data» : ℕ) → Traced
-asked kind source address «data» =
-    record {
-      kind = kind;
-      answer = 0;
-      number = 0;
-      flags = 0;
-      source = source;
-      vector = 0;
-      posted = 0;
-      address = address;
-      «data» = «data»;
-      destination = 0;
-      value = 0;
-    }
+asked kind source address «data» = plain kind source address «data» 0 0 0 0
 
 unfoldable pub appendCall : (writer block : List ℕ) (kind source address «data» : ℕ) (answer : List ℕ) → ℕ × List ℕ × List ℕ
 appendCall writer block kind source address «data» answer =

@@ -10,7 +10,7 @@ use crate::BAD_TRACE;
 use crate::BLOCK;
 use crate::OK;
 use crate::entry::with_answer;
-use trace::Traced;
+use answered::asked;
 use trace::Writer;
 use trace::Wrote;
 use trace::append;
@@ -79,19 +79,7 @@ pub fn append_answer(
     if answer.len() != 32 {
         return BAD_ANSWER;
     }
-    let request = Traced {
-        kind,
-        answer: 0,
-        number: 0,
-        flags: 0,
-        source,
-        vector: 0,
-        posted: 0,
-        address,
-        data,
-        destination: 0,
-        value: 0,
-    };
+    let request = asked(kind, source, address, data);
     let e = with_answer(request, answer);
     let w = read(writer, block.len());
     take_over(writer, append(w, block, e), BAD_ANSWER)

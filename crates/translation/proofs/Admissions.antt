@@ -1,17 +1,20 @@
 -- A translation request by what becomes of it at admission.
 use Prim.Native.Nat.{ℕ}
-use mathlib.Core.Bool.{Bool, true}
-use mathlib.Core.Path.{_≡_, sym}
+use mathlib.Core.Bool.{Bool, true, false}
+use mathlib.Core.List.{List}
+use mathlib.Core.Path.{_≡_, ap, sym}
+use lib.ListN.{length}
 use Rattle.image.specs.Memory.{Memory}
 use Rattle.image.specs.Place.{noEntry, stoppedAt}
 use Rattle.image.specs.Rules.{run}
+use Rattle.image.specs.Windows.{ofWindows, badWindows}
 use Rattle.image.proofs.Places.{tried-map}
 use Rattle.image.proofs.Trees.{run-map}
 use Rattle.registers.specs.Admission.{Admitted, refusal, pass, takenUp, admission, inInterruptRange}
 use Rattle.registers.specs.Registers.{registersBad}
 use Rattle.registers.specs.declared.Registers.{Registers}
 use Rattle.translation.specs.Completion.{completionRules}
-use Rattle.translation.specs.Requests.{passed, refused, translationOutcome, requestRules}
+use Rattle.translation.specs.Requests.{TranslationOutcome, passed, refused, translationOutcome, requestRules, concerned, translationAnswer, translationAnswerPlace}
 use Rattle.translation.specs.declared.TranslationRequest.{TranslationRequest}
 
 module _ (registers : Registers) (request : TranslationRequest) (m : Memory) where
@@ -43,3 +46,10 @@ module _ (registers : Registers) (request : TranslationRequest) (m : Memory) whe
     takes-at h =
         rw (← kind, ← h)
         (sym (tried-map (translationOutcome request) noEntry (completionRules registers (request .address) (request .source .id)) m))
+
+-- What a call over lent memory says, where the windows aren't refused.
+module _ (registers : Registers) (request : TranslationRequest) (windows bytes : List ℕ) (good : badWindows windows (length bytes) ≡ false) where
+  pub translation-told : {o : TranslationOutcome} → o ≡ run (requestRules registers request) (ofWindows windows bytes)
+      → (o ≡ translationAnswer registers request windows bytes)
+      × (concerned o (stoppedAt (requestRules registers request) (ofWindows windows bytes)) ≡ translationAnswerPlace registers request windows bytes)
+  translation-told is = (rw good is, rw good (ap (λ o. concerned o (stoppedAt (requestRules registers request) (ofWindows windows bytes))) is))

@@ -1,4 +1,4 @@
-use Prim.Native.Nat.{ℕ, _-_, _≤_}
+use Prim.Native.Nat.{ℕ, _+_, _-_, _*_, _≤_, _<_}
 use mathlib.Core.Path.{_≡_, ap, _∙_}
 use native.Mathlib.Omega.{arith}
 use borrow.Author.Needs.{needs}
@@ -28,8 +28,9 @@ shared-slice-read-wide c = search needs
 wide-requires : tie.Need-wide-requires Inv-loop μ-loop
 wide-requires c κs = search needs
 
-mul-value : tie.Need-mul-value Inv-loop μ-loop
-mul-value c =
+-- one byte more, and it is below 2^48 as before
+fits : (c : tie.After-wide Inv-loop μ-loop) → c .wide .result + 256 * c .before .before .before .loop .value < 0x1_0000_0000_0000
+fits c =
     let l = c .before .before .before .loop in
     let a = c .before .before .before .before .before .args in
     let bytes : AreBytes (now (a .bytes)) = (λ j. omega (arith, c .before .shared-slice-known2 .given j)) in
@@ -37,14 +38,11 @@ mul-value c =
     let below = spelled-below (now (a .bytes)) (l .i - 1) (c .before .before .before .before .before .pre) bytes in
     omega arith
 
+mul-value : tie.Need-mul-value Inv-loop μ-loop
+mul-value c = omega (arith, fits c)
+
 add-value : tie.Need-add-value Inv-loop μ-loop
-add-value c =
-    let l = c .before .before .before .loop in
-    let a = c .before .before .before .before .before .args in
-    let bytes : AreBytes (now (a .bytes)) = (λ j. omega (arith, c .before .shared-slice-known2 .given j)) in
-    let next = spelled-next (now (a .bytes)) (l .i) (c .before .before .loop-test .taken) (l .inv .1) (l .inv .0) (c .wide .ensures .0) in
-    let below = spelled-below (now (a .bytes)) (l .i - 1) (c .before .before .before .before .before .pre) bytes in
-    omega arith
+add-value c = omega (arith, fits c)
 
 loop-less : tie.Need-loop-less Inv-loop μ-loop
 loop-less c = omega arith

@@ -104,24 +104,6 @@ pub build-spec : {M : Type 1} → statement M
 build-spec =
     tie.close
     (tie.spec
-    (λ c κs. search needs)
-    (λ c. search needs)
-    (λ c κs. search needs)
-    (λ c. search needs)
-    returns
-    copy-in-requires
-    mark-tables-requires
-    (λ c. search needs)
-    (λ c. search needs)
-    (λ c. search needs)
-    returns-2
-    take-items-requires
-    (λ c. search needs)
-    (λ c. search needs)
-    (λ c. search needs)
-    returns-3
-    copy-out-requires
-    (λ c. search needs)
-    (λ c. search needs)
-    (λ c. search needs)
-    returns-4)
+    (λ c κs. search needs) (λ c. search needs) (λ c κs. search needs) (λ c. search needs) returns copy-in-requires mark-tables-requires
+    (λ c. search needs) (λ c. search needs) (λ c. search needs) returns-2 take-items-requires (λ c. search needs) (λ c. search needs)
+    (λ c. search needs) returns-3 copy-out-requires (λ c. search needs) (λ c. search needs) (λ c. search needs) returns-4)

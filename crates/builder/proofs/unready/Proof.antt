@@ -14,4 +14,5 @@ returns-2 c = sym (ap (λ (s : Ready). unready (readinessOf s)) (c .before .stat
 pub unready-spec : {M : Type 1} → statement M
 unready-spec =
     tie.close
-    (tie.spec (λ c. search needs) (λ c. search needs) (λ c. search needs) returns returns-2 (λ c. search needs))
+    (tie.spec
+    (λ c. search needs) (λ c. search needs) (λ c. search needs) returns returns-2 (λ c. search needs))

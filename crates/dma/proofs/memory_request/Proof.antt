@@ -2,11 +2,10 @@ use mathlib.Core.Bool.{false}
 use mathlib.Core.Path.{_≡_, refl, ap, sym, _∙_}
 use lib.ListN.{length}
 use Rattle.registers.specs.Answers.{admittedOf}
-use Rattle.image.specs.Place.{stoppedAt}
 use Rattle.image.specs.Windows.{ofWindows, badWindows}
 use Rattle.image.proofs.GoodWindows.{three-each}
-use Rattle.dma.specs.Requests.{memoryOutcome, memoryRules, concerned}
-use Rattle.dma.proofs.Admissions.{taken-root, refuses-bad, refuses, passes, takes, takes-at}
+use Rattle.dma.specs.Requests.{memoryOutcome}
+use Rattle.dma.proofs.Admissions.{taken-root, refuses-bad, refuses, passes, takes, takes-at, memory-told}
 use Rattle.dma.proofs.Stepped.{renamed}
 use Rattle.dma.proofs.Forks.{reachable}
 use borrow.Author.Needs.{needs}
@@ -31,10 +30,8 @@ returns-2 : tie.Need-returns-2
 returns-2 c =
     let e = c .before .before in
     let a = e .before .before .before .before .args in
-    let m = ofWindows (a .windows .now) (a .image .now) in
-    let is = refuses-bad (a .registers) (a .request) m (sym (c .before .bad .ensures) ∙ c .if2 .taken) in
-    let good = fine e in
-    (rw good is, rw good (ap (λ o. concerned o (stoppedAt (memoryRules (a .registers) (a .request)) m)) is))
+    memory-told (a .registers) (a .request) (a .windows .now) (a .image .now) (fine e)
+    (refuses-bad (a .registers) (a .request) _ (sym (c .before .bad .ensures) ∙ c .if2 .taken))
 
 in-interrupt-range-requires : tie.Need-in-interrupt-range-requires
 in-interrupt-range-requires c κs = search needs
@@ -75,19 +72,15 @@ returns-3 : tie.Need-returns-3
 returns-3 c =
     let k = c .before .before .before in
     let a = k .before .before .before .before .before .before .before .before .args in
-    let m = ofWindows (a .windows .now) (a .image .now) in
-    let is = refuses (a .registers) (a .request) m (k .before .in-interrupt-range .ensures) (sym (ap admittedOf (c .before .number .given .1)) ∙ k .admit .ensures) in
-    let good = fine (k .before .before .before .before) in
-    (rw good is, rw good (ap (λ o. concerned o (stoppedAt (memoryRules (a .registers) (a .request)) m)) is))
+    memory-told (a .registers) (a .request) (a .windows .now) (a .image .now) (fine (k .before .before .before .before))
+    (refuses (a .registers) (a .request) _ (k .before .in-interrupt-range .ensures) (sym (ap admittedOf (c .before .number .given .1)) ∙ k .admit .ensures))
 
 returns-4 : tie.Need-returns-4
 returns-4 c =
     let k = c .before .before in
     let a = k .before .before .before .before .before .before .before .before .args in
-    let m = ofWindows (a .windows .now) (a .image .now) in
-    let is = passes (a .registers) (a .request) m (k .before .in-interrupt-range .ensures) (sym (ap admittedOf (c .enum-told .given .1)) ∙ k .admit .ensures) in
-    let good = fine (k .before .before .before .before) in
-    (rw good is, rw good (ap (λ o. concerned o (stoppedAt (memoryRules (a .registers) (a .request)) m)) is))
+    memory-told (a .registers) (a .request) (a .windows .now) (a .image .now) (fine (k .before .before .before .before))
+    (passes (a .registers) (a .request) _ (k .before .in-interrupt-range .ensures) (sym (ap admittedOf (c .enum-told .given .1)) ∙ k .admit .ensures))
 
 returns-5 : tie.Need-returns-5
 returns-5 c =
@@ -98,8 +91,8 @@ returns-5 c =
     let taken = sym (ap admittedOf (c .before .before .before .enum-told2 .given .1)) ∙ k .admit .ensures in
     let is = c .answer .ensures .0 ∙ ap (memoryOutcome (a .request)) (c .before .translate .ensures .0) ∙ takes (a .registers) (a .request) m kind taken in
     let there = renamed (c .before .translate .result) (takes-at (a .registers) (a .request) m kind taken) (c .before .translate .ensures .1) in
-    let good = fine (k .before .before .before .before) in
-    (rw good is, rw good (c .answer .ensures .1 _ there ∙ ap (λ o. concerned o (stoppedAt (memoryRules (a .registers) (a .request)) m)) is))
+    let says = memory-told (a .registers) (a .request) (a .windows .now) (a .image .now) (fine (k .before .before .before .before)) is in
+    (says .0, c .answer .ensures .1 _ there ∙ says .1)
 
 pub memory-request-spec : {M : Type 1} → statement M
 memory-request-spec =

@@ -14,4 +14,5 @@ unfolding invalidateCall
 returns-2 c = rw (eq-eqb _ _ (c .before .before .before .before .if1 .left), c .before .before .invalidate-all .ensures)
 
 pub galitzaf-invalidate-all-spec : {M : Type 1} → statement M
-galitzaf-invalidate-all-spec = tie.close (tie.spec returns (λ c κs. search needs) (λ c. search needs) returns-2)
+galitzaf-invalidate-all-spec = tie.close (tie.spec
+    returns (λ c κs. search needs) (λ c. search needs) returns-2)

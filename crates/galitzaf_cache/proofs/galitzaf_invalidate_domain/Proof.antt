@@ -14,4 +14,5 @@ unfolding invalidateDomainCall
 returns-2 c = rw (eq-eqb _ _ (c .before .before .before .before .if1 .left), c .before .before .invalidate-domain .ensures)
 
 pub galitzaf-invalidate-domain-spec : {M : Type 1} → statement M
-galitzaf-invalidate-domain-spec = tie.close (tie.spec returns (λ c κs. search needs) (λ c. search needs) returns-2)
+galitzaf-invalidate-domain-spec = tie.close (tie.spec
+    returns (λ c κs. search needs) (λ c. search needs) returns-2)

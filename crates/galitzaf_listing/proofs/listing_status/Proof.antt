@@ -1,11 +1,18 @@
 use Prim.Native.Nat.{ℕ, _+_, _≤_}
-use mathlib.Core.Path.{ap, sym, _∙_, subst}
+use mathlib.Core.Bool.{Bool}
+use mathlib.Core.Path.{_≡_, ap, sym, _∙_, subst}
 use native.Mathlib.Omega.{arith}
 use Rattle.mapping.specs.Answers.{toldAs}
+use Rattle.mapping.specs.declared.Listing.{Listing}
+use Rattle.mapping.specs.declared.Listing.the-variants.{Spans}
 use Rattle.galitzaf.specs.Listing.{listingStatus, Few}
 use borrow.Author.Needs.{needs}
 use Rattle.galitzaf_listing.proofs.listing_status.Statement.{statement}
 use Rattle.galitzaf_listing.proofs.listing_status.Tie as tie
+
+-- no more than 4,096 are counted
+few : {l : Listing} {count : ℕ} {more : Bool} → l ≡ Spans count more → Few (toldAs l) → count ≤ 4096
+few e counted = subst (λ l. Few (toldAs l)) e counted
 
 enum-known-listing : tie.Need-enum-known-listing
 enum-known-listing c = search needs
@@ -32,27 +39,19 @@ enum-known-listing-3 : tie.Need-enum-known-listing-3
 enum-known-listing-3 c = search needs
 
 cast-result-3 : tie.Need-cast-result-3
-cast-result-3 c =
-    let few : c .before .before .listing3 .given .0 .0 ≤ 4096 = subst (λ l. Few (toldAs l)) (c .before .before .listing3 .given .1) (c .before .before .before .before .pre) in
-    omega arith
+cast-result-3 c = omega (arith, few (c .before .before .listing3 .given .1) (c .before .before .before .before .pre))
 
 add-result-2 : tie.Need-add-result-2
-add-result-2 c =
-    let few : c .before .before .listing3 .given .0 .0 ≤ 4096 = subst (λ l. Few (toldAs l)) (c .before .before .listing3 .given .1) (c .before .before .before .before .pre) in
-    omega arith
+add-result-2 c = omega (arith, few (c .before .before .listing3 .given .1) (c .before .before .before .before .pre))
 
 returns : tie.Need-returns
 returns c = sym (ap (λ l. listingStatus (toldAs l)) (c .before .before .listing3 .given .1) ∙ rw (c .if1 .taken))
 
 cast-result-4 : tie.Need-cast-result-4
-cast-result-4 c =
-    let few : c .before .before .listing3 .given .0 .0 ≤ 4096 = subst (λ l. Few (toldAs l)) (c .before .before .listing3 .given .1) (c .before .before .before .before .pre) in
-    omega arith
+cast-result-4 c = omega (arith, few (c .before .before .listing3 .given .1) (c .before .before .before .before .pre))
 
 add-result-3 : tie.Need-add-result-3
-add-result-3 c =
-    let few : c .before .before .listing3 .given .0 .0 ≤ 4096 = subst (λ l. Few (toldAs l)) (c .before .before .listing3 .given .1) (c .before .before .before .before .pre) in
-    omega arith
+add-result-3 c = omega (arith, few (c .before .before .listing3 .given .1) (c .before .before .before .before .pre))
 
 returns-2 : tie.Need-returns-2
 returns-2 c = search needs

@@ -53,5 +53,5 @@ pub galitzaf-translation-request-spec : {M : Type 1} → statement M
 galitzaf-translation-request-spec =
     tie.close
     (tie.spec
-    (λ c κs. search needs) returns returns-2 returns-3 (λ c κs. search needs) unpack-requires (λ c κs. search needs)
-    (λ c κs. search needs) (λ c κs. search needs) (λ c. search needs) returns-4)
+    (λ c κs. search needs) returns returns-2 returns-3 (λ c κs. search needs) unpack-requires (λ c κs. search needs) (λ c κs. search needs)
+    (λ c κs. search needs) (λ c. search needs) returns-4)

@@ -16,4 +16,5 @@ returns-2 : tie.Need-returns-2
 returns-2 c = let a = c .before .args in rw (List·getD-eq-default (a .marks .now) 1 (c .if1 .left))
 
 pub is-free-spec : {M : Type 1} → statement M
-is-free-spec = tie.close (tie.spec (λ c. search needs) returns returns-2)
+is-free-spec = tie.close (tie.spec
+    (λ c. search needs) returns returns-2)

@@ -8,4 +8,5 @@ returns c = rw (c .is-free .ensures, c .before .table-of .ensures .0)
 pub leads-to-free-spec : {M : Type 1} → statement M
 leads-to-free-spec =
     tie.close
-    (tie.spec (λ c κs. search needs) (λ c. search needs) (λ c. search needs) (λ c κs. search needs) returns)
+    (tie.spec
+    (λ c κs. search needs) (λ c. search needs) (λ c. search needs) (λ c κs. search needs) returns)

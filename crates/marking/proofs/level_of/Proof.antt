@@ -8,4 +8,5 @@ returns-2 : tie.Need-returns-2
 returns-2 c = sym (List·getD-eq-default (c .before .args .marks .now) 0 (c .if1 .left))
 
 pub level-of-spec : {M : Type 1} → statement M
-level-of-spec = tie.close (tie.spec (λ c. search needs) (λ c. search needs) returns-2)
+level-of-spec = tie.close (tie.spec
+    (λ c. search needs) (λ c. search needs) returns-2)

@@ -12,4 +12,5 @@ unfolding bucketOf
 returns c = search needs
 
 pub bucket-of-spec : {M : Type 1} → statement M
-bucket-of-spec = tie.close (tie.spec (λ c. search needs) (λ c. search needs) returns)
+bucket-of-spec = tie.close (tie.spec
+    (λ c. search needs) (λ c. search needs) returns)

@@ -26,4 +26,5 @@ returns-2 c = c .bad-windows2 .ensures
 pub bad-first-spec : {M : Type 1} → statement M
 bad-first-spec =
     tie.close
-    (tie.spec (λ c κs. search needs) returns slice-aggregate-bad-windows (λ c κs. search needs) returns-2)
+    (tie.spec
+    (λ c κs. search needs) returns slice-aggregate-bad-windows (λ c κs. search needs) returns-2)

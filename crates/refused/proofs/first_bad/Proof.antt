@@ -15,4 +15,5 @@ returns-2 c =
     rw (← first .before .first-bad-register .ensures, eq-eqb _ _ (first .if1 .left)) (c .first-bad-window .ensures)
 
 pub first-bad-spec : {M : Type 1} → statement M
-first-bad-spec = tie.close (tie.spec (λ c κs. search needs) returns (λ c κs. search needs) returns-2)
+first-bad-spec = tie.close (tie.spec
+    (λ c κs. search needs) returns (λ c κs. search needs) returns-2)

@@ -2,12 +2,11 @@ use mathlib.Core.Bool.{false}
 use mathlib.Core.Path.{_≡_, refl, ap, sym, _∙_}
 use lib.ListN.{length}
 use Rattle.registers.specs.Answers.{admittedOf}
-use Rattle.image.specs.Place.{stoppedAt}
 use Rattle.image.specs.Windows.{ofWindows, badWindows}
 use Rattle.image.proofs.GoodWindows.{three-each}
-use Rattle.translation.specs.Requests.{translationOutcome, requestRules, concerned}
+use Rattle.translation.specs.Requests.{translationOutcome}
 use Rattle.dma.proofs.Admissions.{taken-root}
-use Rattle.translation.proofs.Admissions.{refuses-bad, refuses, passes, takes, takes-at}
+use Rattle.translation.proofs.Admissions.{refuses-bad, refuses, passes, takes, takes-at, translation-told}
 use Rattle.translation.proofs.Stepped.{renamed}
 use Rattle.translation.proofs.Forks.{reachable}
 use borrow.Author.Needs.{needs}
@@ -21,9 +20,9 @@ returns : tie.Need-returns
 returns c = let bad = sym (c .before .bad-windows .ensures) ∙ c .if1 .taken in (rw bad, rw bad)
 
 -- windows that weren't refused
-fine : (c : tie.Else1)
+windows-good : (c : tie.Else1)
     → badWindows (c .before .before .before .before .args .windows .now) (length (c .before .before .before .before .args .image .now)) ≡ false
-fine c = sym (c .before .bad-windows .ensures) ∙ c .if1 .left
+windows-good c = sym (c .before .bad-windows .ensures) ∙ c .if1 .left
 
 bad-requires : tie.Need-bad-requires
 bad-requires c κs = search needs
@@ -32,10 +31,8 @@ returns-2 : tie.Need-returns-2
 returns-2 c =
     let e = c .before .before in
     let a = e .before .before .before .before .args in
-    let m = ofWindows (a .windows .now) (a .image .now) in
-    let is = refuses-bad (a .registers) (a .request) m (sym (c .before .bad .ensures) ∙ c .if2 .taken) in
-    let good = fine e in
-    (rw good is, rw good (ap (λ o. concerned o (stoppedAt (requestRules (a .registers) (a .request)) m)) is))
+    translation-told (a .registers) (a .request) (a .windows .now) (a .image .now) (windows-good e)
+    (refuses-bad (a .registers) (a .request) _ (sym (c .before .bad .ensures) ∙ c .if2 .taken))
 
 in-interrupt-range-requires : tie.Need-in-interrupt-range-requires
 in-interrupt-range-requires c κs = search needs
@@ -56,12 +53,12 @@ first-span-requires : tie.Need-first-span-requires
 first-span-requires c κs =
     let k = c .before .before in
     let a = k .before .before .before .before .before .before .before .before .args in
-    three-each (a .windows .now) (length (a .image .now)) (fine (k .before .before .before .before)) .1
+    three-each (a .windows .now) (length (a .image .now)) (windows-good (k .before .before .before .before)) .1
 
 complete-requires : tie.Need-complete-requires
 complete-requires c κs =
     let k = c .before .before .before in (
-      (fine (k .before .before .before .before), c .first-span .ensures),
+      (windows-good (k .before .before .before .before), c .first-span .ensures),
       taken-root (k .before .before .before .before .before .before .before .before .args .registers) _ _ (sym (ap admittedOf (c .before .enum-told2 .given .1)) ∙ k .admit .ensures),
     )
 
@@ -76,19 +73,15 @@ returns-3 : tie.Need-returns-3
 returns-3 c =
     let k = c .before .before .before in
     let a = k .before .before .before .before .before .before .before .before .args in
-    let m = ofWindows (a .windows .now) (a .image .now) in
-    let is = refuses (a .registers) (a .request) m (k .before .in-interrupt-range .ensures) (sym (ap admittedOf (c .before .number .given .1)) ∙ k .admit .ensures) in
-    let good = fine (k .before .before .before .before) in
-    (rw good is, rw good (ap (λ o. concerned o (stoppedAt (requestRules (a .registers) (a .request)) m)) is))
+    translation-told (a .registers) (a .request) (a .windows .now) (a .image .now) (windows-good (k .before .before .before .before))
+    (refuses (a .registers) (a .request) _ (k .before .in-interrupt-range .ensures) (sym (ap admittedOf (c .before .number .given .1)) ∙ k .admit .ensures))
 
 returns-4 : tie.Need-returns-4
 returns-4 c =
     let k = c .before .before in
     let a = k .before .before .before .before .before .before .before .before .args in
-    let m = ofWindows (a .windows .now) (a .image .now) in
-    let is = passes (a .registers) (a .request) m (k .before .in-interrupt-range .ensures) (sym (ap admittedOf (c .enum-told .given .1)) ∙ k .admit .ensures) in
-    let good = fine (k .before .before .before .before) in
-    (rw good is, rw good (ap (λ o. concerned o (stoppedAt (requestRules (a .registers) (a .request)) m)) is))
+    translation-told (a .registers) (a .request) (a .windows .now) (a .image .now) (windows-good (k .before .before .before .before))
+    (passes (a .registers) (a .request) _ (k .before .in-interrupt-range .ensures) (sym (ap admittedOf (c .enum-told .given .1)) ∙ k .admit .ensures))
 
 returns-5 : tie.Need-returns-5
 returns-5 c =
@@ -99,8 +92,8 @@ returns-5 c =
     let taken = sym (ap admittedOf (c .before .before .before .enum-told2 .given .1)) ∙ k .admit .ensures in
     let is = c .answer .ensures .0 ∙ ap (translationOutcome (a .request)) (c .before .complete .ensures .0) ∙ takes (a .registers) (a .request) m kind taken in
     let there = renamed (c .before .complete .result) (takes-at (a .registers) (a .request) m kind taken) (c .before .complete .ensures .1) in
-    let good = fine (k .before .before .before .before) in
-    (rw good is, rw good (c .answer .ensures .1 _ there ∙ ap (λ o. concerned o (stoppedAt (requestRules (a .registers) (a .request)) m)) is))
+    let says = translation-told (a .registers) (a .request) (a .windows .now) (a .image .now) (windows-good (k .before .before .before .before)) is in
+    (says .0, c .answer .ensures .1 _ there ∙ says .1)
 
 pub translation-request-spec : {M : Type 1} → statement M
 translation-request-spec =

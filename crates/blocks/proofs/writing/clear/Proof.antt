@@ -36,9 +36,6 @@ loop-again c =
     let l = c .before .loop in
     (next-laid (now (a .buffer)) (a .at) (replicate (a .n) 0) (l .i) (rw (length-replicate {A = ℕ} (a .n) 0) (c .before .before .pre)) (rw (length-replicate {A = ℕ} (a .n) 0) (c .loop-test .taken)) (l .inv .0) (sym (getD-replicate (a .n) (l .i) 0 0 (c .loop-test .taken))), omega arith, simp length-set (l .inv .2))
 
-same-length : tie.Need-same-length Inv-loop μ-loop
-same-length c = c .before .loop .inv .2
-
 returns : tie.Need-returns Inv-loop μ-loop
 returns c =
     let a = c .before .before .args in
@@ -57,5 +54,5 @@ clear-spec =
     add-i
     loop-less
     loop-again
-    same-length
+    (λ c. c .before .loop .inv .2)
     returns)

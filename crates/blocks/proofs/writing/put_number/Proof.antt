@@ -41,9 +41,6 @@ loop-again c =
     let l = c .before .loop in
     (next-byte (now (a .buffer)) (a .at) (a .n) (a .value) (l .i) (c .before .before .pre) (c .loop-test .taken) (l .inv .0) (l .inv .1), next-rest (a .value) (l .i) (l .inv .1), omega arith, simp length-set (l .inv .3))
 
-same-length : tie.Need-same-length Inv-loop μ-loop
-same-length c = c .before .loop .inv .3
-
 returns : tie.Need-returns Inv-loop μ-loop
 returns c =
     let a = c .before .before .args in
@@ -63,5 +60,5 @@ put-number-spec =
     add-i
     loop-less
     loop-again
-    same-length
+    (λ c. c .before .loop .inv .3)
     returns)

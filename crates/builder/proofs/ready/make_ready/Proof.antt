@@ -92,14 +92,5 @@ pub make-ready-spec : {M : Type 1} → statement M
 make-ready-spec =
     tie.close
     (tie.spec
-    (λ c κs. search needs)
-    (λ c κs. search needs)
-    returns
-    returns-2
-    first-span-requires
-    find-context-requires
-    (λ c. search needs)
-    (λ c. search needs)
-    returns-3
-    ready-in-requires
-    returns-4)
+    (λ c κs. search needs) (λ c κs. search needs) returns returns-2 first-span-requires find-context-requires (λ c. search needs)
+    (λ c. search needs) returns-3 ready-in-requires returns-4)

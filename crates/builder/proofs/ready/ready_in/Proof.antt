@@ -72,13 +72,4 @@ pub ready-in-spec : {M : Type 1} → statement M
 ready-in-spec =
     tie.close
     (tie.spec
-    returns
-    (λ c κs. search needs)
-    returns-2
-    (λ c κs. search needs)
-    returns-3
-    (λ c κs. search needs)
-    returns-4
-    sub-t14
-    sub-t15
-    returns-5)
+    returns (λ c κs. search needs) returns-2 (λ c κs. search needs) returns-3 (λ c κs. search needs) returns-4 sub-t14 sub-t15 returns-5)

@@ -7,4 +7,5 @@ returns c = rw (c .before .unmaps .ensures)
 
 pub bad-alignment-spec : {M : Type 1} → statement M
 bad-alignment-spec =
-    tie.close (tie.spec (λ c. search needs) (λ c κs. search needs) (λ c. search needs) returns)
+    tie.close (tie.spec
+    (λ c. search needs) (λ c κs. search needs) (λ c. search needs) returns)

@@ -6,4 +6,5 @@ returns : tie.Need-returns
 returns c = rw (c .in-range .ensures, c .before .overflows .ensures)
 
 pub bad-place-spec : {M : Type 1} → statement M
-bad-place-spec = tie.close (tie.spec (λ c κs. search needs) (λ c κs. search needs) returns)
+bad-place-spec = tie.close (tie.spec
+    (λ c κs. search needs) (λ c κs. search needs) returns)

@@ -6,4 +6,5 @@ returns : tie.Need-returns
 returns c = rw (c .before .is-large .ensures)
 
 pub bad-size-spec : {M : Type 1} → statement M
-bad-size-spec = tie.close (tie.spec (λ c κs. search needs) returns)
+bad-size-spec = tie.close (tie.spec
+    (λ c κs. search needs) returns)

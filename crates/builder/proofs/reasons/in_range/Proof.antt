@@ -10,4 +10,5 @@ returns-2 : tie.Need-returns-2
 returns-2 c = let a = c .before .args in below-range (a .at) (a .size) (c .if1 .left)
 
 pub in-range-spec : {M : Type 1} → statement M
-in-range-spec = tie.close (tie.spec returns (λ c. search needs) returns-2)
+in-range-spec = tie.close (tie.spec
+    returns (λ c. search needs) returns-2)

@@ -24,4 +24,5 @@ returns-2 c =
     reason-second (a .registers) (a .levels) (a .item) (sym (p .place-reason .ensures) ∙ e .if1 .left) (c .map-reason .ensures)
 
 pub item-reason-spec : {M : Type 1} → statement M
-item-reason-spec = tie.close (tie.spec (λ c κs. search needs) returns map-reason-requires returns-2)
+item-reason-spec = tie.close (tie.spec
+    (λ c κs. search needs) returns map-reason-requires returns-2)

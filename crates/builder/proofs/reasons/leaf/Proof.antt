@@ -34,4 +34,5 @@ returns-2 c =
 pub leaf-spec : {M : Type 1} → statement M
 leaf-spec =
     tie.close
-    (tie.spec (λ c κs. search needs) add-entry (λ c κs. search needs) add-result returns returns-2)
+    (tie.spec
+    (λ c κs. search needs) add-entry (λ c κs. search needs) add-result returns returns-2)

@@ -17,4 +17,5 @@ returns-2 c =
     (rw h, omega arith)
 
 pub levels-below-spec : {M : Type 1} → statement M
-levels-below-spec = tie.close (tie.spec (λ c κs. search needs) returns returns-2)
+levels-below-spec = tie.close (tie.spec
+    (λ c κs. search needs) returns returns-2)

@@ -44,4 +44,5 @@ returns-4 c =
 pub map-reason-spec : {M : Type 1} → statement M
 map-reason-spec =
     tie.close
-    (tie.spec (λ c κs. search needs) returns (λ c κs. search needs) returns-2 bad-frame-requires returns-3 returns-4)
+    (tie.spec
+    (λ c κs. search needs) returns (λ c κs. search needs) returns-2 bad-frame-requires returns-3 returns-4)

@@ -55,10 +55,4 @@ pub place-reason-spec : {M : Type 1} → statement M
 place-reason-spec =
     tie.close
     (tie.spec
-    (λ c κs. search needs)
-    returns
-    bad-alignment-requires
-    returns-2
-    bad-place-requires
-    returns-3
-    returns-4)
+    (λ c κs. search needs) returns bad-alignment-requires returns-2 bad-place-requires returns-3 returns-4)

@@ -6,4 +6,5 @@ returns : tie.Need-returns
 returns c = rw (c .field .ensures)
 
 pub unmaps-spec : {M : Type 1} → statement M
-unmaps-spec = tie.close (tie.spec (λ c κs. search needs) returns)
+unmaps-spec = tie.close (tie.spec
+    (λ c κs. search needs) returns)

@@ -1,7 +1,7 @@
 -- The low bits of the page cleared, and two levels more.
 use mathlib.Core.Path.{_≡_, refl, ap, sym, _∙_}
 use native.Mathlib.Omega.{arith}
-use Rattle.cache.proofs.Numbered.{key-level, large-as}
+use Rattle.cache.proofs.Numbered.{level1-room, large-as}
 use borrow.Author.Needs.{needs}
 use Rattle.cache.proofs.keys.large_key.Statement.{statement}
 use Rattle.cache.proofs.keys.large_key.Tie as tie
@@ -13,9 +13,7 @@ sub-result c = search needs
 
 add-result : tie.Need-add-result
 add-result c =
-    let r = c .args .request in
-    let level = key-level 1 (r .address) (r .source .id) (r .write) (c .pre .0) (omega arith) (omega arith) (omega arith) in
-    omega (arith, level .0, c .pre .1)
+    omega (arith, level1-room (c .args .request .address) (c .args .request .source .id) (c .args .request .write) (c .pre .0) (omega arith), c .pre .1)
 
 returns : tie.Need-returns
 returns c =

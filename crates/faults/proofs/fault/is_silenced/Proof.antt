@@ -11,4 +11,5 @@ returns c =
 
 pub is-silenced-spec : {M : Type 1} → statement M
 is-silenced-spec =
-    tie.close (tie.spec (λ c κs. search needs) (λ c κs. search needs) (λ c κs. search needs) returns)
+    tie.close (tie.spec
+    (λ c κs. search needs) (λ c κs. search needs) (λ c κs. search needs) returns)

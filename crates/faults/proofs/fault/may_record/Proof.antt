@@ -11,4 +11,5 @@ returns-2 : tie.Need-returns-2
 returns-2 c = rw (not-false (c .before .before .args .fpd) (c .before .if1 .left), c .is-silenced .ensures)
 
 pub may-record-spec : {M : Type 1} → statement M
-may-record-spec = tie.close (tie.spec returns (λ c κs. search needs) returns-2)
+may-record-spec = tie.close (tie.spec
+    returns (λ c κs. search needs) returns-2)

@@ -9,4 +9,5 @@ returns : tie.Need-returns
 returns c = c .before .write-record .ensures ∙ only-slot _ _ refl
 
 pub record-bytes-spec : {M : Type 1} → statement M
-record-bytes-spec = tie.close (tie.spec (λ c. search needs) (λ c κs. search needs) returns)
+record-bytes-spec = tie.close (tie.spec
+    (λ c. search needs) (λ c κs. search needs) returns)

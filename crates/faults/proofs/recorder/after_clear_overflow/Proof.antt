@@ -23,4 +23,5 @@ unfolding clearingOverflow
 returns-3 c = rw (← c .before .before .before .slot-count .ensures, lt-leb _ _ (c .before .if1 .left), c .if2 .left)
 
 pub after-clear-overflow-spec : {M : Type 1} → statement M
-after-clear-overflow-spec = tie.close (tie.spec (λ c κs. search needs) (λ c. search needs) returns returns-2 returns-3)
+after-clear-overflow-spec = tie.close (tie.spec
+    (λ c κs. search needs) (λ c. search needs) returns returns-2 returns-3)

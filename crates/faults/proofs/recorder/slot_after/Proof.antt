@@ -15,4 +15,5 @@ cast-result c =
     omega arith
 
 pub slot-after-spec : {M : Type 1} → statement M
-slot-after-spec = tie.close (tie.spec (λ c. search needs) (λ c. search needs) cast-result (λ c. search needs))
+slot-after-spec = tie.close (tie.spec
+    (λ c. search needs) (λ c. search needs) cast-result (λ c. search needs))

@@ -12,4 +12,5 @@ returns c =
 
 pub is-standing-spec : {M : Type 1} → statement M
 is-standing-spec =
-    tie.close (tie.spec (λ c. search needs) (λ c. search needs) (λ c. search needs) returns)
+    tie.close (tie.spec
+    (λ c. search needs) (λ c. search needs) (λ c. search needs) returns)

@@ -7,4 +7,5 @@ returns : tie.Need-returns
 returns c = c .short .ensures ∙ rw (c .before .head .ensures)
 
 pub pack-refusal-spec : {M : Type 1} → statement M
-pack-refusal-spec = tie.close (tie.spec (λ c κs. search needs) (λ c κs. search needs) returns)
+pack-refusal-spec = tie.close (tie.spec
+    (λ c κs. search needs) (λ c κs. search needs) returns)

@@ -10,4 +10,5 @@ returns-2 : tie.Need-returns-2
 returns-2 c = by-kind (c .before .before .before .args .answer .now) (c .before .before .if1 .left)
 
 pub bad-answer-spec : {M : Type 1} → statement M
-bad-answer-spec = tie.close (tie.spec returns (λ c. search needs) (λ c. search needs) returns-2)
+bad-answer-spec = tie.close (tie.spec
+    returns (λ c. search needs) (λ c. search needs) returns-2)

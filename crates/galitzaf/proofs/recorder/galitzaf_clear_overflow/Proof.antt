@@ -59,5 +59,5 @@ pub galitzaf-clear-overflow-spec : {M : Type 1} → statement M
 galitzaf-clear-overflow-spec =
     tie.close
     (tie.spec
-    (λ c κs. search needs) (λ c κs. search needs) (λ c. search needs) returns slice-read-if2 (λ c. search needs) returns-2 read-state-requires
-    (λ c κs. search needs) write-state-requires (λ c κs. search needs) (λ c. search needs) returns-3)
+    (λ c κs. search needs) (λ c κs. search needs) (λ c. search needs) returns slice-read-if2 (λ c. search needs) returns-2
+    read-state-requires (λ c κs. search needs) write-state-requires (λ c κs. search needs) (λ c. search needs) returns-3)

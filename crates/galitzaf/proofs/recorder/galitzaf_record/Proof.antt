@@ -118,7 +118,6 @@ galitzaf-record-spec =
     tie.close
     (tie.spec
     (λ c κs. search needs) (λ c κs. search needs) (λ c. search needs) returns (λ c κs. search needs) (λ c. search needs) returns-2
-    slice-read-if3 (λ c. search needs) returns-3 shared-slice-read-if4 (λ c. search needs) returns-4
-    (λ c κs. search needs) (λ c κs. search needs)
-    (λ c. omega (arith, whole (c .before .before .before .before .before .before .before))) read-state-requires
+    slice-read-if3 (λ c. search needs) returns-3 shared-slice-read-if4 (λ c. search needs) returns-4 (λ c κs. search needs)
+    (λ c κs. search needs) (λ c. omega (arith, whole (c .before .before .before .before .before .before .before))) read-state-requires
     (λ c κs. search needs) write-state-requires (λ c κs. search needs) (λ c. search needs) (λ c. search needs) returns-5)

@@ -19,4 +19,5 @@ returns-2 c =
     by-place (a .slots) (a .recorder .now) (c .before .if1 .left)
 
 pub is-unfit-spec : {M : Type 1} → statement M
-is-unfit-spec = tie.close (tie.spec returns (λ c. search needs) cast-result returns-2)
+is-unfit-spec = tie.close (tie.spec
+    returns (λ c. search needs) cast-result returns-2)

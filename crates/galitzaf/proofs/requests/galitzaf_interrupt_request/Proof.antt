@@ -42,5 +42,5 @@ pub galitzaf-interrupt-request-spec : {M : Type 1} → statement M
 galitzaf-interrupt-request-spec =
     tie.close
     (tie.spec
-    (λ c κs. search needs) returns returns-2 returns-3 (λ c κs. search needs) unpack-requires (λ c κs. search needs)
-    (λ c κs. search needs) (λ c κs. search needs) (λ c. search needs) (λ c. search needs) returns-4)
+    (λ c κs. search needs) returns returns-2 returns-3 (λ c κs. search needs) unpack-requires (λ c κs. search needs) (λ c κs. search needs)
+    (λ c κs. search needs) (λ c. search needs) (λ c. search needs) returns-4)

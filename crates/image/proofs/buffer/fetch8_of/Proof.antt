@@ -24,4 +24,5 @@ returns-3 c =
     )
 
 pub fetch8-of-spec : {M : Type 1} → statement M
-fetch8-of-spec = tie.close (tie.spec returns (λ c. search needs) returns-2 (λ c κs. search needs) returns-3)
+fetch8-of-spec = tie.close (tie.spec
+    returns (λ c. search needs) returns-2 (λ c κs. search needs) returns-3)

@@ -55,16 +55,5 @@ pub little-endian-spec : {M : Type 1} → statement M
 little-endian-spec =
     tie.close
     (tie.spec
-    Inv-loop
-    μ-loop
-    loop-holds
-    (λ c. search needs)
-    (λ c. search needs)
-    cast-word
-    (λ c. search needs)
-    (λ c. search needs)
-    add-word
-    (λ c. search needs)
-    (λ c. search needs)
-    loop-again
-    returns)
+    Inv-loop μ-loop loop-holds (λ c. search needs) (λ c. search needs) cast-word (λ c. search needs) (λ c. search needs) add-word
+    (λ c. search needs) (λ c. search needs) loop-again returns)

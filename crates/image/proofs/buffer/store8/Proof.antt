@@ -22,4 +22,5 @@ returns-3 c =
 pub store8-spec : {M : Type 1} → statement M
 store8-spec =
     tie.close
-    (tie.spec returns (λ c. search needs) returns-2 (λ c κs. search needs) (λ c. search needs) returns-3)
+    (tie.spec
+    returns (λ c. search needs) returns-2 (λ c κs. search needs) (λ c. search needs) returns-3)

@@ -13,4 +13,5 @@ returns c =
     read-words (now (a .image)) 2 (a .from) (c .before .word .result ∷ c .word2 .result ∷ []) (omega arith) cc
 
 pub load16-spec : {M : Type 1} → statement M
-load16-spec = tie.close (tie.spec (λ c κs. search needs) (λ c. search needs) (λ c κs. search needs) returns)
+load16-spec = tie.close (tie.spec
+    (λ c κs. search needs) (λ c. search needs) (λ c κs. search needs) returns)

@@ -33,13 +33,5 @@ pub bad-last-spec : {M : Type 1} → statement M
 bad-last-spec =
     tie.close
     (tie.spec
-    (λ c κs. search needs)
-    returns
-    (λ c. search needs)
-    (λ c. search needs)
-    sub-result
-    (λ c. search needs)
-    (λ c. search needs)
-    (λ c. search needs)
-    sub-result-2
-    returns-2)
+    (λ c κs. search needs) returns (λ c. search needs) (λ c. search needs) sub-result (λ c. search needs) (λ c. search needs)
+    (λ c. search needs) sub-result-2 returns-2)

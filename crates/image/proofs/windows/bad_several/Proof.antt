@@ -55,12 +55,4 @@ pub bad-several-spec : {M : Type 1} → statement M
 bad-several-spec =
     tie.close
     (tie.spec
-    (λ c κs. search needs)
-    returns
-    returns-2
-    bad-row-requires
-    returns-3
-    all-rise-requires
-    returns-4
-    any-share-requires
-    returns-5)
+    (λ c κs. search needs) returns returns-2 bad-row-requires returns-3 all-rise-requires returns-4 any-share-requires returns-5)

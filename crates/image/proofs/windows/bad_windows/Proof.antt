@@ -15,4 +15,5 @@ returns-2 : tie.Need-returns-2
 returns-2 c = c .bad-several .ensures
 
 pub bad-windows-spec : {M : Type 1} → statement M
-bad-windows-spec = tie.close (tie.spec (λ c κs. search needs) returns (λ c κs. search needs) returns-2)
+bad-windows-spec = tie.close (tie.spec
+    (λ c κs. search needs) returns (λ c κs. search needs) returns-2)

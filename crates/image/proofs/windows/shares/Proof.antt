@@ -19,4 +19,5 @@ returns-2 c =
     (sym (c .before .before .rises-to .ensures) ∙ c .before .if1 .left))
 
 pub shares-spec : {M : Type 1} → statement M
-shares-spec = tie.close (tie.spec (λ c κs. search needs) returns (λ c κs. search needs) returns-2)
+shares-spec = tie.close (tie.spec
+    (λ c κs. search needs) returns (λ c κs. search needs) returns-2)

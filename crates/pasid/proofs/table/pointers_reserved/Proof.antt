@@ -27,4 +27,5 @@ returns c =
     rw (in-first (e .w1 ∷ e .w2 ∷ e .w3 ∷ e .w4 ∷ e .w5 ∷ e .w6 ∷ e .w7 ∷ []) low 63 haw (lit< tt), upper, from-haw haw low, from-haw haw third, c .before .at-or-above-power .ensures, c .at-or-above-power2 .ensures)
 
 pub pointers-reserved-spec : {M : Type 1} → statement M
-pointers-reserved-spec = tie.close (tie.spec (λ c κs. search needs) (λ c κs. search needs) returns)
+pointers-reserved-spec = tie.close (tie.spec
+    (λ c κs. search needs) (λ c κs. search needs) returns)

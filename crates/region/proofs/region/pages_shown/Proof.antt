@@ -52,13 +52,4 @@ pub pages-shown-spec : {M : Type 1} → statement M
 pages-shown-spec =
     tie.close
     (tie.spec
-    Inv-loop
-    μ-loop
-    loop-holds
-    find-spot-requires
-    returns
-    (λ c. search needs)
-    add-at
-    (λ c. search needs)
-    loop-again
-    returns-2)
+    Inv-loop μ-loop loop-holds find-spot-requires returns (λ c. search needs) add-at (λ c. search needs) loop-again returns-2)

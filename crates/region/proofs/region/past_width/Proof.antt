@@ -22,4 +22,5 @@ returns-2 c =
     ap (λ (limit : ℕ). ltb (limit - a .start) (a .size)) is ∙ past (2 ^ a .haw) (a .start) (a .size) (omega (arith, is, c .if1 .left))
 
 pub past-width-spec : {M : Type 1} → statement M
-past-width-spec = tie.close (tie.spec (λ c. search needs) returns returns-2)
+past-width-spec = tie.close (tie.spec
+    (λ c. search needs) returns returns-2)

@@ -62,13 +62,4 @@ pub any-named-spec : {M : Type 1} → statement M
 any-named-spec =
     tie.close
     (tie.spec
-    Inv-loop
-    μ-loop
-    loop-holds
-    meets-named-at-requires
-    returns
-    (λ c. search needs)
-    add-at
-    (λ c. search needs)
-    loop-again
-    returns-2)
+    Inv-loop μ-loop loop-holds meets-named-at-requires returns (λ c. search needs) add-at (λ c. search needs) loop-again returns-2)

@@ -15,4 +15,5 @@ returns c =
     c .in-place .ensures ∙ ap (λ (n : ℕ). n * 2 ^ 12) (sym (low-field low high 63 12 (lit< tt)))
 
 pub context-table-spec : {M : Type 1} → statement M
-context-table-spec = tie.close (tie.spec (λ c κs. search needs) returns)
+context-table-spec = tie.close (tie.spec
+    (λ c κs. search needs) returns)

@@ -24,4 +24,5 @@ returns c = omega (arith, c .before .bits16 .ensures, c .bits162 .ensures)
 pub descriptor-spec : {M : Type 1} → statement M
 descriptor-spec =
     tie.close
-    (tie.spec (λ c κs. search needs) mul-result (λ c κs. search needs) mul-result-2 add-result returns)
+    (tie.spec
+    (λ c κs. search needs) mul-result (λ c κs. search needs) mul-result-2 add-result returns)

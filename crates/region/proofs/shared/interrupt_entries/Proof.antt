@@ -13,4 +13,5 @@ returns c =
     (is, omega (arith, is, pow-pos (s .args .registers .s + 1)), omega (arith, is, pow-mono {i = s .args .registers .s + 1} {j = 16} (omega (arith, s .pre))))
 
 pub interrupt-entries-spec : {M : Type 1} → statement M
-interrupt-entries-spec = tie.close (tie.spec (λ c. search needs) (λ c. search needs) (λ c. search needs) returns)
+interrupt-entries-spec = tie.close (tie.spec
+    (λ c. search needs) (λ c. search needs) (λ c. search needs) returns)

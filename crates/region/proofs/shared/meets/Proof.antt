@@ -24,4 +24,5 @@ returns-4 c =
     meets-high (a .start) (a .size) (a .other) (a .n) (c .before .before .if1 .left) (c .before .if2 .left) (c .if3 .left)
 
 pub meets-spec : {M : Type 1} → statement M
-meets-spec = tie.close (tie.spec returns (λ c. search needs) returns-2 returns-3 returns-4)
+meets-spec = tie.close (tie.spec
+    returns (λ c. search needs) returns-2 returns-3 returns-4)

@@ -7,4 +7,5 @@ returns c = rw (c .meets .ensures, c .before .context-table .ensures, c .before 
 
 pub meets-context-table-spec : {M : Type 1} → statement M
 meets-context-table-spec =
-    tie.close (tie.spec (λ c κs. search needs) (λ c κs. search needs) (λ c κs. search needs) returns)
+    tie.close (tie.spec
+    (λ c κs. search needs) (λ c κs. search needs) (λ c κs. search needs) returns)

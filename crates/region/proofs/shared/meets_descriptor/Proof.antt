@@ -9,4 +9,5 @@ returns c =
 pub meets-descriptor-spec : {M : Type 1} → statement M
 meets-descriptor-spec =
     tie.close
-    (tie.spec (λ c κs. search needs) (λ c κs. search needs) (λ c κs. search needs) (λ c κs. search needs) returns)
+    (tie.spec
+    (λ c κs. search needs) (λ c κs. search needs) (λ c κs. search needs) (λ c κs. search needs) returns)

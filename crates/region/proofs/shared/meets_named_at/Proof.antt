@@ -24,4 +24,5 @@ returns-2 c =
 pub meets-named-at-spec : {M : Type 1} → statement M
 meets-named-at-spec =
     tie.close
-    (tie.spec (λ c κs. search needs) (λ c. search needs) (λ c. search needs) returns (λ c κs. search needs) returns-2)
+    (tie.spec
+    (λ c κs. search needs) (λ c. search needs) (λ c. search needs) returns (λ c κs. search needs) returns-2)

@@ -37,4 +37,5 @@ returns-2 c =
 pub word-shown-spec : {M : Type 1} → statement M
 word-shown-spec =
     tie.close
-    (tie.spec (λ c. search needs) page-entry8-requires (λ c. search needs) (λ c. search needs) returns returns-2)
+    (tie.spec
+    (λ c. search needs) page-entry8-requires (λ c. search needs) (λ c. search needs) returns returns-2)

@@ -6,4 +6,5 @@ returns : tie.Need-returns
 returns c = rw (c .field .ensures)
 
 pub is-present-spec : {M : Type 1} → statement M
-is-present-spec = tie.close (tie.spec (λ c κs. search needs) returns)
+is-present-spec = tie.close (tie.spec
+    (λ c κs. search needs) returns)

@@ -6,4 +6,5 @@ returns : tie.Need-returns
 returns c = rw (c .field .ensures)
 
 pub maps-page-spec : {M : Type 1} → statement M
-maps-page-spec = tie.close (tie.spec (λ c κs. search needs) returns)
+maps-page-spec = tie.close (tie.spec
+    (λ c κs. search needs) returns)

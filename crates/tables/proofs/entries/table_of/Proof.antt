@@ -18,4 +18,5 @@ returns-2 c =
     (omega (arith, h, c .if1 .left), omega (arith, h, in-place-lt (c .before .before .args .e) 51 12 (lit≤ tt)))
 
 pub table-of-spec : {M : Type 1} → statement M
-table-of-spec = tie.close (tie.spec (λ c κs. search needs) returns returns-2)
+table-of-spec = tie.close (tie.spec
+    (λ c κs. search needs) returns returns-2)

@@ -68,18 +68,5 @@ pub put-leaf-spec : {M : Type 1} → statement M
 put-leaf-spec =
     tie.close
     (tie.spec
-    Inv-loop
-    μ-loop
-    loop-holds
-    (λ c. search needs)
-    (λ c. search needs)
-    new-table-requires
-    (λ c. search needs)
-    (λ c. search needs)
-    place-of-requires
-    (λ c. search needs)
-    loop-again
-    (λ c κs. search needs)
-    same-length
-    same-length-2
-    returns)
+    Inv-loop μ-loop loop-holds (λ c. search needs) (λ c. search needs) new-table-requires (λ c. search needs) (λ c. search needs)
+    place-of-requires (λ c. search needs) loop-again (λ c κs. search needs) same-length same-length-2 returns)

@@ -37,13 +37,5 @@ pub count-free-spec : {M : Type 1} → statement M
 count-free-spec =
     tie.close
     (tie.spec
-    Inv-loop
-    μ-loop
-    loop-holds
-    (λ c. search needs)
-    (λ c κs. search needs)
-    add-count
-    (λ c. search needs)
-    (λ c. search needs)
-    loop-again
+    Inv-loop μ-loop loop-holds (λ c. search needs) (λ c κs. search needs) add-count (λ c. search needs) (λ c. search needs) loop-again
     returns)

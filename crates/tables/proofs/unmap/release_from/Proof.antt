@@ -74,20 +74,6 @@ pub release-from-spec : {M : Type 1} → statement M
 release-from-spec =
     tie.close
     (tie.spec
-    Inv-loop
-    μ-loop
-    loop-holds
-    way-to-requires
-    is-empty-requires
-    (λ c. search needs)
-    (λ c. search needs)
-    returns
-    (λ c. search needs)
-    way-to-requires-2
-    (λ c κs. search needs)
-    (λ c. search needs)
-    (λ c. search needs)
-    loop-again
-    (λ c. search needs)
-    (λ c. search needs)
+    Inv-loop μ-loop loop-holds way-to-requires is-empty-requires (λ c. search needs) (λ c. search needs) returns (λ c. search needs)
+    way-to-requires-2 (λ c κs. search needs) (λ c. search needs) (λ c. search needs) loop-again (λ c. search needs) (λ c. search needs)
     returns-2)

@@ -6,4 +6,5 @@ returns : tie.Need-returns
 returns c = rw (c .before .is-present .ensures, c .maps-page .ensures)
 
 pub ends-spec : {M : Type 1} → statement M
-ends-spec = tie.close (tie.spec (λ c κs. search needs) (λ c κs. search needs) returns)
+ends-spec = tie.close (tie.spec
+    (λ c κs. search needs) (λ c κs. search needs) returns)

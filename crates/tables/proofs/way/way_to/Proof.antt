@@ -84,17 +84,5 @@ pub way-to-spec : {M : Type 1} → statement M
 way-to-spec =
     tie.close
     (tie.spec
-    Inv-loop
-    μ-loop
-    loop-holds
-    place-of-requires
-    (λ c κs. search needs)
-    (λ c κs. search needs)
-    returns
-    (λ c κs. search needs)
-    (λ c. search needs)
-    (λ c. search needs)
-    loop-again
-    place-of-requires-2
-    (λ c κs. search needs)
-    returns-2)
+    Inv-loop μ-loop loop-holds place-of-requires (λ c κs. search needs) (λ c κs. search needs) returns (λ c κs. search needs)
+    (λ c. search needs) (λ c. search needs) loop-again place-of-requires-2 (λ c κs. search needs) returns-2)

@@ -23,17 +23,20 @@ returns-2 : tie.Need-returns-2
 unfolding appendCall
 returns-2 c = rw (← c .before .before .is-bad .ensures, c .before .if1 .left, ne-eqb _ 32 (c .if2 .taken))
 
+asked-requires : tie.Need-asked-requires
+asked-requires c κs = search needs
+
 with-answer-requires : tie.Need-with-answer-requires
 with-answer-requires c κs = search needs
 
 read-requires : tie.Need-read-requires
-read-requires c κs = sym (c .before .before .before .before .is-bad .ensures) ∙ c .before .before .before .if1 .left
+read-requires c κs = sym (c .before .before .before .before .before .is-bad .ensures) ∙ c .before .before .before .before .if1 .left
 
 append-requires : tie.Need-append-requires
 append-requires c κs = search needs
 
 take-over-requires : tie.Need-take-over-requires
-take-over-requires c κs = writer-two (c .before .before .before .before .before .before .before .before .before .before .before .before .before .before .before .args .writer .now) _ (sym (c .before .before .before .before .before .before .before .before .before .before .is-bad .ensures) ∙ c .before .before .before .before .before .before .before .before .before .if1 .left) .0
+take-over-requires c κs = writer-two (c .before .before .before .before .before .before .before .before .before .before .before .before .before .before .before .before .args .writer .now) _ (sym (c .before .before .before .before .before .before .before .before .before .before .before .is-bad .ensures) ∙ c .before .before .before .before .before .before .before .before .before .before .if1 .left) .0
 
 same-length-3 : tie.Need-same-length-3
 same-length-3 c = search needs
@@ -43,7 +46,7 @@ same-length-4 c = search needs
 
 returns-3 : tie.Need-returns-3
 unfolding appendCall
-returns-3 c = rw (← c .before .before .before .before .before .before .before .before .before .before .before .before .before .is-bad .ensures, c .before .before .before .before .before .before .before .before .before .before .before .before .if1 .left, eq-eqb _ 32 (c .before .before .before .before .before .before .before .before .before .before .before .if2 .left), c .before .before .take-over .ensures .0, c .before .before .take-over .ensures .1, ← c .before .before .before .before .before .before .before .before .before .before .with-answer .ensures, ← c .before .before .before .before .before .before .before .before .read .ensures, ← c .before .before .before .before .before .append .ensures)
+returns-3 c = rw (← c .before .before .before .before .before .before .before .before .before .before .before .before .before .before .is-bad .ensures, c .before .before .before .before .before .before .before .before .before .before .before .before .before .if1 .left, eq-eqb _ 32 (c .before .before .before .before .before .before .before .before .before .before .before .before .if2 .left), c .before .before .take-over .ensures .0, c .before .before .take-over .ensures .1, ← c .before .before .before .before .before .before .before .before .before .before .before .asked .ensures, ← c .before .before .before .before .before .before .before .before .before .before .with-answer .ensures, ← c .before .before .before .before .before .before .before .before .read .ensures, ← c .before .before .before .before .before .append .ensures)
 
 pub append-answer-spec : {M : Type 1} → statement M
 append-answer-spec =
@@ -54,6 +57,7 @@ append-answer-spec =
     returns
     same-length-2
     returns-2
+    asked-requires
     with-answer-requires
     read-requires
     append-requires
