@@ -46,9 +46,6 @@ use Rattle.faults.proofs.recorder.RecorderStep.Laws as S′
 abbrev t-vals : Recorder → List Val
 t-vals = LL.vals T.the-type T′.the-laws
 
-abbrev a-val : RecorderAnswer → Val
-a-val = LE.val E.the-type E′.the-laws
-
 abbrev pub made : RecorderAnswer → Recorder → RecorderStep
 made a t = record { answer = a; recorder = t }
 

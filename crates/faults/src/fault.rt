@@ -1,12 +1,10 @@
 // A blocked request's answer, with its record.
 ghost use mathlib.Core.Path.{_≡_};
 ghost use Prim.Native.Nat.{_^_, _<_};
-ghost use Rattle.image.specs.Bytes.{bytesOf};
 ghost use Rattle.faults.specs.Answers.{faultOf, highWord};
 ghost use Rattle.faults.specs.Reason.{numberOf};
 ghost use Rattle.faults.specs.Record.{within, silenced, recordable, indexField, memoryFault, translationFault, interruptFault};
 use crate::reason::Reason;
-use crate::slots::write_record;
 use registers::Page4K;
 use registers::SourceId;
 
@@ -105,13 +103,4 @@ pub fn interrupt_fault(reason: Reason, fpd: bool, source: SourceId, index: u32) 
         low: recorded_index(number, index) * 0x1_0000_0000_0000,
         high: high_word(source.id, number, false),
     }
-}
-
-// The 16 bytes of a fault's record.
-pub fn record_bytes(fault: Fault) -> [u8; 16]
-    ensures { λ r. ⌜ r ≡ bytesOf 16 (faultOf fault .contents) ⌝ }
-{
-    let mut bytes = [0u8; 16];
-    write_record(&mut bytes, 0, fault.low, fault.high);
-    bytes
 }

@@ -9,7 +9,6 @@ mod slots;
 pub use fault::Fault;
 pub use fault::interrupt_fault;
 pub use fault::memory_fault;
-pub use fault::record_bytes;
 pub use fault::translation_fault;
 pub use lent::clear;
 pub use lent::clear_overflow;

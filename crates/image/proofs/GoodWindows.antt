@@ -267,11 +267,3 @@ module _ (w : Window) (at : ℕ) (starts : w .start < 2 ^ 64) where
   pub one-sum : w .place < 2 ^ 64 → w .place + w .size < 2 ^ 64 → holdsAll w 1 at ≡ true → {away to : ℕ} → (away + w .start) % 2 ^ 64 ≡ w .place → away < 2 ^ 64
       → to ≡ (at + away) % 2 ^ 64 → to ≡ w .place + (at - w .start)
   one-sum here-it room h wraps fits is = let lies = held w 1 at h in omega arith
-
--- a spot as the part of the run from there on
-pub no-part : {spot : Spot} → spot ≡ nowhere → (0 ≡ onSpot spot 0 (λ place left. place)) × (0 ≡ onSpot spot 0 (λ place left. left))
-no-part h = rw h (refl, refl)
-
-pub the-part : {spot : Spot} {place left from size : ℕ} → spot ≡ here place left → from ≡ place → size ≡ left
-    → (from ≡ onSpot spot 0 (λ place left. place)) × (size ≡ onSpot spot 0 (λ place left. left))
-the-part h p q = rw h (p, q)

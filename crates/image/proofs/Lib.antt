@@ -6,7 +6,6 @@ pub mod Forks
 pub mod Isolated
 pub mod Local
 pub mod Longer
-pub mod OneByte
 pub mod Pages
 pub mod Places
 pub mod Same

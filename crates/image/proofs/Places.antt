@@ -49,16 +49,6 @@ module _ {A : Type 0} where
           let same = entry-alike (wordsOf kind) at m m′ (alike-left (wordsFrom (wordsOf kind) at) (named (next x) m) m m′ h) in
           rw (← same, told) (ih x c (alike-right (wordsFrom (wordsOf kind) at) (named (next x) m) m m′ h))
 
-  -- demand 3's first claim for it, beside `isolated`
-  pub isolated-place : (Access : A → Type 0) (q : Rules A) (image image′ : List ℕ)
-      → Outside Access q
-      → (Access (run q (ofImage image)) → ⊥)
-      → SameWords image image′ (named q (ofImage image))
-      → stoppedAt q (ofImage image) ≡ stoppedAt q (ofImage image′)
-  isolated-place Access q image image′ outside answered same =
-      local-place noEntry q (ofImage image) (ofImage image′) (met Access q (ofImage image) outside answered)
-      (alike image image′ (named q (ofImage image)) same)
-
   -- rules that only answer stop where they began
   pub only-at : {B : Type 0} (before : Place) (m : Memory) (k : Check B) (stopped : ℕ → A) (gone : B → A)
       → before ≡ lastTried before (onCheck k (λ reason. answer (stopped reason)) (λ b. answer (gone b))) m

@@ -46,8 +46,3 @@ module _ (image image′ : List ℕ) (same-length : length image′ ≡ length i
   same-entry zero at same = refl
   same-entry (suc n) at same =
       rw (same-word at (λ k from to. same k from (omega arith)), same-entry n (at + 8) (λ k from to. same k (omega arith) (omega arith)))
-
-  -- an entry that isn't there in one isn't there in the other
-  pub both-missing : (n at : ℕ) → length image < at + 8 * suc n
-      → entry (suc n) (ofImage image′) at ≡ entry (suc n) (ofImage image) at
-  both-missing n at h = outside image′ n at (omega arith) ∙ sym (outside image n at h)

@@ -39,11 +39,6 @@ module _ {A B : Type 0} (kind : EntryKind) (at : ℕ) (absent : A) (check : ℕ 
     unfolding run
     checked {e} h told = rw (← h) (ap (λ (q : Rules A). run q m) told)
 
-  -- what holds of the rules after the fetch, where it stops and where it goes on, holds of the stage, if a fetch keeps it
-  pub stage-cases : (P Q : Rules A → Type 0) → ((rest : ℕ → Rules A) → ((e : ℕ) → Q (rest e)) → P (fetch kind at absent rest))
-      → ((e reason : ℕ) → check e ≡ stop reason → Q (answer (stopped e reason))) → ((e : ℕ) (b : B) → check e ≡ go b → Q (next b)) → P this
-  stage-cases P Q read ended gone = read after (λ e. check-cases Q (check e) (stopped e) next (ended e) (gone e))
-
   -- what holds of each answer over a memory holds of the answer
   pub run-cases : (m : Memory) (P : A → Type 0) → P absent
       → ((e reason : ℕ) → entry (wordsOf kind) m at ≡ found e → check e ≡ stop reason → P (stopped e reason))

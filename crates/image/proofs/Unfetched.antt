@@ -8,7 +8,7 @@ use lib.ListN.{length}
 use Rattle.image.specs.EntryKind.{EntryKind, wordsOf}
 use Rattle.image.specs.Memory.{Memory, Fetched, missing, found, onFetch, ofImage, entry}
 use Rattle.image.specs.Rules.{Rules, answer, fetch, run, mapRules}
-use Rattle.image.specs.Unfetched.{Unfetched, EndsUnfetched, unfetched}
+use Rattle.image.specs.Unfetched.{EndsUnfetched, unfetched}
 use Rattle.image.proofs.Forks.{Every}
 use Rattle.image.proofs.Words.{inside}
 
@@ -29,16 +29,6 @@ unfolding Inside mapRules
 inside-map f Kind (answer a) h = h
 inside-map f Kind (fetch kind at outside next) h = λ e. inside-map f Kind (next e) (h e)
 
-past-end : (image : List ℕ) (words at : ℕ) → entry words (ofImage image) at ≡ missing → length image < at + 8 * words
-past-end image words at h = go (decLe (at + 8 * words) (length image))
-  where
-    go : Dec (at + 8 * words ≤ length image) → length image < at + 8 * words
-    go (yes whole) =
-        let there = inside image words at whole in
-        let z : _≡_ {A = ℕ} 0 1 = cc in
-        absurd (omega arith)
-    go (no out) = omega arith
-
 pub ends-unfetched : {A : Type 0} (Kind : A → Type 0) (m : Memory) (q : Rules A) → Inside Kind q → Kind (run q m) → EndsUnfetched q m
 unfolding Inside run unfetched
 ends-unfetched Kind m (answer a) h is = absurd (h is)
@@ -51,9 +41,3 @@ ends-unfetched {A} Kind m (fetch kind at outside next) h is =
     go (found e) told is ih =
         let u = ih e is in
         record { words = u .words; at = u .at; read = rw told (u .read); absent = u .absent }
-
-pub ended-outside : {A : Type 0} (Kind : A → Type 0) (image : List ℕ) (q : Rules A)
-    → Inside Kind q → Kind (run q (ofImage image)) → Unfetched q image
-ended-outside Kind image q h is =
-    let u = ends-unfetched Kind (ofImage image) q h is in
-    record { words = u .words; at = u .at; read = u .read; outside = past-end image (u .words) (u .at) (u .absent) }

@@ -295,11 +295,3 @@ module _ (numbers run : List ℕ) (fine : badWindows numbers (length run) ≡ fa
       go (here k l) is h =
           let lies = spot-in (length run) (windowsOf numbers) (8 * suc n) at (good numbers (length run) fine) is in
           record { place = k; left = l; spot = is; inRun = omega (arith, lies .0, lies .1); number = cc }
-
-  pub not-whole : entry (suc n) (ofWindows numbers run) at ≡ missing → spotIn (windowsOf numbers) (8 * suc n) at ≡ nowhere
-  unfolding entryIn
-  not-whole h = go (spotIn (windowsOf numbers) (8 * suc n) at) (sym (single numbers run fine n at page) ∙ h)
-    where
-      go : (spot : Spot) → onSpot spot missing (λ place left. found (littleEndian (take (8 * suc n) (drop place run)))) ≡ missing → spot ≡ nowhere
-      go nowhere h = refl
-      go (here k l) h = let z : _≡_ {A = ℕ} 0 1 = cc in absurd (omega arith)

@@ -1,10 +1,9 @@
 -- An entry that the rules read and couldn't fetch.
-use Prim.Native.Nat.{ℕ, _+_, _*_, _<_}
+use Prim.Native.Nat.{ℕ}
 use mathlib.Core.Path.{_≡_}
 use mathlib.Core.List.{List, [], _∷_}
-use lib.ListN.{length}
 use Rattle.image.specs.EntryKind.{wordsOf}
-use Rattle.image.specs.Memory.{Memory, missing, ofImage, entry, onFetch}
+use Rattle.image.specs.Memory.{Memory, missing, entry, onFetch}
 use Rattle.image.specs.Rules.{Rules, answer, fetch}
 
 -- the entries, each by its number of words and its address, that the rules read over a memory and couldn't fetch: none, or the one
@@ -20,10 +19,3 @@ pub record EndsUnfetched {A : Type 0} (q : Rules A) (m : Memory) : Type 0 where
   pub at : ℕ
   pub read : unfetched q m ≡ (words, at) ∷ []
   pub absent : entry words m at ≡ missing
-
--- the same of an image: a byte of the entry lies outside
-pub record Unfetched {A : Type 0} (q : Rules A) (image : List ℕ) : Type 0 where
-  pub words : ℕ
-  pub at : ℕ
-  pub read : unfetched q (ofImage image) ≡ (words, at) ∷ []
-  pub outside : length image < at + 8 * words

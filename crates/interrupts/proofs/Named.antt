@@ -128,14 +128,6 @@ module _ (registers : Registers) (request : InterruptRequest) (m : Memory) where
 pub none-before-table : NoneBeforeTable
 none-before-table registers request m = answered registers request m .1
 
-pub none-refused : (registers : Registers) (request : InterruptRequest) (m : Memory) (number : ℕ)
-    → run (interruptRules registers request) m ≡ refused number → named (interruptRules registers request) m ≡ []
-none-refused registers request m number e = none-before-table registers request m (rw e)
-
-pub none-passed : (registers : Registers) (request : InterruptRequest) (m : Memory)
-    → run (interruptRules registers request) m ≡ passed → named (interruptRules registers request) m ≡ []
-none-passed registers request m e = none-before-table registers request m (rw e)
-
 follows-eight : {l : List ℕ} → Follows l → length l ≤ 8
 unfolding wordsFrom
 follows-eight nothing = omega arith

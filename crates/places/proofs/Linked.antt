@@ -16,9 +16,6 @@ use Rattle.places.proofs.Chains.{age-lt, no-place, not-older, has-key, 
 pub place-age : (state : List ℕ) (p : ℕ) → p < 64 → placeOf state (ageOf state p) ≡ p
 place-age state p h = omega arith
 
-pub age-place : (state : List ℕ) (i : ℕ) → i < 64 → ageOf state (placeOf state i) ≡ i
-age-place state i h = omega arith
-
 -- the chain from a place, of ages of at least so many, leads to an age
 pub data Reach (state : List ℕ) (age : ℕ) : (least place : ℕ) → Type 0 where
   here : (least place : ℕ) → place < 64 → least ≤ ageOf state place → ageOf state place ≡ age → Reach state age least place

@@ -14,7 +14,6 @@ pub use page_size::Page1G;
 pub use page_size::Page2M;
 pub use page_size::Page4K;
 pub use power::at_or_above_power;
-pub use power::power_of_two;
 pub use source_id::SourceId;
 
 // The unit's registers, by value. Each may hold any value of its type; `bad` tells what the unit refuses.

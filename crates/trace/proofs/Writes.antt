@@ -23,15 +23,6 @@ or-right false b h = h
 
 -- what a writer that fits its buffer has
 module _ (w : Writer) (len : ℕ) (h : unfit w len ≡ false) where
-  sized-and-few : (not (eqb len 512) || leb 15 (w .count)) ≡ false
-  sized-and-few = or-left (not (eqb len 512) || leb 15 (w .count)) (leb (2 ^ 48) (w .number)) h
-
-  pub fit-length : len ≡ 512
-  fit-length = eqb-true len 512 (not-false _ (or-left (not (eqb len 512)) (leb 15 (w .count)) sized-and-few))
-
-  pub fit-count : w .count < 15
-  fit-count = leb-false 15 (w .count) (or-right (not (eqb len 512)) (leb 15 (w .count)) sized-and-few)
-
   pub fit-number : w .number < 2 ^ 48
   fit-number = leb-false (2 ^ 48) (w .number) (or-right (not (eqb len 512) || leb 15 (w .count)) (leb (2 ^ 48) (w .number)) h)
 
