@@ -67,17 +67,5 @@ pub galitzaf-build-spec : {M : Type 1} → statement M
 galitzaf-build-spec =
     tie.close
     (tie.spec
-    (λ c κs. search needs)
-    returns
-    returns-2
-    returns-3
-    returns-4
-    unpack-requires
-    (λ c κs. search needs)
-    (λ c κs. search needs)
-    tell-requires
-    (λ c. search needs)
-    (λ c. search needs)
-    (λ c. search needs)
-    (λ c. search needs)
-    returns-5)
+    (λ c κs. search needs) returns returns-2 returns-3 returns-4 unpack-requires (λ c κs. search needs) (λ c κs. search needs) tell-requires
+    (λ c. search needs) (λ c. search needs) (λ c. search needs) (λ c. search needs) returns-5)

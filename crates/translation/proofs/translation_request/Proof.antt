@@ -65,8 +65,8 @@ complete-requires c κs =
 answer-requires : tie.Need-answer-requires
 answer-requires c κs =
     let k = c .before .before .before .before in
-    let a = k .before .before .before .before .before .before .before .before .args in
     let taken = sym (ap admittedOf (c .before .before .enum-told2 .given .1)) ∙ k .admit .ensures in
+    let a = k .before .before .before .before .before .before .before .before .args in
     rw (c .complete .ensures .0) (reachable (a .registers) (a .request) (ofWindows (a .windows .now) (a .image .now)) (taken-root (a .registers) _ _ taken))
 
 returns-3 : tie.Need-returns-3
@@ -88,8 +88,8 @@ returns-5 c =
     let k = c .before .before .before .before .before in
     let a = k .before .before .before .before .before .before .before .before .args in
     let m = ofWindows (a .windows .now) (a .image .now) in
-    let kind = k .before .in-interrupt-range .ensures in
     let taken = sym (ap admittedOf (c .before .before .before .enum-told2 .given .1)) ∙ k .admit .ensures in
+    let kind = k .before .in-interrupt-range .ensures in
     let is = c .answer .ensures .0 ∙ ap (translationOutcome (a .request)) (c .before .complete .ensures .0) ∙ takes (a .registers) (a .request) m kind taken in
     let there = renamed (c .before .complete .result) (takes-at (a .registers) (a .request) m kind taken) (c .before .complete .ensures .1) in
     let says = translation-told (a .registers) (a .request) (a .windows .now) (a .image .now) (windows-good (k .before .before .before .before)) is in

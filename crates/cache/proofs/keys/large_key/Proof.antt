@@ -11,14 +11,15 @@ use Rattle.cache.proofs.keys.large_key.Lts as lts
 sub-result : tie.Need-sub-result
 sub-result c = search needs
 
-add-result : tie.Need-add-result
-add-result c =
-    omega (arith, level1-room (c .args .request .address) (c .args .request .source .id) (c .args .request .write) (c .pre .0) (omega arith), c .pre .1)
-
 returns : tie.Need-returns
 returns c =
     let r = c .args .request in
     rw (c .pre .1) (large-as (r .address) (r .source .id) (r .write) (c .pre .0) (omega arith))
 
 pub large-key-spec : {M : Type 1} → statement M
-large-key-spec = tie.close (tie.spec sub-result add-result returns)
+large-key-spec =
+    tie.close
+    (tie.spec
+    sub-result
+    (λ c. omega (arith, level1-room (c .args .request .address) (c .args .request .source .id) (c .args .request .write) (c .pre .0) (omega arith), c .pre .1))
+    returns)
