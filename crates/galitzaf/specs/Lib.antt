@@ -1,9 +1,7 @@
 pub mod Answer
 pub mod Buffer
-pub mod Caches
 pub mod Calls
 pub mod FirstBad
-pub mod Listing
 pub mod Meters
 pub mod Recording
 pub mod Registers

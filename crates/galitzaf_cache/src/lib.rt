@@ -2,7 +2,7 @@
 // object is one of its own. A miss goes by the lookup and the walk of memory requests, which the compiler puts into their callers only where
 // they have one.
 ghost use mathlib.Core.Path.{_≡_};
-ghost use Rattle.galitzaf.specs.Caches.{cachedCall, invalidateCall, invalidateDomainCall};
+ghost use Rattle.galitzaf_cache.specs.Caches.{cachedCall, invalidateCall, invalidateDomainCall};
 use cache::cached_request;
 use cache::invalidate_all;
 use cache::invalidate_domain;

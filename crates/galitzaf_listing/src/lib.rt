@@ -2,7 +2,7 @@
 // the compiler puts into its caller only where it has one.
 ghost use mathlib.Core.Path.{_≡_};
 ghost use Rattle.mapping.specs.Answers.{toldAs};
-ghost use Rattle.galitzaf.specs.Listing.{listingStatus, Few, listCall};
+ghost use Rattle.galitzaf_listing.specs.Listing.{listingStatus, Few, listCall};
 use galitzaf::BAD_REGISTERS;
 use galitzaf::BAD_WINDOWS;
 use galitzaf::malformed;

@@ -3,7 +3,7 @@ use Prim.Native.Nat.{ℕ}
 use mathlib.Core.Path.{_≡_, ap, sym, _∙_}
 use borrow.Author.Needs.{needs}
 use borrow.Author.Tests.{eq-eqb, ne-eqb, lt-ltb, le-ltb}
-use Rattle.galitzaf.specs.Caches.{cachedCall}
+use Rattle.galitzaf_cache.specs.Caches.{cachedCall}
 use Rattle.galitzaf_cache.proofs.galitzaf_cached_request.Statement.{statement}
 use Rattle.galitzaf_cache.proofs.galitzaf_cached_request.Tie as tie
 

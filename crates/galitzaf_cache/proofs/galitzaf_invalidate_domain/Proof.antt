@@ -1,7 +1,7 @@
 -- Each way out is a line of the definition.
 use borrow.Author.Needs.{needs}
 use borrow.Author.Tests.{eq-eqb, ne-eqb}
-use Rattle.galitzaf.specs.Caches.{invalidateDomainCall}
+use Rattle.galitzaf_cache.specs.Caches.{invalidateDomainCall}
 use Rattle.galitzaf_cache.proofs.galitzaf_invalidate_domain.Statement.{statement}
 use Rattle.galitzaf_cache.proofs.galitzaf_invalidate_domain.Tie as tie
 

@@ -6,7 +6,7 @@ use borrow.Author.Tests.{eq-eqb, ne-eqb}
 use Rattle.mapping.specs.Mapping.{Mapped, mappingAnswer}
 use Rattle.mapping.specs.Mapping as mapping
 use Rattle.mapping.specs.Told.{room, toldOf}
-use Rattle.galitzaf.specs.Listing.{Few, listCall}
+use Rattle.galitzaf_listing.specs.Listing.{Few, listCall}
 use borrow.Author.Needs.{needs}
 use Rattle.galitzaf_listing.proofs.galitzaf_list_spans.Statement.{statement}
 use Rattle.galitzaf_listing.proofs.galitzaf_list_spans.Tie as tie

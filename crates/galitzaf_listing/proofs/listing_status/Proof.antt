@@ -5,7 +5,7 @@ use native.Mathlib.Omega.{arith}
 use Rattle.mapping.specs.Answers.{toldAs}
 use Rattle.mapping.specs.declared.Listing.{Listing}
 use Rattle.mapping.specs.declared.Listing.the-variants.{Spans}
-use Rattle.galitzaf.specs.Listing.{listingStatus, Few}
+use Rattle.galitzaf_listing.specs.Listing.{listingStatus, Few}
 use borrow.Author.Needs.{needs}
 use Rattle.galitzaf_listing.proofs.listing_status.Statement.{statement}
 use Rattle.galitzaf_listing.proofs.listing_status.Tie as tie
