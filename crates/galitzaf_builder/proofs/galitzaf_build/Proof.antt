@@ -52,16 +52,8 @@ returns-5 c =
     let third = fourth .before in
     let second = third .before in
     let first = second .before in
-    rw (
-      ← first .before .malformed .ensures,
-      first .if1 .left,
-      eq-eqb _ _ (second .if2 .left),
-      eq-eqb _ _ (third .if3 .left),
-      eq-eqb _ _ (fourth .if4 .left),
-      ← u .unpack .ensures,
-      ← f .from-number .ensures,
-      ← b .build .ensures,
-    ) (ap (λ (p : ℕ × List ℕ). (p .0, lent (b .build .last .1 .1 .0) (b .build .last .1 .1 .1 .1 .1 .1 .1 .0) (b .build .last .1 .1 .1 .1 .1 .1 .1 .1 .0), p .1)) (t .tell .ensures))
+    rw (← first .before .malformed .ensures, first .if1 .left, eq-eqb _ _ (second .if2 .left), eq-eqb _ _ (third .if3 .left), eq-eqb _ _ (fourth .if4 .left), ← u .unpack .ensures, ← f .from-number .ensures, ← b .build .ensures)
+    (ap (λ (p : ℕ × List ℕ). (p .0, lent (b .build .last .1 .1 .0) (b .build .last .1 .1 .1 .1 .1 .1 .1 .0) (b .build .last .1 .1 .1 .1 .1 .1 .1 .1 .0), p .1)) (t .tell .ensures))
 
 pub galitzaf-build-spec : {M : Type 1} → statement M
 galitzaf-build-spec =
