@@ -68,21 +68,45 @@ returns-5 c =
     taken-said (a .registers) (a .request) (a .windows .now) (a .image .now) (sym (e .before .bad-windows .ensures) ∙ e .if1 .left) same
     (k .take-up .ensures .0) (k .take-up .ensures .1 .0) (k .take-up .ensures .1 .1)
 
+bad-windows-requires : tie.Need-bad-windows-requires
+bad-windows-requires c κs = search needs
+
+in-interrupt-range-requires : tie.Need-in-interrupt-range-requires
+in-interrupt-range-requires c κs = search needs
+
+admit-requires : tie.Need-admit-requires
+admit-requires c κs = search needs
+
+enum-known-number : tie.Need-enum-known-number
+enum-known-number c = search needs
+
+enum-told : tie.Need-enum-told
+enum-told c = search needs
+
+pasid-too-wide-requires : tie.Need-pasid-too-wide-requires
+pasid-too-wide-requires c κs = search needs
+
+enum-told-2 : tie.Need-enum-told-2
+enum-told-2 c = search needs
+
+same-length : tie.Need-same-length
+same-length c = search needs
+
 pub scalable-request-spec : {M : Type 1} → statement M
 scalable-request-spec =
     tie.close
     (tie.spec
-    (λ c κs. search needs)
+    bad-windows-requires
     returns
-    (λ c κs. search needs)
-    (λ c κs. search needs)
-    (λ c. search needs)
-    (λ c. search needs)
-    (λ c κs. search needs)
+    in-interrupt-range-requires
+    admit-requires
+    enum-known-number
+    enum-told
+    pasid-too-wide-requires
     returns-2
-    (λ c. search needs)
+    enum-told-2
     take-up-requires
     returns-3
     returns-4
-    (λ c. search needs)
+    same-length
     returns-5)

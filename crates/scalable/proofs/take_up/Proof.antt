@@ -50,17 +50,38 @@ returns-2 c =
       ),
     )
 
+pasid-too-wide-requires : tie.Need-pasid-too-wide-requires
+pasid-too-wide-requires c κs = search needs
+
+slice-aggregate-translate : tie.Need-slice-aggregate-translate
+slice-aggregate-translate c = search needs
+
+flags-to-set-requires : tie.Need-flags-to-set-requires
+flags-to-set-requires c κs = search needs
+
+slice-aggregate-set-flags : tie.Need-slice-aggregate-set-flags
+slice-aggregate-set-flags c = search needs
+
+set-flags-requires : tie.Need-set-flags-requires
+set-flags-requires c κs = search needs
+
+answer-requires : tie.Need-answer-requires
+answer-requires c κs = search needs
+
+same-length : tie.Need-same-length
+same-length c = search needs
+
 pub take-up-spec : {M : Type 1} → statement M
 take-up-spec =
     tie.close
     (tie.spec
-    (λ c κs. search needs)
+    pasid-too-wide-requires
     returns
-    (λ c. search needs)
+    slice-aggregate-translate
     translate-requires
-    (λ c κs. search needs)
-    (λ c. search needs)
-    (λ c κs. search needs)
-    (λ c κs. search needs)
-    (λ c. search needs)
+    flags-to-set-requires
+    slice-aggregate-set-flags
+    set-flags-requires
+    answer-requires
+    same-length
     returns-2)

@@ -44,14 +44,26 @@ returns-3 c =
       rw (c .if2 .left) (omega (arith, f .push .ensures .0), omega (arith, f .push .ensures .0)),
     )
 
+push-requires : tie.Need-push-requires
+push-requires c κs = search needs
+
+push-requires-2 : tie.Need-push-requires-2
+push-requires-2 c κs = search needs
+
+same-length : tie.Need-same-length
+same-length c = search needs
+
+same-length-2 : tie.Need-same-length-2
+same-length-2 c = search needs
+
 pub collect-spec : {M : Type 1} → statement M
 collect-spec =
     tie.close
     (tie.spec
     returns
-    (λ c κs. search needs)
-    (λ c κs. search needs)
-    (λ c. search needs)
+    push-requires
+    push-requires-2
+    same-length
     returns-2
-    (λ c. search needs)
+    same-length-2
     returns-3)

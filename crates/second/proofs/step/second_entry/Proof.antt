@@ -45,22 +45,61 @@ returns-2 c =
       (subst (λ (p : Place). StepNames (k .second-step .result) p) (there s) (k .second-step .ensures .1 .0), k .second-step .ensures .1 .1),
     )
 
+mul-offset : tie.Need-mul-offset
+mul-offset c = search needs
+
+add-offset : tie.Need-add-offset
+add-offset c = search needs
+
+cast-offset : tie.Need-cast-offset
+cast-offset c = search needs
+
+shr-offset : tie.Need-shr-offset
+shr-offset c = search needs
+
+mul-offset-2 : tie.Need-mul-offset-2
+mul-offset-2 c = search needs
+
+add-at : tie.Need-add-at
+add-at c = search needs
+
+page-entry8-requires : tie.Need-page-entry8-requires
+page-entry8-requires c κs = search needs
+
+enum-known-e : tie.Need-enum-known-e
+enum-known-e c = search needs
+
+enum-told : tie.Need-enum-told
+enum-told c = search needs
+
+unfetchable-requires : tie.Need-unfetchable-requires
+unfetchable-requires c κs = search needs
+
+add-second-step : tie.Need-add-second-step
+add-second-step c = search needs
+
+second-step-requires : tie.Need-second-step-requires
+second-step-requires c κs = search needs
+
+same-length : tie.Need-same-length
+same-length c = search needs
+
 pub second-entry-spec : {M : Type 1} → statement M
 second-entry-spec =
     tie.close
     (tie.spec
-    (λ c. search needs)
-    (λ c. search needs)
-    (λ c. search needs)
-    (λ c. search needs)
-    (λ c. search needs)
-    (λ c. search needs)
-    (λ c κs. search needs)
-    (λ c. search needs)
-    (λ c. search needs)
-    (λ c κs. search needs)
+    mul-offset
+    add-offset
+    cast-offset
+    shr-offset
+    mul-offset-2
+    add-at
+    page-entry8-requires
+    enum-known-e
+    enum-told
+    unfetchable-requires
     returns
-    (λ c. search needs)
-    (λ c κs. search needs)
-    (λ c. search needs)
+    add-second-step
+    second-step-requires
+    same-length
     returns-2)

@@ -51,24 +51,54 @@ returns-7 c =
     let k = c .before .before .collect2 .ensures in
     (rw (← t .before .before .before .before .before .before .before .before .before .before .before .before .before .before .before .field .ensures, ← t .before .before .before .before .before .before .before .before .before .before .before .before .before .before .field2 .ensures, t .before .before .before .before .before .before .before .before .before .before .before .if1 .left, ← t .before .before .before .before .before .before .before .before .before .before .page-reserved .ensures, t .before .before .before .before .before .before .before .before .before .if2 .left, ← t .before .before .before .before .before .before .before .before .flags-not-snooped .ensures, t .before .before .before .before .before .before .before .if3 .left, t .before .before .before .before .before .if4 .left, t .before .before .before .if5 .left, ← t .before .is-leaf .ensures, t .if6 .left, ← t .before .before .in-place .ensures, k .0), (refl, (tt, k .1)))
 
+field-requires : tie.Need-field-requires
+field-requires c κs = search needs
+
+field-requires-2 : tie.Need-field-requires-2
+field-requires-2 c κs = search needs
+
+page-reserved-requires : tie.Need-page-reserved-requires
+page-reserved-requires c κs = search needs
+
+flags-not-snooped-requires : tie.Need-flags-not-snooped-requires
+flags-not-snooped-requires c κs = search needs
+
+in-place-requires : tie.Need-in-place-requires
+in-place-requires c κs = search needs
+
+is-leaf-requires : tie.Need-is-leaf-requires
+is-leaf-requires c κs = search needs
+
+collect-requires : tie.Need-collect-requires
+collect-requires c κs = search needs
+
+same-length : tie.Need-same-length
+same-length c = search needs
+
+collect-requires-2 : tie.Need-collect-requires-2
+collect-requires-2 c κs = search needs
+
+same-length-2 : tie.Need-same-length-2
+same-length-2 c = search needs
+
 pub second-step-spec : {M : Type 1} → statement M
 second-step-spec =
     tie.close
     (tie.spec
-    (λ c κs. search needs)
-    (λ c κs. search needs)
+    field-requires
+    field-requires-2
     returns
-    (λ c κs. search needs)
+    page-reserved-requires
     returns-2
-    (λ c κs. search needs)
+    flags-not-snooped-requires
     returns-3
     returns-4
     returns-5
-    (λ c κs. search needs)
-    (λ c κs. search needs)
-    (λ c κs. search needs)
-    (λ c. search needs)
+    in-place-requires
+    is-leaf-requires
+    collect-requires
+    same-length
     returns-6
-    (λ c κs. search needs)
-    (λ c. search needs)
+    collect-requires-2
+    same-length-2
     returns-7)

@@ -137,6 +137,24 @@ same-length c = c .before .before .before .before .flags .given ∙ c .before .b
 same-length-2 : tie.Need-same-length-2 Inv-loop μ-loop
 same-length-2 c = c .before .before .before .before .flags .given ∙ c .before .before .before .before .before .before .before .before .loop .inv .6
 
+sub-second-entry : tie.Need-sub-second-entry Inv-loop μ-loop
+sub-second-entry c = search needs
+
+enum-known-step : tie.Need-enum-known-step Inv-loop μ-loop
+enum-known-step c = search needs
+
+enum-known-step-2 : tie.Need-enum-known-step-2 Inv-loop μ-loop
+enum-known-step-2 c = search needs
+
+enum-known-step-3 : tie.Need-enum-known-step-3 Inv-loop μ-loop
+enum-known-step-3 c = search needs
+
+sub-level : tie.Need-sub-level Inv-loop μ-loop
+sub-level c = search needs
+
+loop-less : tie.Need-loop-less Inv-loop μ-loop
+loop-less c = search needs
+
 pub second-walk-spec : {M : Type 1} → statement M
 second-walk-spec =
     tie.close
@@ -144,17 +162,17 @@ second-walk-spec =
     Inv-loop
     μ-loop
     loop-holds
-    (λ c. search needs)
+    sub-second-entry
     second-entry-requires
-    (λ c. search needs)
+    enum-known-step
     same-length
     returns
-    (λ c. search needs)
+    enum-known-step-2
     same-length-2
     returns-2
-    (λ c. search needs)
-    (λ c. search needs)
-    (λ c. search needs)
+    enum-known-step-3
+    sub-level
+    loop-less
     loop-again
     same-length-3
     returns-3)
