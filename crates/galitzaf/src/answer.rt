@@ -5,9 +5,11 @@ ghost use Prim.Native.Nat.{_<_};
 ghost use lib.ListN.{length};
 ghost use Rattle.image.specs.Bytes.{bytesOf};
 ghost use Rattle.image.specs.Entries.{spell, placeOf};
+ghost use Rattle.image.specs.Place.{noEntry};
 ghost use Rattle.faults.specs.Answers.{faultOf};
 ghost use Rattle.faults.specs.Slots.{one-if};
 ghost use Rattle.dma.specs.Answers as dma;
+ghost use Rattle.dma.specs.Requests.{granted};
 ghost use Rattle.interrupts.specs.Answers as interrupts;
 ghost use Rattle.interrupts.specs.Answers.{dueOf};
 ghost use Rattle.irte.specs.Answers.{remappedOf};
@@ -69,25 +71,41 @@ pub fn short(head: u64) -> Packed
 }
 
 // Byte 3 tells whether the last word is an entry's address.
+pub fn pack_blocked(reason: u8, recordable: bool, low: u64, high: u64, entry: EntryAddress) -> Packed
+    ensures { λ r. ⌜ bytesOfPacked r ≡ blockedBytes (record { reason = reason; recordable = recordable; contents = spell (low ∷ high ∷ []) }) (placeOf entry) ⌝ }
+{
+    let told = flag(recordable);
+    match entry {
+        EntryAddress::NoEntry => Packed {
+            head: head(BLOCKED, reason, told, 0, 0),
+            low,
+            high,
+            last: 0,
+        },
+        EntryAddress::At(at) => Packed {
+            head: head(BLOCKED, reason, told, 1, 0),
+            low,
+            high,
+            last: at,
+        },
+    }
+}
+
 pub fn pack_fault(fault: Fault, entry: EntryAddress) -> Packed
     ensures { λ r. ⌜ bytesOfPacked r ≡ blockedBytes (faultOf fault) (placeOf entry) ⌝ }
 {
     let reason = fault.reason;
-    let number = reason.number();
-    let recordable = flag(fault.recordable);
-    match entry {
-        EntryAddress::NoEntry => Packed {
-            head: head(BLOCKED, number, recordable, 0, 0),
-            low: fault.low,
-            high: fault.high,
-            last: 0,
-        },
-        EntryAddress::At(at) => Packed {
-            head: head(BLOCKED, number, recordable, 1, 0),
-            low: fault.low,
-            high: fault.high,
-            last: at,
-        },
+    pack_blocked(reason.number(), fault.recordable, fault.low, fault.high, entry)
+}
+
+pub fn pack_granted(address: u64) -> Packed
+    ensures { λ r. ⌜ bytesOfPacked r ≡ memoryBytes (granted address) noEntry ⌝ }
+{
+    Packed {
+        head: head(GRANTED, 0, 0, 0, 0),
+        low: address,
+        high: 0,
+        last: 0,
     }
 }
 
@@ -101,12 +119,7 @@ pub fn pack_memory(answer: MemoryAnswer) -> Packed
     ensures { λ r. ⌜ bytesOfPacked r ≡ memoryBytes (dma.outcomeOf answer) (dma.entryOf answer) ⌝ }
 {
     match answer {
-        MemoryAnswer::Granted(address) => Packed {
-            head: head(GRANTED, 0, 0, 0, 0),
-            low: address,
-            high: 0,
-            last: 0,
-        },
+        MemoryAnswer::Granted(address) => pack_granted(address),
         MemoryAnswer::Blocked(fault, entry) => pack_fault(fault, entry),
         MemoryAnswer::Refused(number) => pack_refusal(number),
     }

@@ -10,11 +10,14 @@ mod taking;
 mod traces;
 mod unpacking;
 
+// For the calls that crates of their own export.
 pub use answer::PASSED;
 pub use answer::Packed;
 pub use answer::flag;
 pub use answer::head;
+pub use answer::pack_blocked;
 pub use answer::pack_fault;
+pub use answer::pack_granted;
 pub use answer::pack_memory;
 pub use answer::pack_refusal;
 pub use answer::short;
@@ -27,7 +30,6 @@ pub use recorder::galitzaf_clear_slot;
 pub use recorder::galitzaf_record;
 pub use requests::galitzaf_interrupt_request;
 pub use requests::galitzaf_memory_request;
-// For the calls that crates of their own export.
 pub use status::BAD_ANSWER;
 pub use status::BAD_KIND;
 pub use status::BAD_REGISTERS;

@@ -2,45 +2,8 @@ use borrow.Author.Needs.{needs}
 use Rattle.galitzaf.proofs.answer.pack_fault.Statement.{statement}
 use Rattle.galitzaf.proofs.answer.pack_fault.Tie as tie
 
-number-requires : tie.Need-number-requires
-number-requires c κs = search needs
-
-flag-requires : tie.Need-flag-requires
-flag-requires c κs = search needs
-
-enum-told : tie.Need-enum-told
-enum-told c = search needs
-
-head-requires : tie.Need-head-requires
-head-requires c κs = search needs
-
-enum-known-entry : tie.Need-enum-known-entry
-enum-known-entry c = search needs
-
-head-requires-2 : tie.Need-head-requires-2
-head-requires-2 c κs = search needs
-
 returns : tie.Need-returns
-returns c =
-    let told = c .before in
-    let f = told .before .before in
-    rw (c .head .ensures, f .flag .ensures .0, f .before .number .ensures, told .enum-told .given .1)
-
-returns-2 : tie.Need-returns-2
-returns-2 c =
-    let told = c .before .before in
-    let f = told .before .before in
-    rw (c .head2 .ensures, f .flag .ensures .0, f .before .number .ensures, told .entry .given .1)
+returns c = rw (c .pack-blocked .ensures, c .before .number .ensures)
 
 pub pack-fault-spec : {M : Type 1} → statement M
-pack-fault-spec =
-    tie.close
-    (tie.spec
-    number-requires
-    flag-requires
-    enum-told
-    head-requires
-    enum-known-entry
-    head-requires-2
-    returns
-    returns-2)
+pack-fault-spec = tie.close (tie.spec (λ c κs. search needs) (λ c κs. search needs) returns)

@@ -2,7 +2,6 @@ use mathlib.Core.Path.{ap, sym, _∙_}
 use Rattle.dma.specs.Answers.{outcomeOf, entryOf}
 use Rattle.dma.specs.declared.MemoryAnswer.{MemoryAnswer}
 use Rattle.galitzaf.specs.Answer.{memoryBytes}
-use Rattle.galitzaf.proofs.FourWords.{low-alone}
 use borrow.Author.Needs.{needs}
 use Rattle.galitzaf.proofs.answer.pack_memory.Statement.{statement}
 use Rattle.galitzaf.proofs.answer.pack_memory.Tie as tie
@@ -10,8 +9,8 @@ use Rattle.galitzaf.proofs.answer.pack_memory.Tie as tie
 enum-known-answer : tie.Need-enum-known-answer
 enum-known-answer c = search needs
 
-head-requires : tie.Need-head-requires
-head-requires c κs = search needs
+pack-granted-requires : tie.Need-pack-granted-requires
+pack-granted-requires c κs = search needs
 
 enum-known-answer-2 : tie.Need-enum-known-answer-2
 enum-known-answer-2 c = search needs
@@ -26,9 +25,7 @@ pack-refusal-requires : tie.Need-pack-refusal-requires
 pack-refusal-requires c κs = search needs
 
 returns : tie.Need-returns
-returns c =
-    rw (c .head .ensures, low-alone)
-    (sym (ap (λ (a : MemoryAnswer). memoryBytes (outcomeOf a) (entryOf a)) (c .before .before .answer .given .1)))
+returns c = c .pack-granted .ensures ∙ sym (ap (λ (a : MemoryAnswer). memoryBytes (outcomeOf a) (entryOf a)) (c .before .before .answer .given .1))
 
 returns-2 : tie.Need-returns-2
 returns-2 c = c .pack-fault .ensures ∙ sym (ap (λ (a : MemoryAnswer). memoryBytes (outcomeOf a) (entryOf a)) (c .before .before .answer2 .given .1))
@@ -41,7 +38,7 @@ pack-memory-spec =
     tie.close
     (tie.spec
     enum-known-answer
-    head-requires
+    pack-granted-requires
     enum-known-answer-2
     pack-fault-requires
     enum-known-answer-3
