@@ -206,6 +206,39 @@ extern "C" {
 #define GALITZAF_REASON_SOURCE_REJECTED 0x26
 #define GALITZAF_REASON_DESCRIPTOR_ACCESS 0x27
 #define GALITZAF_REASON_DESCRIPTOR_RESERVED 0x28
+/* Of requests in scalable mode. */
+#define GALITZAF_REASON_SCALABLE_ROOT_ACCESS 0x38
+#define GALITZAF_REASON_SCALABLE_ROOT_NOT_PRESENT 0x39
+#define GALITZAF_REASON_SCALABLE_ROOT_RESERVED 0x3A
+#define GALITZAF_REASON_SCALABLE_CONTEXT_ACCESS 0x40
+#define GALITZAF_REASON_SCALABLE_CONTEXT_NOT_PRESENT 0x41
+#define GALITZAF_REASON_SCALABLE_CONTEXT_RESERVED 0x42
+#define GALITZAF_REASON_SCALABLE_CONTEXT_INVALID 0x43
+#define GALITZAF_REASON_PASID_DISABLED 0x45
+#define GALITZAF_REASON_PASID_OUT_OF_RANGE 0x46
+#define GALITZAF_REASON_PASID_DIRECTORY_ACCESS 0x50
+#define GALITZAF_REASON_PASID_DIRECTORY_NOT_PRESENT 0x51
+#define GALITZAF_REASON_PASID_DIRECTORY_RESERVED 0x52
+#define GALITZAF_REASON_PASID_TABLE_ACCESS 0x58
+#define GALITZAF_REASON_PASID_TABLE_NOT_PRESENT 0x59
+#define GALITZAF_REASON_PASID_TABLE_RESERVED 0x5A
+#define GALITZAF_REASON_PASID_TABLE_INVALID 0x5B
+#define GALITZAF_REASON_SUPERVISOR_DENIED 0x5D
+#define GALITZAF_REASON_FIRST_LEVEL_ACCESS 0x70
+#define GALITZAF_REASON_FIRST_LEVEL_NOT_PRESENT 0x71
+#define GALITZAF_REASON_FIRST_LEVEL_RESERVED 0x72
+#define GALITZAF_REASON_FIRST_LEVEL_TOP_ACCESS 0x73
+#define GALITZAF_REASON_INTERMEDIATE_OVERFLOW 0x74
+#define GALITZAF_REASON_SECOND_LEVEL_ACCESS 0x78
+#define GALITZAF_REASON_SECOND_LEVEL_NOT_PRESENT 0x79
+#define GALITZAF_REASON_SECOND_LEVEL_RESERVED 0x7A
+#define GALITZAF_REASON_SECOND_LEVEL_TOP_ACCESS 0x7B
+#define GALITZAF_REASON_FLAGS_NOT_SNOOPED 0x7C
+#define GALITZAF_REASON_NOT_CANONICAL 0x80
+#define GALITZAF_REASON_USER_DENIED 0x81
+#define GALITZAF_REASON_SCALABLE_ADDRESS_OVERFLOW 0x84
+#define GALITZAF_REASON_SCALABLE_WRITE_DENIED 0x85
+#define GALITZAF_REASON_SCALABLE_READ_DENIED 0x86
 
 /* Refusals, byte 1 of a REFUSED answer. None is a fault: nothing was changed and nothing is to be recorded, so drop the
  * request. What else to do:
@@ -215,11 +248,13 @@ extern "C" {
  *   2  An access in FEE00000h to FEEFFFFFh is an interrupt and goes to galitzaf_interrupt_request, any other to the two
  *      other calls. Where that was so, log the device: it read from that range, or its message lies outside.
  *   4  Log the device and its address: its tables map a page onto the interrupt range.
+ *   6  No device can send such a PASID: the caller's own mistake.
  *
  * Refusals 3 and 5 are no answers of requests: the recorder and a take answer GALITZAF_REFUSED_3 and _5, below. */
 #define GALITZAF_REFUSAL_BAD_REGISTERS 1            /* a register outside its list, or windows that aren't as said above */
 #define GALITZAF_REFUSAL_WRONG_ADDRESS 2            /* an address of the other kind of request */
 #define GALITZAF_REFUSAL_PAGE_IN_INTERRUPT_RANGE 4  /* a walk that ended on FEE00000h to FEEFFFFFh */
+#define GALITZAF_REFUSAL_PASID_TOO_WIDE 6           /* a PASID of more than 20 bits */
 
 /* Fault records: 8, 16, 32, 64, 128 or 256 slots of 16 bytes; the buffer's length says how many. The
  * recorder's state: byte 0 the next slot, byte 1 overflow (0 or 1). */
@@ -280,7 +315,7 @@ extern "C" {
 #define GALITZAF_BAD_REGISTERS 0x101 /* not 24 bytes, or a bit set that has to be zero */
 #define GALITZAF_BAD_ANSWER 0x102    /* not 32 bytes, or, to be recorded, of no kind above, or, to be traced, no
                                         answer to a request of this kind */
-#define GALITZAF_BAD_KIND 0x103      /* write is neither 0 nor 1 */
+#define GALITZAF_BAD_KIND 0x103      /* write is neither 0 nor 1, or kind is above 3 */
 #define GALITZAF_BAD_RECORDER 0x104  /* overflow is neither 0 nor 1 */
 #define GALITZAF_BAD_WINDOWS 0x105   /* the count of numbers is no multiple of three */
 #define GALITZAF_BAD_METERS 0x106    /* parts of different lengths, or a kind above 2 */
@@ -313,6 +348,32 @@ uint32_t galitzaf_translation_request(const uint8_t *registers, size_t registers
                                       const uint8_t *image, size_t image_len,
                                       uint16_t source, uint64_t address,
                                       uint8_t *answer, size_t answer_len);
+
+/* Where an untranslated request may go in scalable mode. The registers are as above, with levels and page sizes those of the
+ * second level; capabilities has a bit for what else the unit supports, and any other bit is a malformed register. kind
+ * tells a write and whether the request has a PASID; without one the number isn't looked at. A granted request sets the
+ * accessed and dirty flags of the page table entries that it went through, in the run; any other answer leaves it as it
+ * came. Reasons 38h to 86h, refusals 1, 2, 4 and 6. */
+#define GALITZAF_FLTS 0x001   /* first-level translation */
+#define GALITZAF_SLTS 0x002   /* second-level translation */
+#define GALITZAF_NEST 0x004   /* nested translation */
+#define GALITZAF_PT 0x008     /* pass-through */
+#define GALITZAF_FL5LP 0x010  /* 5 levels in the first level */
+#define GALITZAF_FL1GP 0x020  /* 1 GiB pages in the first level */
+#define GALITZAF_SLADS 0x040  /* accessed and dirty flags in the second level */
+#define GALITZAF_EAFS 0x080   /* extended accessed flags in the first level */
+#define GALITZAF_SRS 0x100    /* supervisor requests */
+#define GALITZAF_SMPWC 0x200  /* coherent page walks */
+
+#define GALITZAF_KIND_WRITE 0x01
+#define GALITZAF_KIND_PASID 0x02
+
+GALITZAF_CHECK
+uint32_t galitzaf_scalable_request(const uint8_t *registers, size_t registers_len, uint32_t capabilities,
+                                   const uint64_t *windows, size_t windows_len,
+                                   uint8_t *image, size_t image_len,
+                                   uint16_t source, uint64_t address, uint8_t kind, uint32_t pasid,
+                                   uint8_t *answer, size_t answer_len);
 
 /* What becomes of an interrupt message. A posted one changes two bits of the run at most, in the window that
  * holds the descriptor; any other answer leaves it as it came. */

@@ -45,6 +45,38 @@ static inline const char *galitzaf_reason_text(uint8_t reason)
     case GALITZAF_REASON_SOURCE_REJECTED: return "interrupt source rejected";
     case GALITZAF_REASON_DESCRIPTOR_ACCESS: return "posted descriptor not fetched";
     case GALITZAF_REASON_DESCRIPTOR_RESERVED: return "reserved bit set in posted descriptor";
+    case GALITZAF_REASON_SCALABLE_ROOT_ACCESS: return "scalable root entry not fetched";
+    case GALITZAF_REASON_SCALABLE_ROOT_NOT_PRESENT: return "scalable root entry not present";
+    case GALITZAF_REASON_SCALABLE_ROOT_RESERVED: return "reserved bit set in scalable root entry";
+    case GALITZAF_REASON_SCALABLE_CONTEXT_ACCESS: return "scalable context entry not fetched";
+    case GALITZAF_REASON_SCALABLE_CONTEXT_NOT_PRESENT: return "scalable context entry not present";
+    case GALITZAF_REASON_SCALABLE_CONTEXT_RESERVED: return "reserved bit set in scalable context entry";
+    case GALITZAF_REASON_SCALABLE_CONTEXT_INVALID: return "scalable context entry invalid";
+    case GALITZAF_REASON_PASID_DISABLED: return "request with PASID disabled";
+    case GALITZAF_REASON_PASID_OUT_OF_RANGE: return "PASID beyond directory";
+    case GALITZAF_REASON_PASID_DIRECTORY_ACCESS: return "PASID directory entry not fetched";
+    case GALITZAF_REASON_PASID_DIRECTORY_NOT_PRESENT: return "PASID directory entry not present";
+    case GALITZAF_REASON_PASID_DIRECTORY_RESERVED: return "reserved bit set in PASID directory entry";
+    case GALITZAF_REASON_PASID_TABLE_ACCESS: return "PASID table entry not fetched";
+    case GALITZAF_REASON_PASID_TABLE_NOT_PRESENT: return "PASID table entry not present";
+    case GALITZAF_REASON_PASID_TABLE_RESERVED: return "reserved bit set in PASID table entry";
+    case GALITZAF_REASON_PASID_TABLE_INVALID: return "PASID table entry invalid";
+    case GALITZAF_REASON_SUPERVISOR_DENIED: return "supervisor request denied";
+    case GALITZAF_REASON_FIRST_LEVEL_ACCESS: return "first-level entry not fetched";
+    case GALITZAF_REASON_FIRST_LEVEL_NOT_PRESENT: return "first-level entry not present";
+    case GALITZAF_REASON_FIRST_LEVEL_RESERVED: return "reserved bit set in first-level entry";
+    case GALITZAF_REASON_FIRST_LEVEL_TOP_ACCESS: return "top first-level entry not fetched";
+    case GALITZAF_REASON_INTERMEDIATE_OVERFLOW: return "intermediate address beyond guest width";
+    case GALITZAF_REASON_SECOND_LEVEL_ACCESS: return "second-level entry not fetched";
+    case GALITZAF_REASON_SECOND_LEVEL_NOT_PRESENT: return "second-level entry without rights";
+    case GALITZAF_REASON_SECOND_LEVEL_RESERVED: return "reserved bit set in second-level entry";
+    case GALITZAF_REASON_SECOND_LEVEL_TOP_ACCESS: return "top second-level entry not fetched";
+    case GALITZAF_REASON_FLAGS_NOT_SNOOPED: return "flag to set in a walk not snooped";
+    case GALITZAF_REASON_NOT_CANONICAL: return "address not canonical";
+    case GALITZAF_REASON_USER_DENIED: return "user access denied";
+    case GALITZAF_REASON_SCALABLE_ADDRESS_OVERFLOW: return "address beyond second-level width";
+    case GALITZAF_REASON_SCALABLE_WRITE_DENIED: return "write permission missing in scalable mode";
+    case GALITZAF_REASON_SCALABLE_READ_DENIED: return "read permission missing in scalable mode";
     default: return "unknown reason";
     }
 }
@@ -58,6 +90,7 @@ static inline const char *galitzaf_refusal_text(uint32_t refusal)
     case GALITZAF_REFUSED_3: return "bad recorder, record buffer or slot";
     case GALITZAF_REFUSAL_PAGE_IN_INTERRUPT_RANGE: return "page in the interrupt range";
     case GALITZAF_REFUSED_5: return "descriptor misaligned or outside memory";
+    case GALITZAF_REFUSAL_PASID_TOO_WIDE: return "PASID of more than 20 bits";
     default: return "unknown refusal";
     }
 }

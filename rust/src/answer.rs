@@ -28,6 +28,8 @@ pub enum Refusal {
     PageInInterruptRange,
     /// 5: a descriptor to take from isn't 64-aligned, or doesn't lie whole in one window.
     BadDescriptor,
+    /// 6: a PASID of more than 20 bits.
+    PasidTooWide,
     /// A number that this version doesn't name. Number 0 is for an archive that doesn't keep to the
     /// header this crate was written for, so that even then nothing is granted or delivered.
     Other(u8),
@@ -44,6 +46,7 @@ impl Refusal {
             Self::BadRecorder => 3,
             Self::PageInInterruptRange => 4,
             Self::BadDescriptor => 5,
+            Self::PasidTooWide => 6,
             Self::Other(number) => number,
         }
     }
@@ -57,6 +60,7 @@ impl From<u8> for Refusal {
             3 => Self::BadRecorder,
             4 => Self::PageInInterruptRange,
             5 => Self::BadDescriptor,
+            6 => Self::PasidTooWide,
             _ => Self::Other(number),
         }
     }
@@ -72,6 +76,7 @@ impl fmt::Display for Refusal {
             Self::BadDescriptor => {
                 f.write_str("refusal 5: descriptor misaligned or outside memory")
             }
+            Self::PasidTooWide => f.write_str("refusal 6: PASID of more than 20 bits"),
             Self::Other(number) => write!(f, "refusal {number}"),
         }
     }

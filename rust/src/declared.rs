@@ -42,6 +42,20 @@ pub const GRANTED: u8 = 6;
 pub const TRANSLATED: u8 = 7;
 pub const EMPTY: u8 = 8;
 
+pub const FLTS: u32 = 0x001;
+pub const SLTS: u32 = 0x002;
+pub const NEST: u32 = 0x004;
+pub const PT: u32 = 0x008;
+pub const FL5LP: u32 = 0x010;
+pub const FL1GP: u32 = 0x020;
+pub const SLADS: u32 = 0x040;
+pub const EAFS: u32 = 0x080;
+pub const SRS: u32 = 0x100;
+pub const SMPWC: u32 = 0x200;
+
+pub const KIND_WRITE: u8 = 0x01;
+pub const KIND_PASID: u8 = 0x02;
+
 pub const OK: u32 = 0x00;
 pub const REFUSED_3: u32 = 0x03;
 pub const NO_FAULT: u32 = 0x10;
@@ -115,6 +129,22 @@ extern "C" {
         image_len: usize,
         source: u16,
         address: u64,
+        answer: *mut u8,
+        answer_len: usize,
+    ) -> u32;
+
+    pub fn galitzaf_scalable_request(
+        registers: *const u8,
+        registers_len: usize,
+        capabilities: u32,
+        windows: *const u64,
+        windows_len: usize,
+        image: *mut u8,
+        image_len: usize,
+        source: u16,
+        address: u64,
+        kind: u8,
+        pasid: u32,
         answer: *mut u8,
         answer_len: usize,
     ) -> u32;

@@ -103,6 +103,70 @@ reasons! {
     DescriptorAccess = 0x27, "posted descriptor not fetched";
     /// 28h: a reserved bit of the posted interrupt descriptor is set.
     DescriptorReserved = 0x28, "reserved bit set in posted descriptor";
+    /// 38h, scalable mode: the root entry can't be fetched.
+    ScalableRootAccess = 0x38, "scalable root entry not fetched";
+    /// 39h, scalable mode: the half of the root entry isn't present.
+    ScalableRootNotPresent = 0x39, "scalable root entry not present";
+    /// 3Ah, scalable mode: a reserved bit of a present half of the root entry is set.
+    ScalableRootReserved = 0x3A, "reserved bit set in scalable root entry";
+    /// 40h, scalable mode: the context entry can't be fetched.
+    ScalableContextAccess = 0x40, "scalable context entry not fetched";
+    /// 41h, scalable mode: the context entry isn't present.
+    ScalableContextNotPresent = 0x41, "scalable context entry not present";
+    /// 42h, scalable mode: a reserved bit of the context entry is set.
+    ScalableContextReserved = 0x42, "reserved bit set in scalable context entry";
+    /// 43h, scalable mode: the context entry has PRE without DTE, or its RID_PASID is beyond the directory.
+    ScalableContextInvalid = 0x43, "scalable context entry invalid";
+    /// 45h, scalable mode: the context entry doesn't allow requests with a PASID.
+    PasidDisabled = 0x45, "request with PASID disabled";
+    /// 46h, scalable mode: the PASID is beyond the directory.
+    PasidOutOfRange = 0x46, "PASID beyond directory";
+    /// 50h, scalable mode: the PASID directory entry can't be fetched.
+    PasidDirectoryAccess = 0x50, "PASID directory entry not fetched";
+    /// 51h, scalable mode: the PASID directory entry isn't present.
+    PasidDirectoryNotPresent = 0x51, "PASID directory entry not present";
+    /// 52h, scalable mode: a reserved bit of the PASID directory entry is set.
+    PasidDirectoryReserved = 0x52, "reserved bit set in PASID directory entry";
+    /// 58h, scalable mode: the PASID table entry can't be fetched.
+    PasidTableAccess = 0x58, "PASID table entry not fetched";
+    /// 59h, scalable mode: the PASID table entry isn't present.
+    PasidTableNotPresent = 0x59, "PASID table entry not present";
+    /// 5Ah, scalable mode: a reserved bit of the PASID table entry is set.
+    PasidTableReserved = 0x5A, "reserved bit set in PASID table entry";
+    /// 5Bh, scalable mode: the PASID table entry has an unsupported type (PGTT) or width (AW, FLPM).
+    PasidTableInvalid = 0x5B, "PASID table entry invalid";
+    /// 5Dh, scalable mode: the PASID table entry doesn't allow privileged requests.
+    SupervisorDenied = 0x5D, "supervisor request denied";
+    /// 70h, scalable mode: a first-level entry below the top can't be fetched.
+    FirstLevelAccess = 0x70, "first-level entry not fetched";
+    /// 71h, scalable mode: a first-level entry isn't present.
+    FirstLevelNotPresent = 0x71, "first-level entry not present";
+    /// 72h, scalable mode: a reserved bit of a first-level entry is set.
+    FirstLevelReserved = 0x72, "reserved bit set in first-level entry";
+    /// 73h, scalable mode: the top first-level entry can't be fetched.
+    FirstLevelTopAccess = 0x73, "top first-level entry not fetched";
+    /// 74h, scalable mode: nested: an intermediate address is beyond the guest width.
+    IntermediateOverflow = 0x74, "intermediate address beyond guest width";
+    /// 78h, scalable mode: a second-level entry below the top can't be fetched.
+    SecondLevelAccess = 0x78, "second-level entry not fetched";
+    /// 79h, scalable mode: no right is left in a second-level entry.
+    SecondLevelNotPresent = 0x79, "second-level entry without rights";
+    /// 7Ah, scalable mode: a reserved bit of a second-level entry is set.
+    SecondLevelReserved = 0x7A, "reserved bit set in second-level entry";
+    /// 7Bh, scalable mode: the top second-level entry can't be fetched.
+    SecondLevelTopAccess = 0x7B, "top second-level entry not fetched";
+    /// 7Ch, scalable mode: an accessed or dirty flag would have to be set, and the walk isn't snooped.
+    FlagsNotSnooped = 0x7C, "flag to set in a walk not snooped";
+    /// 80h, scalable mode: the address of a first-level walk isn't canonical.
+    NotCanonical = 0x80, "address not canonical";
+    /// 81h, scalable mode: a first-level entry doesn't allow user requests.
+    UserDenied = 0x81, "user access denied";
+    /// 84h, scalable mode: the address of a second-level walk is beyond the guest width.
+    ScalableAddressOverflow = 0x84, "address beyond second-level width";
+    /// 85h, scalable mode: an entry doesn't allow the write, or the flag to be set.
+    ScalableWriteDenied = 0x85, "write permission missing in scalable mode";
+    /// 86h, scalable mode: an entry doesn't allow the read.
+    ScalableReadDenied = 0x86, "read permission missing in scalable mode";
 }
 
 impl fmt::Display for Reason {
@@ -268,6 +332,23 @@ impl FaultRecord {
     /// AT, bits 125:124: 01b for a translation request.
     pub const fn is_translation(self) -> bool {
         self.0 >> 124 & 3 == 1
+    }
+
+    /// PP and PV, bits 95 and 123:104: the PASID of a request in scalable mode, if it had one.
+    ///
+    /// ```
+    /// use galitzaf::FaultRecord;
+    ///
+    /// let record = FaultRecord::from_words([0x1000, 0xC123_4571_8000_0310]);
+    /// assert_eq!(record.pasid(), Some(0x12345));
+    /// assert_eq!(FaultRecord::default().pasid(), None);
+    /// ```
+    pub const fn pasid(self) -> Option<u32> {
+        let [a, b, c, d, ..] = self.word_from(104).to_le_bytes();
+        match self.0 >> 95 & 1 {
+            1 => Some(u32::from_le_bytes([a, b, c, d]) & 0xF_FFFF),
+            _ => None,
+        }
     }
 
     /// FR, bits 103:96: the reason.

@@ -150,6 +150,40 @@ pub(crate) fn interrupt_request(
     (status == OK).then_some(answer)
 }
 
+/// The answer bytes, or none where the library called an argument malformed.
+#[allow(clippy::too_many_arguments)]
+pub(crate) fn scalable_request(
+    registers: &[u8; REGISTERS_SIZE],
+    capabilities: u32,
+    windows: &[Window],
+    image: &mut [u8],
+    source: u16,
+    address: u64,
+    kind: u8,
+    pasid: u32,
+) -> Option<[u8; ANSWER_SIZE]> {
+    let mut answer = [0; ANSWER_SIZE];
+    // SAFETY: as for `interrupt_request`.
+    let status = unsafe {
+        galitzaf_scalable_request(
+            registers.as_ptr(),
+            registers.len(),
+            capabilities,
+            windows.as_ptr().cast(),
+            numbers(windows),
+            image.as_mut_ptr(),
+            image.len(),
+            source,
+            address,
+            kind,
+            pasid,
+            answer.as_mut_ptr(),
+            answer.len(),
+        )
+    };
+    (status == OK).then_some(answer)
+}
+
 /// What the library said to which register or window is bad first.
 pub(crate) fn first_bad(registers: &[u8; REGISTERS_SIZE], windows: &[Window], run: usize) -> u32 {
     // SAFETY: each pointer and length is that of a live slice or array, windows taken as numbers. None

@@ -2,8 +2,8 @@
 //!
 //! A hypervisor that plays the unit for its guests hands over the unit's registers, a lent run of
 //! guest memory and a device's request. Back comes where the request may go: a host address, a
-//! remapped or posted interrupt, or the exact fault with its record. Legacy mode, by the rules of
-//! Intel's specification; the code behind it is written in Rattle, and each function is proved to
+//! remapped or posted interrupt, or the exact fault with its record. Legacy mode and, for reads and
+//! writes, scalable mode ([`ScalableUnit`]), by the rules of Intel's specification; the code behind it is written in Rattle, and each function is proved to
 //! give that one answer.
 //!
 //! Nothing has to be checked beforehand and nothing panics: any registers, any memory and any
@@ -78,6 +78,7 @@ mod meters;
 mod recorder;
 mod registers;
 mod request;
+mod scalable;
 mod source;
 mod trace;
 mod unit;
@@ -98,6 +99,7 @@ pub use meters::{Gate, Meters, MetersError};
 pub use recorder::{Recorded, Recorder, RecorderState};
 pub use registers::{Levels, Registers};
 pub use request::{Access, InterruptRequest, MemoryRequest, TranslationRequest};
+pub use scalable::{Capabilities, ScalableRequest, ScalableUnit};
 pub use source::SourceId;
 pub use trace::{
     Block, Named, Replay, TraceError, TraceItem, TracePlace, TraceReader, TraceWriter, Traced,

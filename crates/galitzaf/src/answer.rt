@@ -71,7 +71,13 @@ pub fn short(head: u64) -> Packed
 }
 
 // Byte 3 tells whether the last word is an entry's address.
-pub fn pack_blocked(reason: u8, recordable: bool, low: u64, high: u64, entry: EntryAddress) -> Packed
+pub fn pack_blocked(
+    reason: u8,
+    recordable: bool,
+    low: u64,
+    high: u64,
+    entry: EntryAddress,
+) -> Packed
     ensures { λ r. ⌜ bytesOfPacked r ≡ blockedBytes (record { reason = reason; recordable = recordable; contents = spell (low ∷ high ∷ []) }) (placeOf entry) ⌝ }
 {
     let told = flag(recordable);
@@ -95,7 +101,13 @@ pub fn pack_fault(fault: Fault, entry: EntryAddress) -> Packed
     ensures { λ r. ⌜ bytesOfPacked r ≡ blockedBytes (faultOf fault) (placeOf entry) ⌝ }
 {
     let reason = fault.reason;
-    pack_blocked(reason.number(), fault.recordable, fault.low, fault.high, entry)
+    pack_blocked(
+        reason.number(),
+        fault.recordable,
+        fault.low,
+        fault.high,
+        entry,
+    )
 }
 
 pub fn pack_granted(address: u64) -> Packed

@@ -15,6 +15,7 @@ mod memory;
 mod message;
 mod random;
 pub mod registers;
+pub mod scalable;
 mod suites;
 mod windows;
 mod world;

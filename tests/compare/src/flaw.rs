@@ -94,11 +94,21 @@ pub enum Flaw {
     OverlapLetPass,
     /// Too few pages are told as an overlap.
     PagesToldAsOverlap,
+    /// A read in scalable mode sets D.
+    DirtyOnRead,
+    /// A blocked request in scalable mode sets A.
+    AccessedOfABlocked,
+    /// A record in scalable mode has no PASID.
+    PasidLost,
+    /// 73h is told as 70h.
+    TopAccessAsAny,
+    /// FPD of a PASID directory entry is ignored.
+    DirectoryFpdIgnored,
 }
 
 impl Flaw {
     /// Each of them.
-    pub const ALL: [Flaw; 46] = [
+    pub const ALL: [Flaw; 51] = [
         Flaw::Known(Slip::Index16),
         Flaw::Known(Slip::LastEntryRights),
         Flaw::Known(Slip::MaskLargeFrame),
@@ -145,6 +155,11 @@ impl Flaw {
         Flaw::ItemNotNamed,
         Flaw::OverlapLetPass,
         Flaw::PagesToldAsOverlap,
+        Flaw::DirtyOnRead,
+        Flaw::AccessedOfABlocked,
+        Flaw::PasidLost,
+        Flaw::TopAccessAsAny,
+        Flaw::DirectoryFpdIgnored,
     ];
 
     /// Whether it can make a difference in a part.
@@ -206,6 +221,14 @@ impl Flaw {
                 | Flaw::PagesToldAsOverlap,
                 part,
             ) => matches!(part, Part::Builders),
+            (
+                Flaw::DirtyOnRead
+                | Flaw::AccessedOfABlocked
+                | Flaw::PasidLost
+                | Flaw::TopAccessAsAny
+                | Flaw::DirectoryFpdIgnored,
+                part,
+            ) => matches!(part, Part::Scalable),
             (_, part) => matches!(part, Part::Recorder),
         }
     }

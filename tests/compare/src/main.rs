@@ -25,6 +25,7 @@ mod pool;
 mod print;
 mod recorder;
 mod runs;
+mod scalable;
 mod takes;
 mod tally;
 mod traces;

@@ -15,7 +15,7 @@ pub const NAME: &str = "malformed";
 pub const CALLS: u64 = KINDS * 500;
 
 /// Calls with what is wrong with them.
-const KINDS: u64 = 29;
+const KINDS: u64 = 34;
 
 /// The arguments of any call.
 #[derive(Clone, PartialEq, Eq)]
@@ -28,6 +28,7 @@ struct Arguments {
     item: Vec<u64>,
     region: [Vec<u8>; 2],
     write: u8,
+    capabilities: u32,
     answer: Vec<u8>,
     records: Vec<u8>,
     recorder: Vec<u8>,
@@ -121,12 +122,14 @@ fn spoil_items(random: &mut Random, arguments: &mut Arguments) {
 /// What is called, and what is wrong with it.
 fn spoil(random: &mut Random, which: u64, arguments: &mut Arguments) -> (Call, u32) {
     match which {
-        0 | 1 | 12 | 16 | 19 | 26 => spoil_registers(random, &mut arguments.registers),
-        2 | 3 | 17 | 22 => resized(random, &mut arguments.answer),
+        0 | 1 | 12 | 16 | 19 | 26 | 29 => spoil_registers(random, &mut arguments.registers),
+        2 | 3 | 17 | 22 | 30 => resized(random, &mut arguments.answer),
         4 | 23 => arguments.write = 2 + random.below(254) as u8,
+        31 => arguments.write = 4 + random.below(252) as u8,
+        32 => arguments.capabilities |= 1 << (10 + random.below(22)),
         5 => spoil_recorded(random, &mut arguments.answer),
         6..=8 => spoil_overflow(random, &mut arguments.recorder),
-        13..=15 | 18 | 20 | 27 => spoil_windows(random, arguments),
+        13..=15 | 18 | 20 | 27 | 33 => spoil_windows(random, arguments),
         21 | 24 | 25 => spoil_cache(random, arguments),
         28 => spoil_items(random, arguments),
         _ => spoil_place(random, arguments),
@@ -160,7 +163,11 @@ fn spoil(random: &mut Random, which: u64, arguments: &mut Arguments) -> (Call, u
         25 => (Call::InvalidateDomain, 0x108),
         26 => (Call::Build, 0x101),
         27 => (Call::Build, 0x105),
-        _ => (Call::Build, 0x109),
+        28 => (Call::Build, 0x109),
+        29 | 32 => (Call::Scalable, 0x101),
+        30 => (Call::Scalable, 0x102),
+        31 => (Call::Scalable, 0x103),
+        _ => (Call::Scalable, 0x105),
     }
 }
 
@@ -174,6 +181,7 @@ fn call(which: Call, arguments: &mut Arguments) -> u32 {
         item,
         region,
         write,
+        capabilities,
         answer,
         records,
         recorder,
@@ -199,6 +207,17 @@ fn call(which: Call, arguments: &mut Arguments) -> u32 {
         Call::Interrupt => {
             interface::interrupt_request(registers, windows, image, source, to, 0, answer)
         }
+        Call::Scalable => interface::scalable_request(
+            registers,
+            *capabilities,
+            windows,
+            image,
+            source,
+            0x4020_1ABC,
+            *write,
+            7,
+            answer,
+        ),
         Call::Take => interface::take(registers, windows, image, 0x6400),
         Call::Build => {
             let [copy, marks] = region;
@@ -230,6 +249,7 @@ pub fn run(number: u64, tally: Option<&mut Tally>) -> Result<(), String> {
         item: vec![7],
         region: [vec![1; 0x3000], vec![1; 3]],
         write: 0,
+        capabilities: 0x3FF,
         answer: [3; ANSWER_SIZE].to_vec(),
         records: [0xFF; RECORDS_SIZE].to_vec(),
         recorder: [0; RECORDER_SIZE].to_vec(),

@@ -3,6 +3,7 @@
 use crate::builders;
 use crate::caches;
 use crate::meters::Seen;
+use crate::scalable;
 use crate::traces;
 use crate::translations;
 use crate::windows;
@@ -93,6 +94,8 @@ pub enum Met {
     Traces(traces::Seen),
     /// A list of pages to map and unmap.
     Builders(builders::Seen),
+    /// A request in scalable mode.
+    Scalable(scalable::Seen),
 }
 
 /// A call of the C interface.
@@ -102,6 +105,8 @@ pub enum Call {
     Memory,
     /// `galitzaf_translation_request`.
     Translation,
+    /// `galitzaf_scalable_request`.
+    Scalable,
     /// `galitzaf_cached_request`.
     Cached,
     /// `galitzaf_invalidate_all`.
@@ -230,6 +235,7 @@ impl fmt::Display for Met {
             Met::Caches(seen) => write!(f, "cache: {seen}"),
             Met::Traces(seen) => write!(f, "trace: {seen}"),
             Met::Builders(seen) => write!(f, "builder: {seen}"),
+            Met::Scalable(seen) => write!(f, "scalable: {seen}"),
         }
     }
 }
@@ -285,6 +291,7 @@ impl fmt::Display for Call {
         f.write_str(match self {
             Call::Memory => "memory request",
             Call::Translation => "translation request",
+            Call::Scalable => "scalable request",
             Call::Cached => "cached request",
             Call::InvalidateAll => "invalidate all",
             Call::InvalidateDomain => "invalidate a domain",

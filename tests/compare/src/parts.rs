@@ -1,6 +1,6 @@
 //! The parts of a run: the suites of worlds, the recorder's sequences, runs of posts and takes, the
 //! malformed calls, the rows of meters, the translation requests, the runs through a cache, the traces, the
-//! lists of pages to map.
+//! lists of pages to map, the requests in scalable mode.
 
 use crate::builders;
 use crate::caches;
@@ -11,6 +11,7 @@ use crate::meters::{self, Row};
 use crate::pool::Pool;
 use crate::print::print_world;
 use crate::recorder::{self, Sequence};
+use crate::scalable;
 use crate::takes::{self, Run};
 use crate::tally::Tally;
 use crate::traces;
@@ -38,6 +39,8 @@ pub enum Part {
     Traces,
     /// Lists of pages to map and unmap.
     Builders,
+    /// Requests in scalable mode.
+    Scalable,
 }
 
 impl Part {
@@ -52,6 +55,7 @@ impl Part {
             Part::Caches,
             Part::Traces,
             Part::Builders,
+            Part::Scalable,
         ];
         SUITES.iter().map(Part::Worlds).chain(others)
     }
@@ -68,6 +72,7 @@ impl Part {
             Part::Caches => caches::NAME,
             Part::Traces => traces::NAME,
             Part::Builders => builders::NAME,
+            Part::Scalable => scalable::NAME,
         }
     }
 
@@ -83,6 +88,7 @@ impl Part {
             Part::Caches => caches::RUNS,
             Part::Traces => traces::traces(),
             Part::Builders => builders::RUNS,
+            Part::Scalable => scalable::CASES,
         }
     }
 }
@@ -132,6 +138,7 @@ impl Runner {
                 traces::run(number, &mut self.world, self.flaw, tally)
             }
             Part::Builders => builders::Run::build(number).run(self.flaw, tally),
+            Part::Scalable => scalable::run(number, self.flaw, tally),
         }
     }
 
@@ -150,6 +157,7 @@ impl Runner {
             Part::Caches => caches::Run::build(number).print(),
             Part::Traces => traces::print(number, &mut self.world),
             Part::Builders => builders::Run::build(number).print(),
+            Part::Scalable => scalable::print(number),
         }
     }
 }

@@ -5,6 +5,7 @@ use crate::caches;
 use crate::met::{Call, Kind, Met};
 use crate::meters::Seen;
 use crate::recorder::SLOTS;
+use crate::scalable;
 use crate::traces;
 use crate::translations;
 use crate::windows;
@@ -97,6 +98,7 @@ fn malformed(wanted: &mut Vec<Met>) {
     for (call, statuses) in [
         (Call::Memory, [0x101, 0x102, 0x103, 0x105].as_slice()),
         (Call::Translation, &[0x101, 0x102, 0x105]),
+        (Call::Scalable, &[0x101, 0x102, 0x103, 0x105]),
         (Call::Cached, &[0x101, 0x102, 0x103, 0x105, 0x108]),
         (Call::InvalidateAll, &[0x108]),
         (Call::InvalidateDomain, &[0x108]),
@@ -165,5 +167,6 @@ pub fn all() -> Vec<Met> {
     wanted.extend(caches::Seen::all().into_iter().map(Met::Caches));
     wanted.extend(traces::Seen::all().into_iter().map(Met::Traces));
     wanted.extend(builders::Seen::all().into_iter().map(Met::Builders));
+    wanted.extend(scalable::Seen::all().into_iter().map(Met::Scalable));
     wanted
 }

@@ -1,6 +1,6 @@
 //! Measures the proved unit beside the ordinary translator, in one process, over the same registers,
 //! images and requests, and prints a table; then reads through a cache of translations, rows of meters
-//! beside a plain loop, traces, and page tables built.
+//! beside a plain loop, traces, page tables built, and scalable mode.
 //!
 //!     figures                    the tables
 //!     figures --rows FROM TO     of the first table, rows from one number up to another, from 0
@@ -8,6 +8,7 @@
 //!     figures --caches           the caches' table alone
 //!     figures --traces           the traces' table alone
 //!     figures --builders         the builders' table alone
+//!     figures --scalable         scalable mode's table alone
 //!     figures --counts           instructions alone, without times
 //!     figures --builders --counts
 //!                                the same of the builders' table
@@ -26,6 +27,7 @@ mod count;
 mod load;
 mod meters;
 mod rows;
+mod scalable;
 mod sides;
 mod time;
 mod traces;
@@ -102,7 +104,9 @@ fn main() -> ExitCode {
             println!();
             let good = traces::print() && good;
             println!();
-            status(builders::print() && good)
+            let good = builders::print() && good;
+            println!();
+            status(scalable::print() && good)
         }
         ["--rows", from, to] => {
             let (Ok(from), Ok(to)) = (from.parse::<usize>(), to.parse::<usize>()) else {
@@ -132,6 +136,11 @@ fn main() -> ExitCode {
         [builders::ARGUMENT, row, side] => {
             let built = row.parse().ok().and_then(|n| builders::counted(n, side));
             built.map_or(ExitCode::from(2), |()| ExitCode::SUCCESS)
+        }
+        [scalable::ARGUMENT] => status(scalable::print()),
+        [scalable::ARGUMENT, row, side] => {
+            let asked = row.parse().ok().and_then(|n| scalable::counted(n, side));
+            asked.map_or(ExitCode::from(2), |()| ExitCode::SUCCESS)
         }
         [meters::ARGUMENT, row, side] => {
             let ticked = row.parse().ok().and_then(|n| meters::counted(n, side));

@@ -24,7 +24,8 @@ pub use declared::{ANSWER_SIZE, CACHE_WORDS, RECORDER_SIZE, RECORDS_SIZE, REGIST
 use declared::{
     galitzaf_cached_request, galitzaf_clear_overflow, galitzaf_clear_slot, galitzaf_first_bad,
     galitzaf_interrupt_request, galitzaf_invalidate_all, galitzaf_invalidate_domain,
-    galitzaf_memory_request, galitzaf_record, galitzaf_take, galitzaf_translation_request,
+    galitzaf_memory_request, galitzaf_record, galitzaf_scalable_request, galitzaf_take,
+    galitzaf_translation_request,
 };
 
 /// The windows of a plain image of some length: one from 0, or none.
@@ -71,6 +72,40 @@ pub fn memory_request(
             source,
             address,
             write,
+            answer.as_mut_ptr(),
+            answer.len(),
+        )
+    }
+}
+
+/// `galitzaf_scalable_request`.
+#[allow(clippy::too_many_arguments)]
+pub fn scalable_request(
+    registers: &[u8],
+    capabilities: u32,
+    windows: &[u64],
+    image: &mut [u8],
+    source: u16,
+    address: u64,
+    kind: u8,
+    pasid: u32,
+    answer: &mut [u8],
+) -> u32 {
+    // SAFETY: each pointer and length is that of a live slice. `image` and `answer`, which are written, are lent
+    // by `&mut`, so that neither overlaps another. None is kept after the call.
+    unsafe {
+        galitzaf_scalable_request(
+            registers.as_ptr(),
+            registers.len(),
+            capabilities,
+            windows.as_ptr(),
+            windows.len(),
+            image.as_mut_ptr(),
+            image.len(),
+            source,
+            address,
+            kind,
+            pasid,
             answer.as_mut_ptr(),
             answer.len(),
         )

@@ -15,6 +15,7 @@ mod interrupt;
 mod memory;
 pub mod meters;
 mod registers;
+mod scalable;
 mod translation;
 mod unit;
 #[allow(unsafe_code)]
@@ -26,6 +27,7 @@ pub use fault::Fault;
 pub use interrupt::{interrupt_request, InterruptAnswer, Notice, Remapped};
 pub use memory::{memory_request, MemoryAnswer};
 pub use registers::Registers;
+pub use scalable::{scalable_request, Capabilities, ScalableRequest};
 pub use translation::{translation_request, TranslationAnswer};
 pub use unit::Unit;
 pub use windows::{Memory, MemoryMut, Window};

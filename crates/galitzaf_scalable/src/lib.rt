@@ -1,0 +1,123 @@
+// Requests in scalable mode, for C: a crate of its own, so that its object is one of its own, which a unit in legacy mode doesn't link.
+ghost use mathlib.Core.Bool.{false};
+ghost use mathlib.Core.Path.{_≡_};
+ghost use Rattle.galitzaf.specs.Answer.{bytesOfPacked, memoryBytes};
+ghost use Rattle.galitzaf.specs.Registers.{malformedRegisters};
+ghost use Rattle.image.specs.Bits.{bit};
+ghost use Rattle.scalable.specs.Answers.{outcomeOf, entryOf};
+ghost use Rattle.galitzaf_scalable.specs.Scalable.{unpackedScalable, requestOf, scalableCall};
+use galitzaf::BAD_ANSWER;
+use galitzaf::BAD_KIND;
+use galitzaf::BAD_REGISTERS;
+use galitzaf::BAD_WINDOWS;
+use galitzaf::OK;
+use galitzaf::Packed;
+use galitzaf::malformed;
+use galitzaf::pack_blocked;
+use galitzaf::pack_granted;
+use galitzaf::pack_refusal;
+use galitzaf::store;
+use galitzaf::unpack;
+use image::field;
+use pasid::Pasid;
+use pasid::ScalableRegisters;
+use registers::SourceId;
+use scalable::ScalableAnswer;
+use scalable::ScalableRequest;
+use scalable::scalable_request;
+
+fn bit(n: u64, place: u32) -> bool
+    ensures { λ r. ⌜ r ≡ bit n place ⌝ }
+{
+    field(n, place, place) == 1
+}
+
+fn unpack_scalable(registers: &[u8], capabilities: u32) -> ScalableRegisters
+    requires { ⌜ malformedRegisters (now registers) ≡ false ⌝ }
+    ensures { λ r. ⌜ r ≡ unpackedScalable (now (registers .entry)) capabilities ⌝ }
+{
+    let has = capabilities as u64;
+    ScalableRegisters {
+        base: unpack(registers),
+        flts: bit(has, 0),
+        slts: bit(has, 1),
+        nest: bit(has, 2),
+        pt: bit(has, 3),
+        fl5lp: bit(has, 4),
+        fl1gp: bit(has, 5),
+        slads: bit(has, 6),
+        eafs: bit(has, 7),
+        srs: bit(has, 8),
+        smpwc: bit(has, 9),
+    }
+}
+
+fn request_of(source: u16, address: u64, kind: u8, pasid: u32) -> ScalableRequest
+    ensures { λ r. ⌜ r ≡ requestOf source address kind pasid ⌝ }
+{
+    let what = kind as u64;
+    ScalableRequest {
+        source: SourceId::from_number(source),
+        address,
+        write: bit(what, 0),
+        pasid: Pasid {
+            present: bit(what, 1),
+            value: pasid,
+        },
+    }
+}
+
+fn pack_scalable(answer: ScalableAnswer) -> Packed
+    ensures { λ r. ⌜ bytesOfPacked r ≡ memoryBytes (outcomeOf answer) (entryOf answer) ⌝ }
+{
+    match answer {
+        ScalableAnswer::Granted(address) => pack_granted(address),
+        ScalableAnswer::Blocked(fault, entry) => {
+            let reason = fault.reason;
+            pack_blocked(
+                reason.number(),
+                fault.recordable,
+                fault.low,
+                fault.high,
+                entry,
+            )
+        }
+        ScalableAnswer::Refused(number) => pack_refusal(number),
+    }
+}
+
+#[no_mangle]
+pub extern "C" fn galitzaf_scalable_request(
+    registers: &[u8],
+    capabilities: u32,
+    windows: &[u64],
+    image: &mut [u8],
+    source: u16,
+    address: u64,
+    kind: u8,
+    pasid: u32,
+    answer: &mut [u8],
+) -> u32
+    ensures { λ r. ⌜ (r, now (image .exit), now (answer .exit)) ≡ scalableCall (now (registers .entry)) capabilities (now (windows .entry)) (now (image .entry)) source address kind pasid (now (answer .entry)) ⌝ }
+{
+    if malformed(registers) {
+        return BAD_REGISTERS;
+    }
+    if 0x400 <= capabilities {
+        return BAD_REGISTERS;
+    }
+    if windows.len() % 3 != 0 {
+        return BAD_WINDOWS;
+    }
+    if answer.len() != 32 {
+        return BAD_ANSWER;
+    }
+    if 3 < kind {
+        return BAD_KIND;
+    }
+    let unit = unpack_scalable(registers, capabilities);
+    let request = request_of(source, address, kind, pasid);
+    let packed = pack_scalable(scalable_request(unit, windows, image, request));
+    store(answer, packed.head, packed.low, packed.high, packed.last);
+    OK
+}
