@@ -1,26 +1,24 @@
 -- A region's copy and what is written of it.
 use Prim.Native.Nat.{ℕ, zero, suc, _+_, _*_, _^_, _≤_, _<_}
 use mathlib.Core.Bool.{false}
-use mathlib.Core.Path.{_≡_, refl, ap, sym, _∙_}
+use mathlib.Core.Path.{_≡_, refl, sym, _∙_}
 use mathlib.Core.List.{List}
 use mathlib.Core.Logic.{_⊎_, inl, inr}
 use native.Mathlib.Decide.{decLe}
-use native.Mathlib.Nat.{mod-eq-of-lt}
 use native.Mathlib.Omega.{arith}
 use lib.ListN.{length, getD, drop}
 use lib.Seq.{getD-drop}
-use Rattle.image.specs.Bytes.{littleEndian}
-use Rattle.image.specs.Memory.{Memory, Fetched, found, entry, onFetch, wordAt, ofImage, withWord}
+use Rattle.image.specs.Memory.{Memory, found, entry, onFetch, wordAt, ofImage, withWord}
 use Rattle.image.specs.Windows.{windowsOf, here, spotIn, ofWindows, byteAt, badWindows}
-use Rattle.image.proofs.Bytes.{AreBytes, bytes-below, number-back}
+use Rattle.image.proofs.Bytes.{AreBytes, bytes-below}
 use Rattle.image.proofs.Same.{one-word}
-use Rattle.image.proofs.Same as image
 use Rattle.image.proofs.Words.{word-inside, outside}
 use Rattle.interrupts.specs.Claims.{Shows}
 use Rattle.takes.proofs.Memories.{same-entry}
 use Rattle.region.specs.Copy.{wordShown, storedAt, copiedIn, copiedOut}
 use Rattle.tables.specs.Tables.{entryOf}
-use Rattle.built.proofs.Stores.{length-word, word-laid, byte-kept, bytes-word}
+use Rattle.leaves.proofs.Entries.{length-stored, entry-stored, entry-kept}
+use Rattle.built.proofs.Stores.{bytes-word}
 use Rattle.built.proofs.Through.{length-at, run-kept, host-kept, word-at}
 
 module _ (windows copy : List ℕ) (start : ℕ) where
@@ -93,31 +91,13 @@ module _ (windows copy : List ℕ) (start : ℕ) where
       rw there (word-out n (at + 8) next fine k (omega arith) (rw there at is) (rw there at small))
 
 -- words of a copy
-module _ (bytes : List ℕ) where
-  pub entry-below : AreBytes bytes → (at : ℕ) → entryOf bytes at < 2 ^ 64
-  unfolding entryOf wordAt
-  entry-below are at = by (decLe (at + 8) (length bytes))
-    where
-      by : Dec (at + 8 ≤ length bytes) → onFetch (entry 1 (ofImage bytes) at) 0 (λ e. e) < 2 ^ 64
-      by (yes fits) = rw (word-inside bytes at fits) (bytes-below 8 (drop at bytes) (λ i. rw (getD-drop at bytes i 0) (are (at + i))))
-      by (no out) = rw (outside bytes 0 at (omega arith)) (omega arith)
-
-  module _ (at word : ℕ) where
-    pub entry-stored : at + 8 ≤ length bytes → word < 2 ^ 64 → entryOf (withWord bytes at word) at ≡ word
-    unfolding entryOf wordAt
-    entry-stored fits small =
-        rw (word-inside (withWord bytes at word) at (rw (length-word bytes at word) fits))
-        (ap littleEndian (word-laid bytes at word fits) ∙ number-back 8 word ∙ mod-eq-of-lt {m = 256 ^ 8} small)
-
-    pub entry-kept : (a : ℕ) → (a + 8 ≤ at) ⊎ (at + 8 ≤ a) → entryOf (withWord bytes at word) a ≡ entryOf bytes a
-    unfolding entryOf
-    entry-kept a other =
-        ap (λ (f : Fetched). onFetch f 0 (λ e. e))
-        (image.same-entry bytes (withWord bytes at word) (length-word bytes at word) 1 a (λ k low high. byte-kept bytes at word k (side k low high other)))
-      where
-        side : (k : ℕ) → a ≤ k → k < a + 8 * 1 → (a + 8 ≤ at) ⊎ (at + 8 ≤ a) → (k < at) ⊎ (at + 8 ≤ k)
-        side k low high (inl x) = inl (omega arith)
-        side k low high (inr x) = inr (omega arith)
+pub entry-below : (bytes : List ℕ) → AreBytes bytes → (at : ℕ) → entryOf bytes at < 2 ^ 64
+unfolding entryOf wordAt
+entry-below bytes are at = by (decLe (at + 8) (length bytes))
+  where
+    by : Dec (at + 8 ≤ length bytes) → onFetch (entry 1 (ofImage bytes) at) 0 (λ e. e) < 2 ^ 64
+    by (yes fits) = rw (word-inside bytes at fits) (bytes-below 8 (drop at bytes) (λ i. rw (getD-drop at bytes i 0) (are (at + i))))
+    by (no out) = rw (outside bytes 0 at (omega arith)) (omega arith)
 
 -- the words of a memory in a copy
 module _ (m : Memory) (start : ℕ) where
@@ -125,7 +105,7 @@ module _ (m : Memory) (start : ℕ) where
   unfolding copiedIn
   length-in zero at copy = refl
   length-in (suc n) at copy =
-      length-in n (at + 8) (withWord copy at (wordShown m (start + at))) ∙ length-word copy at (wordShown m (start + at))
+      length-in n (at + 8) (withWord copy at (wordShown m (start + at))) ∙ length-stored copy at (wordShown m (start + at))
 
   pub bytes-in : (n at : ℕ) (copy : List ℕ) → AreBytes copy → AreBytes (copiedIn m start n at copy)
   unfolding copiedIn
@@ -150,5 +130,5 @@ module _ (m : Memory) (start : ℕ) where
   word-in (suc n) at copy fits (suc k) few small =
       let there : at + 8 * suc k ≡ at + 8 + 8 * k = omega arith in
       let next = withWord copy at (wordShown m (start + at)) in
-      let room : at + 8 + 8 * n ≤ length next = rw (length-word copy at (wordShown m (start + at))) (omega arith) in
+      let room : at + 8 + 8 * n ≤ length next = rw (length-stored copy at (wordShown m (start + at))) (omega arith) in
       rw there (word-in n (at + 8) next room k (omega arith) (rw there at small))

@@ -12,11 +12,11 @@ use Rattle.interrupts.specs.Claims.{Shows}
 use Rattle.tables.specs.Tables.{tables}
 use Rattle.tables.specs.declared.Tree.{Tree}
 use Rattle.builder.specs.Build.{Built, done, Lent}
+use Rattle.leaves.proofs.Entries.{length-stored}
 use Rattle.built.specs.Inside.{InRegion, BuildsInside, RefusalLeaves}
 use Rattle.built.proofs.Builds.{Completed, copyOf, markedOf, endOf, afterOf, build-cases}
 use Rattle.built.proofs.Copies.{length-in, length-out, run-out, host-out}
 use Rattle.built.proofs.Items.{items-keep}
-use Rattle.built.proofs.Stores.{length-word}
 
 module _ (registers : Registers) (source start size : ℕ) (windows items : List ℕ) (l : Lent) (tree : Tree)
     (c : Completed registers source start size windows items l tree) where
@@ -26,7 +26,7 @@ module _ (registers : Registers) (source start size : ℕ) (windows items : List
 
   pub end-length : length (endOf registers source start size windows items l tree .1 .bytes) ≡ size
   end-length =
-      items-keep (λ bytes. length bytes ≡ size) (λ bytes at word is. length-word bytes at word ∙ is) registers tree items (length items / 4) 0
+      items-keep (λ bytes. length bytes ≡ size) (λ bytes at word is. length-stored bytes at word ∙ is) registers tree items (length items / 4) 0
       (tables (copyOf registers source start size windows items l tree) (markedOf registers source start size windows items l tree .1)) copy-length
 
   pub starts : tree .start ≡ start

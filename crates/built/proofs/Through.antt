@@ -19,7 +19,8 @@ use Rattle.image.proofs.WindowBytes.{one-address, byte-spot}
 use Rattle.image.proofs.WindowEntries.{spot-in, wider}
 use Rattle.interrupts.specs.Claims.{Shows}
 use Rattle.region.specs.Copy.{storedAt}
-use Rattle.built.proofs.Stores.{length-word, byte-kept, word-laid}
+use Rattle.leaves.proofs.Entries.{length-stored, byte-kept}
+use Rattle.built.proofs.Stores.{word-laid}
 
 pub length-at : (windows : List ℕ) (at word : ℕ) (run : List ℕ) → length (storedAt windows at word run) ≡ length run
 unfolding storedAt
@@ -27,7 +28,7 @@ length-at windows at word run = by (spotIn (windowsOf windows) 8 at)
   where
     by : (s : Spot) → length (onSpot s run (λ place left. withWord run place word)) ≡ length run
     by nowhere = refl
-    by (here place left) = length-word run place word
+    by (here place left) = length-stored run place word
 
 module _ (windows : List ℕ) (at word : ℕ) (run : List ℕ) (good : badWindows windows (length run) ≡ false) where
   -- a place of the run that no byte of the word has
@@ -39,9 +40,12 @@ module _ (windows : List ℕ) (at word : ℕ) (run : List ℕ) (good : badWindow
       by nowhere is = refl
       by (here place left) is = beside (decLe place k) (decLe (place + 8) k)
         where
+          fits : place + 8 ≤ length run
+          fits = let lies = spot-in (length run) (windowsOf windows) 8 at (fit windows (length run) good) is in omega (arith, lies .0, lies .1)
+
           beside : Dec (place ≤ k) → Dec (place + 8 ≤ k) → getD (withWord run place word) k 0 ≡ getD run k 0
-          beside (no low) high = byte-kept run place word k (inl (omega arith))
-          beside (yes low) (yes high) = byte-kept run place word k (inr high)
+          beside (no low) high = byte-kept run place word fits k (inl (omega arith))
+          beside (yes low) (yes high) = byte-kept run place word fits k (inr high)
           beside (yes low) (no high) =
               let there : place + (k - place) ≡ k = omega arith in
               absurd

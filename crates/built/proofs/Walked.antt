@@ -1,13 +1,10 @@
 -- A walk over a memory that shows well-built tables ends with the entry over its address: what the tables map there decides it.
-use Prim.Native.Nat.{ℕ, zero, suc, _+_, _-_, _*_, _/_, _%_, _^_, _≤_, _<_}
-use mathlib.Core.Bool.{Bool, true, false, not, _&&_, _||_}
+use Prim.Native.Nat.{ℕ, zero, suc, _+_, _*_, _/_, _%_, _^_, _<_}
+use mathlib.Core.Bool.{Bool, true, false, not, _&&_}
 use mathlib.Core.Path.{_≡_, refl, ap, sym, _∙_, subst}
 use mathlib.Core.List.{List}
-use native.Mathlib.Decide.{decLe}
 use native.Mathlib.Omega.{arith}
-use borrow.Author.Tests.{ne-eqb}
-use lib.Dec.{eqb}
-use lib.ListN.{length, getD, List·getD-eq-default}
+use lib.ListN.{length, getD}
 use Rattle.image.specs.Bits.{bits, inPlace}
 use Rattle.image.specs.Choice.{if_then_else_}
 use Rattle.image.specs.Memory.{Memory, found, entry}
@@ -21,22 +18,13 @@ use Rattle.tables.specs.Way.{ends, wayTo}
 use Rattle.tables.specs.declared.Tree.{Tree}
 use Rattle.tables.specs.declared.way.Stop.{Stop}
 use Rattle.leaves.specs.Leaves.{none, leaf, onLeaf, leafAt, leafOver}
+use Rattle.leaves.proofs.Addresses.{table-back}
+use Rattle.leaves.proofs.Passes.{marked-inside, goes-on, stops}
 use Rattle.leaves.specs.WellBuilt.{leadsOn, WellBuilt}
 
 -- a memory has the words of a region's bytes from a host address on
 abbrev pub Shown : Memory → (start : ℕ) (bytes : List ℕ) → Type 0
 Shown m start bytes = (n : ℕ) → 8 * n < length bytes → m (start + 8 * n) ≡ found (entryOf bytes (8 * n))
-
--- an entry ends the way, or leads to a table
-ends-or-leads : (c p q : Bool) → c ≡ false → ((c || not p) || q) ≡ not (p && not q)
-ends-or-leads true p q h = let z : _≡_ {A = ℕ} 0 1 = cc in absurd (omega arith)
-ends-or-leads false true true h = refl
-ends-or-leads false true false h = refl
-ends-or-leads false false true h = refl
-ends-or-leads false false false h = refl
-
-way-ends : (n e : ℕ) → ends 0 (suc n) e ≡ not (leadsOn (suc n) e)
-way-ends n e = ends-or-leads (eqb (suc n) 0) (present e) (mapsPage (suc n) e) (ne-eqb (suc n) 0 (λ z. omega arith))
 
 not-false-and : (q : Bool) → (true && not q) ≡ false → q ≡ true
 not-false-and true h = refl
@@ -46,17 +34,6 @@ not-false-and false h = let z : _≡_ {A = ℕ} 0 1 = cc in absurd (omega arith)
 pub address-in : (start page : ℕ) → start % 4096 ≡ 0 → start + 4096 * page < 2 ^ 52 → inPlace (tableEntry start (4096 * page)) 51 12 ≡ start + 4096 * page
 unfolding bits
 address-in start page aligned below = omega arith
-
-table-in : (start page : ℕ) → start % 4096 ≡ 0 → start + 4096 * page < 2 ^ 52 → tableOf start (tableEntry start (4096 * page)) ≡ 4096 * page
-unfolding tableOf
-table-in start page aligned below = ap (λ (n : ℕ). n - start) (address-in start page aligned below) ∙ omega arith
-
-pub marked-inside : (marks : List ℕ) (page level : ℕ) → getD marks page 0 ≡ suc level → page < length marks
-marked-inside marks page level h = by (decLe (length marks) page)
-  where
-    by : Dec (length marks ≤ page) → page < length marks
-    by (yes out) = let z : 0 ≡ suc level = sym (List·getD-eq-default marks 0 out) ∙ h in absurd (omega arith)
-    by (no inside) = omega arith
 
 module _ {S A : Type 0} (address : ℕ) (none-there : S → A) (step : (level place : ℕ) → S → (e : ℕ) → Step S A) (m : Memory)
     (bytes marks : List ℕ) (tree : Tree) (well : WellBuilt bytes marks tree) (shown : Shown m (tree .start) bytes) (s : S)
@@ -118,11 +95,11 @@ module _ {S A : Type 0} (address : ℕ) (none-there : S → A) (step : (level pl
   unfolding wayTo run walkRules
   walked zero page mark =
       let at = placeIn address (4096 * page) 0 in
-      begins 0 page (marked-inside marks page 0 mark) ∙ rw (ends-there 0 (tree .start + at) (entryOf bytes at) (λ is. refl))
+      begins 0 page (marked-inside marks page mark) ∙ rw (ends-there 0 (tree .start + at) (entryOf bytes at) (λ is. refl))
   walked (suc n) page mark = by (leadsOn (suc n) e) refl (walked n)
     where
       inside : page < length marks
-      inside = marked-inside marks page (suc n) mark
+      inside = marked-inside marks page mark
 
       at : ℕ
       at = placeIn address (4096 * page) (suc n)
@@ -137,19 +114,19 @@ module _ {S A : Type 0} (address : ℕ) (none-there : S → A) (step : (level pl
           → ((next : ℕ) → getD marks next 0 ≡ suc n → walk (suc n) (tree .start + 4096 * next) ≡ ended (wayIn n next))
           → walk (suc (suc n)) (tree .start + 4096 * page) ≡ ended (wayIn (suc n) page)
       by false is ih =
-          let here : ends 0 (suc n) e ≡ true = way-ends n e ∙ ap not is in
+          let here : ends 0 (suc n) e ≡ true = stops 0 (suc n) e is in
           begins (suc n) page inside ∙ rw (here, ends-there (suc n) (tree .start + at) e (maps-page is))
       by true is ih =
-          let on : ends 0 (suc n) e ≡ false = way-ends n e ∙ ap not is in
+          let on : ends 0 (suc n) e ≡ false = goes-on 0 n e (omega arith) is in
           let there = at-number (suc n) page inside in
           let led = well .leads (number (suc n) page inside) (suc n) (ap (λ (k : ℕ). getD marks k 0) (of-page (suc n) page inside) ∙ mark)
           (subst (λ (k : ℕ). leadsOn (suc n) (entryOf bytes k) ≡ true) there is) in
           let next = led .page in
-          let next-inside = marked-inside marks next n (led .level) in
+          let next-inside = marked-inside marks next (led .level) in
           let is-entry : e ≡ tableEntry (tree .start) (4096 * next) = ap (entryOf bytes) there ∙ led .entry in
           let fits = well .placed .fits in
           let table : tableOf (tree .start) e ≡ 4096 * next =
-          ap (tableOf (tree .start)) is-entry ∙ table-in (tree .start) next (well .placed .start-aligned) (omega (arith, fits, next-inside)) in
+          ap (tableOf (tree .start)) is-entry ∙ table-back (tree .start) next (well .placed .start-aligned) (omega (arith, fits, next-inside)) in
           let onward : step (suc (suc n)) (tree .start + at) s e ≡ down (tree .start + 4096 * next) s =
           ap (step (suc (suc n)) (tree .start + at) s) is-entry ∙ passes n (tree .start + at) next next-inside in
           begins (suc n) page inside ∙ rw (onward, on, table) (ih next (led .level))

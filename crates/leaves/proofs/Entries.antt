@@ -40,7 +40,7 @@ module _ (bytes : List ℕ) (at word : ℕ) where
   head-length : at + 8 ≤ length bytes → length (take at bytes ++ bytesOf 8 word) ≡ at + 8
   head-length h = simp (length-append, length-bytesOf, length-take-le at bytes (omega arith))
 
-  byte-kept : at + 8 ≤ length bytes → (k : ℕ) → (k < at) ⊎ (at + 8 ≤ k) → getD (withWord bytes at word) k 0 ≡ getD bytes k 0
+  pub byte-kept : at + 8 ≤ length bytes → (k : ℕ) → (k < at) ⊎ (at + 8 ≤ k) → getD (withWord bytes at word) k 0 ≡ getD bytes k 0
   byte-kept h k (inl less) =
       let first : length (take at bytes) ≡ at = length-take-le at bytes (omega arith) in
       let in-first : k < length (take at bytes) = omega arith in
