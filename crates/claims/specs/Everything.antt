@@ -23,6 +23,7 @@ use Rattle.dma.specs.Reached.{GrantedByOwnWalk}
 use Rattle.translation.specs.Claims.{TranslationLocality, TranslationAccessMeansUnfetched, TranslationAtMostNine, TranslationNoneUntaken, TranslationReadsWords, TranslationAlwaysAnEntry, EnginesAgree, OnlyType1}
 use Rattle.cache.specs.Claims.{Equal, AsCached, AsNow, OnlyPages, AtMost64, Held64, PushedOut, ByDomain, Newest, MustAnswer, JustThose, PageWords, WhenCached, DomainAsCached}
 use Rattle.cache.specs.Lent.{AsDefined, EqualCalls}
+use Rattle.rights.specs.Rights.{ScalableRightsOn, ScalableRightsOff}
 use Rattle.scalable.specs.Isolation.{ScalableLocality, ScalableSetsExactly, ScalableLeavesAll}
 use Rattle.agreement.specs.Claims.{WindowsTell, ListedWhereWalked, SpansAgree, OthersLack, SpansInOrder}
 use Rattle.built.specs.Claims.{BuiltAnswers}
@@ -169,3 +170,5 @@ pub record Everything : Type 0 where
   pub scalable-locality : ScalableLocality
   pub scalable-sets-exactly : ScalableSetsExactly
   pub scalable-leaves-all : ScalableLeavesAll
+  pub scalable-rights-on : ScalableRightsOn
+  pub scalable-rights-off : ScalableRightsOff

@@ -1,0 +1,9 @@
+pub mod First
+pub mod Kept
+pub mod Lookup
+pub mod Nested
+pub mod Raised
+pub mod Requests
+pub mod Rights
+pub mod Second
+pub mod Walks
