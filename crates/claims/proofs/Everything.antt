@@ -28,6 +28,7 @@ use Rattle.cache.proofs.AsDefined.{as-defined, equal-calls}
 use Rattle.cache.proofs.History.{when-cached, domain-as-cached}
 use Rattle.cache.proofs.Holding.{only-pages, at-most-64, held64, pushed-out, by-domain, newest, must-answer, just-those}
 use Rattle.rights.proofs.Rights.{scalable-rights-on, scalable-rights-off}
+use Rattle.scalable.proofs.Fifty.{at-most-fifty}
 use Rattle.scalable.proofs.Isolation.{scalable-locality}
 use Rattle.scalable.proofs.Written.{scalable-leaves-all, scalable-sets-exactly}
 use Rattle.cache.proofs.PageWords.{page-words}
@@ -170,6 +171,7 @@ everything =
       none-of-its-own = none-of-its-own;
       answers-traced = answers-traced;
       scalable-locality = scalable-locality;
+      at-most-fifty = at-most-fifty;
       scalable-sets-exactly = scalable-sets-exactly;
       scalable-leaves-all = scalable-leaves-all;
       scalable-rights-on = scalable-rights-on;

@@ -25,6 +25,7 @@ use Rattle.cache.specs.Claims.{Equal, AsCached, AsNow, OnlyPages, AtMost64, Hel
 use Rattle.cache.specs.Lent.{AsDefined, EqualCalls}
 use Rattle.rights.specs.Rights.{ScalableRightsOn, ScalableRightsOff}
 use Rattle.scalable.specs.Isolation.{ScalableLocality, ScalableSetsExactly, ScalableLeavesAll}
+use Rattle.scalable.specs.Named.{AtMostFifty}
 use Rattle.agreement.specs.Claims.{WindowsTell, ListedWhereWalked, SpansAgree, OthersLack, SpansInOrder}
 use Rattle.built.specs.Claims.{BuiltAnswers}
 use Rattle.built.specs.Inside.{BuildsInside, RefusalLeaves}
@@ -168,6 +169,7 @@ pub record Everything : Type 0 where
   pub answers-traced : AnswersTraced
   -- scalable mode
   pub scalable-locality : ScalableLocality
+  pub at-most-fifty : AtMostFifty
   pub scalable-sets-exactly : ScalableSetsExactly
   pub scalable-leaves-all : ScalableLeavesAll
   pub scalable-rights-on : ScalableRightsOn

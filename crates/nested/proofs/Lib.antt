@@ -1,3 +1,4 @@
+pub mod Few
 pub mod Firsts
 pub mod Nested
 pub mod Thens

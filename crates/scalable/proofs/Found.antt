@@ -6,27 +6,22 @@ use native.Mathlib.Omega.{arith}
 use borrow.Author.Tests.{eqb-true}
 use lib.Dec.{eqb}
 use Rattle.image.specs.Bits.{bits, bit, anySet, inPlace}
-use Rattle.image.specs.Check.{Check, stop, go, onCheck}
+use Rattle.image.specs.Check.{go}
 use Rattle.image.specs.Choice.{if_then_else_}
-use Rattle.image.specs.EntryKind.{EntryKind, wordsOf, rootEntry, scalableContextEntry, pasidDirectoryEntry, pasidTableEntry}
-use Rattle.registers.specs.Source.{busOf}
-use Rattle.image.specs.Memory.{Memory, Fetched, missing, found, entry, onFetch}
+use Rattle.image.specs.Memory.{Memory}
 use Rattle.image.specs.Place.{Place, lastTried}
-use Rattle.image.specs.Rules.{Rules, answer, fetch, run, Outside}
-use Rattle.image.proofs.Stages.{check-cases}
+use Rattle.image.specs.Rules.{run, Outside}
+use Rattle.image.proofs.Forks.{every-outside, every-run}
 use Rattle.dma.specs.Context.{widthSupported}
 use Rattle.dma.proofs.Steps.{past}
-use Rattle.pasid.specs.Context.{contextCheck}
-use Rattle.pasid.specs.Directory.{directoryCheck}
-use Rattle.pasid.specs.Root.{rootCheck}
-use Rattle.pasid.specs.declared.context.ScalableContext.{ScalableContext}
 use Rattle.pasid.specs.Table.{featureReserved, pointersReserved, tableReserved, typeSupported, modeSupported, tableInvalid, pasidEntryOf, tableCheck}
 use Rattle.pasid.specs.declared.Pasid.{Pasid}
 use Rattle.pasid.specs.declared.ScalableRegisters.{ScalableRegisters}
 use Rattle.pasid.specs.declared.table.PasidEntry.{PasidEntry}
-use Rattle.scalable.specs.Lookup.{Lookup, pasidEntry, noPasidEntry, tableRules, directoryRules, contextRules, lookupRules}
+use Rattle.scalable.specs.Lookup.{Lookup, lookupRules}
 use Rattle.scalable.specs.Requests.{withoutEntry, lookedUp, translationRules, Walkable}
 use Rattle.nested.proofs.Thens.{Ends, run-then, tried-then}
+use Rattle.scalable.proofs.Forks.{Absent, FoundSo, when-absent, lookup-forks, any-lookup}
 use Rattle.scalable.proofs.Tables.{either, below-haw, first-below}
 
 module _ (r : ScalableRegisters) (address : ℕ) (write : Bool) where
@@ -34,41 +29,10 @@ module _ (r : ScalableRegisters) (address : ℕ) (write : Bool) where
   Last = Ends withoutEntry (lookedUp r address write)
 
   -- all that the lookup answers to an entry that can't be fetched is a fault
-  outside-table : (c : ScalableContext) (fpd : Bool) (table : ℕ) → Outside Last (tableRules r c fpd table)
-  unfolding Outside tableRules
-  outside-table c fpd table = (
-    refl,
-    λ e.
-        check-cases (Outside Last) (tableCheck r (c .privileged) fpd e) (λ reason. noPasidEntry reason (fpd || bit e 1)) (λ p. answer (pasidEntry p))
-        (λ reason told. tt) (λ p told. tt),
-  )
-
-  outside-directory : (c : ScalableContext) → Outside Last (directoryRules r c)
-  unfolding Outside directoryRules
-  outside-directory c = (
-    refl,
-    λ e.
-        check-cases (Outside Last) (directoryCheck (r .base .haw) e) (λ reason. noPasidEntry reason (c .fpd || bit e 1)) (tableRules r c (c .fpd || bit e 1))
-        (λ reason told. tt) (λ table told. outside-table c (c .fpd || bit e 1) table),
-  )
-
-  outside-context : (pasid : Pasid) (source table : ℕ) → Outside Last (contextRules r pasid source table)
-  unfolding Outside contextRules
-  outside-context pasid source table = (
-    refl,
-    λ e.
-        check-cases (Outside Last) (contextCheck (r .base .haw) pasid e) (λ reason. noPasidEntry reason (bit e 1)) (directoryRules r)
-        (λ reason told. tt) (λ c told. outside-directory c),
-  )
-
   outside : (pasid : Pasid) (source : ℕ) → Outside Last (lookupRules r pasid source)
-  unfolding Outside lookupRules
-  outside pasid source = (
-    refl,
-    λ e.
-        check-cases (Outside Last) (rootCheck (r .base .haw) (bit source 7) e) (λ reason. noPasidEntry reason false) (contextRules r pasid source)
-        (λ reason told. tt) (λ table told. outside-context pasid source table),
-  )
+  outside pasid source =
+      every-outside Absent (FoundSo (λ p. Unit {0})) Last (when-absent Last (λ reason fpd h. refl)) 15 (lookupRules r pasid source)
+      (any-lookup r pasid source)
 
   module _ (pasid : Pasid) (source : ℕ) (m : Memory) where
     pub looked-up : run (translationRules r address write pasid source) m
@@ -131,7 +95,7 @@ module _ (r : ScalableRegisters) (low : r .base .haw ≤ 52) where
       one true q h = omega (arith, eqb-true aw 1 q)
       one false q h = two (eqb aw 2) refl h
 
-  walkable : (privileged fpd : Bool) (e : ℕ) {p : PasidEntry} → tableCheck r privileged fpd e ≡ go p → Walkable p
+  pub walkable : (privileged fpd : Bool) (e : ℕ) {p : PasidEntry} → tableCheck r privileged fpd e ≡ go p → Walkable p
   unfolding tableCheck tableInvalid tableReserved pointersReserved
   walkable privileged fpd e {p} h =
       let h1 = past (not (bit e 0)) 0x59 _ p h in
@@ -166,50 +130,8 @@ module _ (r : ScalableRegisters) (low : r .base .haw ≤ 52) where
       ))
 
   abbrev pub Finds : Lookup → Type 0
-  Finds (pasidEntry p) = Walkable p
-  Finds (noPasidEntry reason fpd) = Unit {0}
-
-  read : (kind : EntryKind) (at : ℕ) (a : Lookup) (next : ℕ → Rules Lookup) (m : Memory) → Finds a → ((e : ℕ) → Finds (run (next e) m))
-      → Finds (run (fetch kind at a next) m)
-  unfolding run
-  read kind at a next m none some = by (entry (wordsOf kind) m at)
-    where
-      by : (f : Fetched) → Finds (onFetch f a (λ e. run (next e) m))
-      by missing = none
-      by (found e) = some e
-
-  answered : (a : Lookup) (m : Memory) → Finds a → Finds (run (answer a) m)
-  unfolding run
-  answered a m h = h
-
-  finds-table : (c : ScalableContext) (fpd : Bool) (table : ℕ) (m : Memory) → Finds (run (tableRules r c fpd table) m)
-  unfolding tableRules
-  finds-table c fpd table m =
-      read pasidTableEntry (table + 64 * bits (c .pasid) 5 0) (noPasidEntry 0x58 fpd) _ m tt
-      (λ e.
-      check-cases (λ q. Finds (run q m)) (tableCheck r (c .privileged) fpd e) (λ reason. noPasidEntry reason (fpd || bit e 1)) (λ p. answer (pasidEntry p))
-      (λ reason told. answered (noPasidEntry reason (fpd || bit e 1)) m tt) (λ p told. answered (pasidEntry p) m (walkable (c .privileged) fpd e told)))
-
-  finds-directory : (c : ScalableContext) (m : Memory) → Finds (run (directoryRules r c) m)
-  unfolding directoryRules
-  finds-directory c m =
-      read pasidDirectoryEntry (c .directory + 8 * bits (c .pasid) 19 6) (noPasidEntry 0x50 (c .fpd)) _ m tt
-      (λ e.
-      check-cases (λ q. Finds (run q m)) (directoryCheck (r .base .haw) e) (λ reason. noPasidEntry reason (c .fpd || bit e 1))
-      (tableRules r c (c .fpd || bit e 1)) (λ reason told. answered (noPasidEntry reason (c .fpd || bit e 1)) m tt) (λ table told. finds-table c (c .fpd || bit e 1) table m))
-
-  finds-context : (pasid : Pasid) (source table : ℕ) (m : Memory) → Finds (run (contextRules r pasid source table) m)
-  unfolding contextRules
-  finds-context pasid source table m =
-      read scalableContextEntry (table + 32 * bits source 6 0) (noPasidEntry 0x40 false) _ m tt
-      (λ e.
-      check-cases (λ q. Finds (run q m)) (contextCheck (r .base .haw) pasid e) (λ reason. noPasidEntry reason (bit e 1)) (directoryRules r)
-      (λ reason told. answered (noPasidEntry reason (bit e 1)) m tt) (λ c told. finds-directory c m))
+  Finds = FoundSo Walkable
 
   pub finds : (pasid : Pasid) (source : ℕ) (m : Memory) → Finds (run (lookupRules r pasid source) m)
-  unfolding lookupRules
   finds pasid source m =
-      read rootEntry (r .base .«root_table» + 16 * busOf source) (noPasidEntry 0x38 false) _ m tt
-      (λ e.
-      check-cases (λ q. Finds (run q m)) (rootCheck (r .base .haw) (bit source 7) e) (λ reason. noPasidEntry reason false) (contextRules r pasid source)
-      (λ reason told. answered (noPasidEntry reason false) m tt) (λ table told. finds-context pasid source table m))
+      every-run Absent Finds (when-absent Finds (λ reason fpd h. tt)) 15 (lookupRules r pasid source) m (lookup-forks r Walkable (λ privileged fpd e p. walkable privileged fpd e) pasid source)

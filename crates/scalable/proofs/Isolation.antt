@@ -4,28 +4,22 @@ use mathlib.Core.Bool.{Bool, true, false, _||_}
 use mathlib.Core.List.{[]}
 use mathlib.Core.Path.{_≡_, refl, ap, ap₂, sym, _∙_}
 use native.Mathlib.Omega.{arith}
-use Rattle.image.specs.Bits.{bit}
 use Rattle.image.specs.Choice.{if_then_else_}
 use Rattle.image.specs.Place.{noEntry}
 use Rattle.image.specs.Rules.{Rules, answer, fetch, run, mapRules, Outside}
+use Rattle.image.proofs.Forks.{every-outside}
 use Rattle.image.proofs.Local.{local}
 use Rattle.image.proofs.Places.{local-place}
-use Rattle.image.proofs.Stages.{check-cases}
 use Rattle.image.proofs.Trees.{met, outside-map, outside-if}
 use Rattle.registers.specs.Admission.{Admitted, refusal, pass, takenUp, admission, onAdmission, inInterruptRange}
 use Rattle.dma.specs.Requests.{MemoryOutcome, granted, blocked, refused, concerned}
 use Rattle.dma.specs.Translation.{overflows}
-use Rattle.pasid.specs.Context.{contextCheck}
-use Rattle.pasid.specs.Directory.{directoryCheck}
 use Rattle.pasid.specs.Record.{scalableFault}
-use Rattle.pasid.specs.Root.{rootCheck}
-use Rattle.pasid.specs.Table.{tableCheck}
 use Rattle.pasid.specs.declared.Pasid.{Pasid}
 use Rattle.pasid.specs.declared.ScalableRegisters.{ScalableRegisters}
-use Rattle.pasid.specs.declared.context.ScalableContext.{ScalableContext}
 use Rattle.pasid.specs.declared.table.PasidEntry.{PasidEntry}
 use Rattle.scalable.specs.Isolation.{accessReason, accessFault, ScalableLocality}
-use Rattle.scalable.specs.Lookup.{Lookup, pasidEntry, noPasidEntry, tableRules, directoryRules, contextRules, lookupRules}
+use Rattle.scalable.specs.Lookup.{Lookup, pasidEntry, noPasidEntry, lookupRules}
 use Rattle.scalable.specs.Requests.{Translation, through, translated, pasidTooWide, withoutEntry, secondPages, pagedRules, lookedUp, typeRules, translationRules, Decision, sayOnly, decision, takenRules, scalableRules}
 use Rattle.first.specs.First.{notCanonical, unfetchable as noFirst}
 use Rattle.second.specs.Second.{atTop, unfetchable, secondStep, secondRules}
@@ -34,6 +28,7 @@ use Rattle.nested.proofs.Nested.{outside-pages}
 use Rattle.nested.proofs.Ways.{outside-walk}
 use Rattle.nested.proofs.Thens.{outside-then}
 use Rattle.scalable.specs.declared.ScalableRequest.{ScalableRequest}
+use Rattle.scalable.proofs.Forks.{Absent, FoundSo, when-absent, any-lookup}
 use lib.Dec.{eqb}
 
 -- a translation that an access fault ends
@@ -46,41 +41,10 @@ abbrev Lost : Lookup → Type 0
 Lost l = Access (withoutEntry l)
 
 module _ (r : ScalableRegisters) where
-  lost-table : (c : ScalableContext) (fpd : Bool) (table : ℕ) → Outside Lost (tableRules r c fpd table)
-  unfolding Outside tableRules
-  lost-table c fpd table = (
-    refl,
-    λ e.
-        check-cases (Outside Lost) (tableCheck r (c .privileged) fpd e) (λ reason. noPasidEntry reason (fpd || bit e 1)) (λ p. answer (pasidEntry p))
-        (λ reason told. tt) (λ p told. tt),
-  )
-
-  lost-directory : (c : ScalableContext) → Outside Lost (directoryRules r c)
-  unfolding Outside directoryRules
-  lost-directory c = (
-    refl,
-    λ e.
-        check-cases (Outside Lost) (directoryCheck (r .base .haw) e) (λ reason. noPasidEntry reason (c .fpd || bit e 1)) (tableRules r c (c .fpd || bit e 1))
-        (λ reason told. tt) (λ table told. lost-table c (c .fpd || bit e 1) table),
-  )
-
-  lost-context : (pasid : Pasid) (source table : ℕ) → Outside Lost (contextRules r pasid source table)
-  unfolding Outside contextRules
-  lost-context pasid source table = (
-    refl,
-    λ e.
-        check-cases (Outside Lost) (contextCheck (r .base .haw) pasid e) (λ reason. noPasidEntry reason (bit e 1)) (directoryRules r)
-        (λ reason told. tt) (λ c told. lost-directory c),
-  )
-
   lost : (pasid : Pasid) (source : ℕ) → Outside Lost (lookupRules r pasid source)
-  unfolding Outside lookupRules
-  lost pasid source = (
-    refl,
-    λ e.
-        check-cases (Outside Lost) (rootCheck (r .base .haw) (bit source 7) e) (λ reason. noPasidEntry reason false) (contextRules r pasid source)
-        (λ reason told. tt) (λ table told. lost-context pasid source table),
-  )
+  lost pasid source =
+      every-outside Absent (FoundSo (λ p. Unit {0})) Lost (when-absent Lost (λ reason fpd h. h)) 15 (lookupRules r pasid source)
+      (any-lookup r pasid source)
 
   second-lost : (fpd top : Bool) → Access (translated (fault (if top then 0x7B else 0x78) fpd))
   second-lost fpd true = refl

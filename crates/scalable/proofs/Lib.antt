@@ -1,6 +1,8 @@
 pub mod Admitted
 pub mod Examples
 pub mod Fetches
+pub mod Fifty
+pub mod Forks
 pub mod Found
 pub mod Isolation
 pub mod Pairs

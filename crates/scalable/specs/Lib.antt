@@ -1,4 +1,5 @@
 pub mod Answers
 pub mod Isolation
 pub mod Lookup
+pub mod Named
 pub mod Requests
