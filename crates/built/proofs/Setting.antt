@@ -182,6 +182,42 @@ missing-too : {f g : Fetched} → Shape f g → f ≡ missing → g ≡ missing
 missing-too shape.neither h = refl
 missing-too (shape.both {e = e}) h = let z : _≡_ {A = Fetched} (found e) missing = h in let y : _≡_ {A = ℕ} 0 1 = cc in absurd (omega arith)
 
+-- where tables are ready: the region, and the tree in it
+module _ (registers : Registers) (windows memory : List ℕ) (start size copy marks source : ℕ) (tree : Tree)
+    (r : Readied registers windows memory start size copy marks source tree) where
+  pub ready-region : Region registers windows memory start size
+  ready-region = region-of registers windows memory start size (r .region)
+
+  pub ready-listed-good : Good registers
+  ready-listed-good = good registers (r .listed)
+
+  pub ready-first : tree .start ≡ start
+  ready-first = ap (λ (t : Tree). t .start) (r .is)
+
+  pub ready-inside : (start ≤ r .own .top) × (r .own .top - start < size)
+  ready-inside =
+      let t = neither (ltb (r .own .top) start) (leb size (r .own .top - start)) (r .inside) in
+      (ltb-false (r .own .top) start (t .0), leb-false size (r .own .top - start) (t .1))
+
+  pub ready-top-is : r .own .top ≡ tree .start + tree .top
+  ready-top-is = let t : tree .top ≡ r .own .top - start = ap (λ (x : Tree). x .top) (r .is) in omega (arith, ready-first, ready-inside .0)
+
+  pub ready-levels-are : r .own .levels ≡ suc (tree .below)
+  ready-levels-are =
+      let t : tree .below ≡ r .own .levels - 1 = ap (λ (x : Tree). x .below) (r .is) in
+      omega (arith, deep registers source (ofWindows windows memory) (r .own-context))
+
+  pub ready-placed : Placed tree (marks)
+  ready-placed =
+      let usable = subst Finds (r .own-context) (finds registers source (ofWindows windows memory)) in
+      record {
+        start-aligned = rw ready-first (ready-region .aligned);
+        top-aligned = omega (arith, ready-top-is, ready-first, ready-region .aligned, usable .2);
+        fits =
+            omega (arith, ready-first, ready-region .ends, ready-region .pages, r .marks-size, pow-mono {i = registers .haw} {j = 52} (ready-listed-good .haw .most));
+        deep = omega (arith, ready-levels-are, deep registers source (ofWindows windows memory) (r .own-context));
+      }
+
 module _ (registers : Registers) (source start size : ℕ) (windows items : List ℕ) (l : Lent)
     (bytes : AreBytes (l .memory)) (copied : AreBytes (l .copy)) (tree : Tree) (c : Completed registers source start size windows items l tree) where
   abbrev ready : Readied registers windows (l .memory) start size (length (l .copy)) (length (l .marks)) source tree
@@ -203,37 +239,25 @@ module _ (registers : Registers) (source start size : ℕ) (windows items : List
   own = c .ready .own
 
   region : Region registers windows (l .memory) start size
-  region = region-of registers windows (l .memory) start size (c .ready .region)
+  region = ready-region registers windows (l .memory) start size (length (l .copy)) (length (l .marks)) source tree (c .ready)
 
   listed-good : Good registers
-  listed-good = good registers (c .ready .listed)
+  listed-good = ready-listed-good registers windows (l .memory) start size (length (l .copy)) (length (l .marks)) source tree (c .ready)
 
   first : tree .start ≡ start
-  first = starts registers source start size windows items l tree c
+  first = ready-first registers windows (l .memory) start size (length (l .copy)) (length (l .marks)) source tree (c .ready)
 
   inside : (start ≤ own .top) × (own .top - start < size)
-  inside =
-      let t = neither (ltb (own .top) start) (leb size (own .top - start)) (c .ready .inside) in
-      (ltb-false (own .top) start (t .0), leb-false size (own .top - start) (t .1))
+  inside = ready-inside registers windows (l .memory) start size (length (l .copy)) (length (l .marks)) source tree (c .ready)
 
   top-is : own .top ≡ tree .start + tree .top
-  top-is = let t : tree .top ≡ own .top - start = ap (λ (x : Tree). x .top) (c .ready .is) in omega (arith, first, inside .0)
+  top-is = ready-top-is registers windows (l .memory) start size (length (l .copy)) (length (l .marks)) source tree (c .ready)
 
   levels-are : own .levels ≡ suc (tree .below)
-  levels-are =
-      let t : tree .below ≡ own .levels - 1 = ap (λ (x : Tree). x .below) (c .ready .is) in
-      omega (arith, deep registers source m (c .ready .own-context))
+  levels-are = ready-levels-are registers windows (l .memory) start size (length (l .copy)) (length (l .marks)) source tree (c .ready)
 
-  placed : Placed tree (length (l .marks))
-  placed =
-      let usable = subst Finds (c .ready .own-context) (finds registers source m) in
-      record {
-        start-aligned = rw first (region .aligned);
-        top-aligned = omega (arith, top-is, first, region .aligned, usable .2);
-        fits =
-            omega (arith, first, region .ends, region .pages, c .ready .marks-size, pow-mono {i = registers .haw} {j = 52} (listed-good .haw .most));
-        deep = omega (arith, levels-are, deep registers source m (c .ready .own-context));
-      }
+  pub placed : Placed tree (length (l .marks))
+  placed = ready-placed registers windows (l .memory) start size (length (l .copy)) (length (l .marks)) source tree (c .ready)
 
   begun-length : length begun ≡ 4096 * length (l .marks)
   begun-length =
@@ -242,7 +266,7 @@ module _ (registers : Registers) (source start size : ℕ) (windows items : List
   well : WellBuilt begun (markedOf registers source start size windows items l tree .1) tree
   well = marked-as-built begun tree (length (l .marks)) placed begun-length (c .marked)
 
-  leaves : Leaves tree items (length items / 4) 0 (tables begun (markedOf registers source start size windows items l tree .1))
+  pub leaves : Leaves tree items (length items / 4) 0 (tables begun (markedOf registers source start size windows items l tree .1))
       (endOf registers source start size windows items l tree .1)
   leaves =
       items-leave registers tree items (length items / 4) 0 (tables begun (markedOf registers source start size windows items l tree .1))
@@ -272,16 +296,16 @@ module _ (registers : Registers) (source start size : ℕ) (windows items : List
       let is = word-in m (tree .start) (length (l .copy) / 8) 0 (l .copy) room n among (rw told (word-below windows (l .memory) bytes (start + 8 * n) there)) in
       ap (λ (k : ℕ). m (k + 8 * n)) first ∙ there ∙ ap found (sym (sym (ap (entryOf begun) all) ∙ is ∙ told))
 
-  ended-bytes : AreBytes ended
+  pub ended-bytes : AreBytes ended
   ended-bytes =
       items-keep AreBytes (λ run at word are. bytes-word run at word are) registers tree items (length items / 4) 0
       (tables begun (markedOf registers source start size windows items l tree .1))
       (bytes-in m (tree .start) (length (l .copy) / 8) 0 (l .copy) copied)
 
-  ended-length : length ended ≡ size
+  pub ended-length : length ended ≡ size
   ended-length = end-length registers source start size windows items l tree c
 
-  shown′ : Shown (ofWindows windows after) (tree .start) ended
+  pub shown′ : Shown (ofWindows windows after) (tree .start) ended
   shown′ n few =
       let small : 8 * n < size = omega (arith, ended-length) in
       let spot = word-whole n small in

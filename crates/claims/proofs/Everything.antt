@@ -34,6 +34,7 @@ use Rattle.scalable.proofs.Written.{scalable-leaves-all, scalable-sets-exactly}
 use Rattle.cache.proofs.PageWords.{page-words}
 use Rattle.cache.proofs.Runs.{equal, as-cached, as-now}
 use Rattle.agreement.proofs.Agreement.{windows-tell, listed-where-walked, spans-agree, others-lack, spans-in-order}
+use Rattle.built.proofs.Again.{builds-on-empty, builds-again}
 use Rattle.built.proofs.Answers.{built-answers}
 use Rattle.built.proofs.Inside.{builds-inside, refusal-leaves}
 use Rattle.interrupts.proofs.Exact.{sets-exactly, leaves-all, stays-inside}
@@ -138,6 +139,8 @@ everything =
       builds-inside = builds-inside;
       refusal-leaves = refusal-leaves;
       built-answers = built-answers;
+      builds-on-empty = builds-on-empty;
+      builds-again = builds-again;
       first-ticks = first-ticks;
       decay = decay;
       never-above = never-above;

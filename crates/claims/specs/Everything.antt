@@ -27,6 +27,7 @@ use Rattle.rights.specs.Rights.{ScalableRightsOn, ScalableRightsOff}
 use Rattle.scalable.specs.Isolation.{ScalableLocality, ScalableSetsExactly, ScalableLeavesAll}
 use Rattle.scalable.specs.Named.{AtMostFifty}
 use Rattle.agreement.specs.Claims.{WindowsTell, ListedWhereWalked, SpansAgree, OthersLack, SpansInOrder}
+use Rattle.built.specs.Again.{BuildsOnEmpty, BuildsAgain}
 use Rattle.built.specs.Claims.{BuiltAnswers}
 use Rattle.built.specs.Inside.{BuildsInside, RefusalLeaves}
 use Rattle.interrupts.specs.Claims.{SetsExactly, NotificationExactly, LeavesAll, StaysInside, IndexBound, EntryOfIndex, NoWrap, AtMostTen, NoneBeforeTable, InterruptAccessMeansUnfetched, Isolated, SameBits}
@@ -131,6 +132,8 @@ pub record Everything : Type 0 where
   pub builds-inside : BuildsInside
   pub refusal-leaves : RefusalLeaves
   pub built-answers : BuiltAnswers
+  pub builds-on-empty : BuildsOnEmpty
+  pub builds-again : BuildsAgain
   -- meters: exact at first, bounded always, and a byte for each
   pub first-ticks : FirstTicks
   pub decay : Decays

@@ -1,8 +1,8 @@
 -- Entries of a region after a store: the one stored, and every other.
-use Prim.Native.Nat.{ℕ, zero, suc, _+_, _-_, _*_, _/_, _%_, _^_, _<_, _≤_}
+use Prim.Native.Nat.{ℕ, zero, suc, _+_, _-_, _*_, _/_, _^_, _<_, _≤_}
 use mathlib.Core.Bool.{true, false, not}
-use mathlib.Core.Path.{_≡_, refl, ap, sym, _∙_}
-use mathlib.Core.List.{List, [], _∷_, _++_, append-assoc}
+use mathlib.Core.Path.{_≡_, refl, ap, _∙_}
+use mathlib.Core.List.{List, _++_, append-assoc}
 use mathlib.Core.Logic.{_⊎_, inl, inr}
 use native.Mathlib.Decide.{decLe}
 use native.Mathlib.Nat.{pow-suc}
@@ -11,7 +11,7 @@ use borrow.Author.Tests.{not-true}
 use lib.ListN.{length, getD, take, drop, length-append, length-drop, List·getD-append}
 use lib.Seq.{length-take-le, take-at, drop-at, getD-take, getD-drop, getD-append-add}
 use Rattle.image.specs.Bytes.{littleEndian, bytesOf}
-use Rattle.image.specs.Memory.{entry, ofImage, onFetch, wordAt, withWord}
+use Rattle.image.specs.Memory.{wordAt, withWord}
 use Rattle.image.proofs.Bytes.{length-bytesOf}
 use Rattle.image.proofs.GoodWindows.{both}
 use Rattle.image.proofs.Same.{same-entry}

@@ -1,11 +1,10 @@
 -- What a list leaves, item after item.
 use Prim.Native.Nat.{ℕ, zero, suc, _+_, _-_, _*_, _/_, _%_, _^_, _<_, _≤_, min}
 use mathlib.Core.Bool.{Bool, true, false, not, _&&_, _||_}
-use mathlib.Core.Path.{_≡_, refl, ap, sym, _∙_, subst}
-use mathlib.Core.List.{List}
+use mathlib.Core.Path.{_≡_, refl, ap, sym, _∙_}
 use native.Mathlib.Nat.{div-one, min-le-right}
 use native.Mathlib.Omega.{arith}
-use borrow.Author.Tests.{eqb-true, eqb-false, eq-eqb, ne-eqb, leb-true, leb-false, ltb-true, ltb-false, le-leb, lt-ltb, not-true, not-false}
+use borrow.Author.Tests.{eqb-true, eqb-false, ne-eqb, leb-true, leb-false, ltb-true, le-leb, lt-ltb, not-false}
 use lib.Dec.{eqb, leb, ltb}
 use lib.Pow.{pow-mono}
 use Rattle.image.specs.Bits.{bits}
@@ -19,14 +18,14 @@ use Rattle.tables.specs.Mapped.{mapped}
 use Rattle.tables.specs.Tables.{Tables, present, mapsPage}
 use Rattle.tables.specs.Unmapped.{unmapped}
 use Rattle.tables.specs.declared.Tree.{Tree}
-use Rattle.builder.specs.Items.{itemAt, changed, takeItem, thenTake, takeItems}
-use Rattle.builder.specs.Reasons.{unmaps, rights, isLarge, levelsBelow, leafOf, badSize, badAlignment, badPlace, badFrame, placeReason, mapReason, orElse, itemReason}
+use Rattle.builder.specs.Items.{itemAt, changed, takeItem, takeItems}
+use Rattle.builder.specs.Reasons.{unmaps, rights, isLarge, levelsBelow, leafOf, badSize, badAlignment, badPlace, placeReason, mapReason, itemReason}
 use Rattle.builder.specs.declared.items.Item.{Item}
 use Rattle.builder.specs.declared.items.Taken.{Taken}
 use Rattle.builder.proofs.ItemLaws.{none-of, both-0, frame-below}
 use Rattle.leaves.specs.Claims.{Leaves, ItemsLeave}
 use Rattle.leaves.specs.Leaves.{Leaf, none, leaf, leafOver, holds, leftBy, left}
-use Rattle.leaves.specs.WellBuilt.{WellBuilt}
+use Rattle.leaves.specs.WellBuilt.{WellBuilt, NoneEmpty}
 use Rattle.leaves.proofs.Addresses.{above}
 use Rattle.leaves.proofs.Mapped.{Changed, mapped-changed}
 use Rattle.leaves.proofs.Unmapped.{unmapped-changed}
@@ -175,11 +174,12 @@ module _ (registers : Registers) (tree : Tree) (item : Item) (t : Tables) (haw :
   pub record Left (after : Tables) : Type 0 where
     pub built : WellBuilt (after .bytes) (after .marks) tree
     pub leaves : (q : ℕ) → q < 2 ^ (12 + 9 * (tree .below + 1)) → leafOver (after .bytes) tree q ≡ leftBy item q (leafOver (t .bytes) tree q)
+    pub none-empty : NoneEmpty (t .bytes) (t .marks) tree → NoneEmpty (after .bytes) (after .marks) tree
 
   module _ (fine : itemReason registers (tree .below + 1) item ≡ 0) where
     left-of : (now : Leaf) → now ≡ (if unmaps item then none else leaf (levelsBelow item) (leafOf item)) → {after : Tables}
-        → Changed tree (item .place) (levelsBelow item) now t after → Left after
-    left-of now is {after} c = record { built = c .built; leaves = λ q hq. go q hq (holds item q) refl }
+        → Changed tree (item .place) (levelsBelow item) now t after (NoneEmpty (t .bytes) (t .marks) tree) → Left after
+    left-of now is {after} c = record { built = c .built; leaves = λ q hq. go q hq (holds item q) refl; none-empty = c .filled }
       where
         go : (q : ℕ) → q < 2 ^ (12 + 9 * (tree .below + 1)) → (h : Bool) → holds item q ≡ h
             → leafOver (after .bytes) tree q ≡ (if h then (if unmaps item then none else leaf (levelsBelow item) (leafOf item)) else leafOver (t .bytes) tree q)
@@ -220,7 +220,7 @@ module _ (registers : Registers) (tree : Tree) (item : Item) (t : Tables) (haw :
 
 pub items-leave : ItemsLeave
 unfolding takeItems left
-items-leave registers tree numbers zero i t haw w h = record { well-built = w; leaves = λ q hq. refl }
+items-leave registers tree numbers zero i t haw w h = record { well-built = w; leaves = λ q hq. refl; none-empty = λ h. h }
 items-leave registers tree numbers (suc n) i t haw w h =
     go (eqb (takeItem registers tree (itemAt numbers i) t .0) 0) refl h (items-leave registers tree numbers n (i + 1))
   where
@@ -238,5 +238,6 @@ items-leave registers tree numbers (suc n) i t haw w h =
         record {
           well-built = rest .well-built;
           leaves = λ q hq. rest .leaves q hq ∙ ap (left numbers n (i + 1) q) (l .leaves q hq);
+          none-empty = λ full. rest .none-empty (l .none-empty full);
         }
     go false e h on = absurd (eqb-false (one .0) 0 e h)

@@ -1,5 +1,8 @@
 pub mod Addresses
+pub mod Again
+pub mod Alike
 pub mod Entries
+pub mod Filled
 pub mod Items
 pub mod Mapped
 pub mod Marked

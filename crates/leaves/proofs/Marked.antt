@@ -1,25 +1,24 @@
 -- Tables that the marking lets pass are as built here: level by level, and in a level entry by entry, each that leads on leads to a page
 -- that was free until then.
-use Prim.Native.Nat.{ℕ, zero, suc, _+_, _-_, _*_, _/_, _%_, _^_, _<_, _≤_}
+use Prim.Native.Nat.{ℕ, zero, suc, _+_, _-_, _*_, _/_, _%_, _<_, _≤_}
 use mathlib.Core.Bool.{Bool, true, false, not, _&&_, _||_}
-use mathlib.Core.Path.{_≡_, refl, ap, sym, _∙_, subst}
+use mathlib.Core.Path.{_≡_, refl, ap, sym, _∙_}
 use mathlib.Core.List.{List}
 use mathlib.Core.Logic.{_⊎_, inl, inr}
 use native.Mathlib.Decide.{decLe, ℕ-discrete}
 use native.Mathlib.Omega.{arith}
-use borrow.Author.Tests.{eqb-true, eqb-false, eq-eqb, ne-eqb, not-true, not-false}
+use borrow.Author.Tests.{eqb-true, eqb-false, eq-eqb, ne-eqb}
 use lib.Dec.{eqb}
 use lib.ListN.{length, getD, set, replicate, length-set, length-replicate, getD-replicate, List·getD-eq-default}
-use lib.Seq.{getD-set-same, getD-set-other}
-use Rattle.image.specs.Bits.{bits}
+use lib.Seq.{getD-set-same}
 use Rattle.image.specs.Choice.{if_then_else_}
 use Rattle.image.proofs.GoodWindows.{both}
 use Rattle.tables.specs.Tables.{entryOf, present, mapsPage, tableEntry, tableOf, emptyTable}
 use Rattle.tables.specs.declared.Tree.{Tree}
 use Rattle.marking.specs.Marking.{Marked, thenMark, freePage, leadsToFree, markEntry, markEntries, markTable, markLevel, markLevels, markAll}
 use Rattle.marking.proofs.Turns.{there}
-use Rattle.leaves.specs.Claims.{MarkedAsBuilt}
-use Rattle.leaves.specs.WellBuilt.{Placed, leadsOn, Leads, WellBuilt}
+use Rattle.leaves.specs.Claims.{MarkedAsBuilt, MarkedNoneEmpty}
+use Rattle.leaves.specs.WellBuilt.{Placed, leadsOn, Leads}
 use Rattle.leaves.proofs.Passes.{marked-inside, leads-deep}
 use Rattle.leaves.proofs.Steps.{contradicts, other-mark}
 
@@ -42,35 +41,74 @@ table-whole : (start e : ℕ) → start % 4096 ≡ 0 → tableOf start e ≡ 409
 unfolding tableOf
 table-whole start e aligned = omega arith
 
+-- entries of the tables above a level, and those of its tables before entry z
+abbrev pub Seen : (level z x n : ℕ) → Type 0
+Seen level z x n = (level < n) ⊎ ((n ≡ level) × (x < z))
+
+-- entries of the tables from a level up
+abbrev pub From : (level x n : ℕ) → Type 0
+From level x n = level ≤ n
+
+-- the marks when the top table alone has one
+abbrev pub topAlone : Tree → (pages : ℕ) → List ℕ
+topAlone tree pages = set (replicate pages 0) (tree .top / 4096) (tree .below + 1)
+
+pub top-alone : (tree : Tree) (pages page n : ℕ) → tree .top / 4096 < pages → getD (topAlone tree pages) page 0 ≡ suc n
+    → (page ≡ tree .top / 4096) × (n ≡ tree .below)
+top-alone tree pages page n inside m = by (ℕ-discrete page (tree .top / 4096))
+  where
+    zeros : Dec (pages ≤ page) → getD {A = ℕ} (replicate pages 0) page 0 ≡ 0
+    zeros (yes out) = List·getD-eq-default (replicate pages 0) 0 (rw (length-replicate {A = ℕ} pages 0) out)
+    zeros (no in-it) = getD-replicate pages page 0 0 (omega arith)
+
+    by : Dec (page ≡ tree .top / 4096) → (page ≡ tree .top / 4096) × (n ≡ tree .below)
+    by (yes same) =
+        let k = getD-set-same (replicate pages 0) (tree .top / 4096) (tree .below + 1) 0 (rw (length-replicate {A = ℕ} pages 0) inside) in
+        let m′ : getD (topAlone tree pages) (tree .top / 4096) 0 ≡ suc n = rw same at m in
+        (same, omega arith)
+    by (no apart) =
+        let k = other-mark (replicate pages 0) (tree .top / 4096) (tree .below + 1) page apart in
+        let z = zeros (decLe pages page) in
+        absurd (omega arith)
+
 module _ (bytes : List ℕ) (tree : Tree) (pages : ℕ) (placed : Placed tree pages) where
-  -- entries of the tables above a level, and those of its tables before entry z
-  abbrev Seen : (level z x n : ℕ) → Type 0
-  Seen level z x n = (level < n) ⊎ ((n ≡ level) × (x < z))
-
-  -- entries of the tables from a level up
-  abbrev From : (level x n : ℕ) → Type 0
-  From level x n = level ≤ n
-
   record Good (S : (x n : ℕ) → Type 0) (marks : List ℕ) : Type 0 where
     pub sized : length marks ≡ pages
     pub top-marked : getD marks (tree .top / 4096) 0 ≡ tree .below + 1
     pub from : ℕ → ℕ
     pub leads : (x n : ℕ) → S x n → getD marks (x / 512) 0 ≡ suc n → leadsOn n (entryOf bytes (8 * x)) ≡ true
         → Leads tree marks from x n (entryOf bytes (8 * x))
+    pub filled : (page n : ℕ) → S (512 * page) n → getD marks page 0 ≡ suc n → (4096 * page ≡ tree .top → ⊥) → emptyTable bytes (4096 * page) ≡ false
 
   fewer : (S T : (x n : ℕ) → Type 0) (marks : List ℕ) → ((x n : ℕ) → T x n → getD marks (x / 512) 0 ≡ suc n → S x n) → Good S marks → Good T marks
   fewer S T marks of g =
-      record { sized = g .sized; top-marked = g .top-marked; from = g .from; leads = λ x n s m h. g .leads x n (of x n s m) m h }
+      record {
+        sized = g .sized;
+        top-marked = g .top-marked;
+        from = g .from;
+        leads = λ x n s m h. g .leads x n (of x n s m) m h;
+        filled = λ page n s m. (let here : 512 * page / 512 ≡ page = omega arith in g .filled page n (of (512 * page) n s (rw here m)) m);
+      }
 
   seen-deep : (level z x n : ℕ) → Seen level z x n → level ≤ n
   seen-deep level z x n (inl h) = omega arith
   seen-deep level z x n (inr h) = omega (arith, h .0)
 
   -- one entry, of a table of the level
-  module _ (level z : ℕ) (marks : List ℕ) (g : Good (Seen level z) marks) (mark : getD marks (z / 512) 0 ≡ suc level) where
+  module _ (level z : ℕ) (marks : List ℕ) (g : Good (Seen level z) marks) (mark : getD marks (z / 512) 0 ≡ suc level)
+      (full : (4096 * (z / 512) ≡ tree .top → ⊥) → emptyTable bytes (4096 * (z / 512)) ≡ false) where
+    full-next : (page n : ℕ) → Seen level (suc z) (512 * page) n → getD marks page 0 ≡ suc n → (4096 * page ≡ tree .top → ⊥)
+        → emptyTable bytes (4096 * page) ≡ false
+    full-next page n (inl s) m top = g .filled page n (inl s) m top
+    full-next page n (inr s) m top = go (ℕ-discrete (512 * page) z)
+      where
+        go : Dec (512 * page ≡ z) → emptyTable bytes (4096 * page) ≡ false
+        go (yes same) = let here : page ≡ z / 512 = omega arith in rw here (full (rw here at top))
+        go (no apart) = g .filled page n (inr (s .0, omega (arith, s .1, apart))) m top
+
     -- it leads nowhere
     passes : leadsOn level (entryOf bytes (8 * z)) ≡ false → Good (Seen level (suc z)) marks
-    passes h = record { sized = g .sized; top-marked = g .top-marked; from = g .from; leads = led }
+    passes h = record { sized = g .sized; top-marked = g .top-marked; from = g .from; leads = led; filled = full-next }
       where
         led : (x n : ℕ) → Seen level (suc z) x n → getD marks (x / 512) 0 ≡ suc n → leadsOn n (entryOf bytes (8 * x)) ≡ true
             → Leads tree marks (g .from) x n (entryOf bytes (8 * x))
@@ -93,8 +131,15 @@ module _ (bytes : List ℕ) (tree : Tree) (pages : ℕ) (placed : Placed tree pa
             top-marked = other-mark marks f level (tree .top / 4096) (λ same. let m = g .top-marked in let m′ : getD marks f 0 ≡ tree .below + 1 = rw same at m in omega arith) ∙ g .top-marked;
             from = from′;
             leads = led;
+            filled = λ page n s m. full-next page n s (sym (other-mark marks f level page (not-f page n s m)) ∙ m);
           }
         where
+          not-f : (page n : ℕ) → Seen level (suc z) (512 * page) n → getD (set marks f level) page 0 ≡ suc n → page ≡ f → ⊥
+          not-f page n s m same =
+              let m′ : getD (set marks f level) f 0 ≡ suc n = rw same at m in
+              let k = getD-set-same marks f level 0 inside in
+              omega (arith, seen-deep level (suc z) (512 * page) n s)
+
           kept : (x n : ℕ) → level ≤ n → Leads tree marks (g .from) x n (entryOf bytes (8 * x)) → leadsOn n (entryOf bytes (8 * x)) ≡ true
               → Leads tree (set marks f level) from′ x n (entryOf bytes (8 * x))
           kept x n less l h =
@@ -178,20 +223,21 @@ module _ (bytes : List ℕ) (tree : Tree) (pages : ℕ) (placed : Placed tree pa
         go false k false l h = absurd (contradicts refl h)
 
   -- so many entries of a table
-  entries-step : (level k z page : ℕ) (marks : List ℕ) → Good (Seen level z) marks → getD marks page 0 ≡ suc level → 512 * page ≤ z
-      → z + k ≤ 512 * page + 512 → markEntries bytes (tree .start) level k (8 * z) marks .0 ≡ true
+  entries-step : (level k z page : ℕ) (marks : List ℕ) → Good (Seen level z) marks → getD marks page 0 ≡ suc level
+      → ((4096 * page ≡ tree .top → ⊥) → emptyTable bytes (4096 * page) ≡ false) → 512 * page ≤ z → z + k ≤ 512 * page + 512
+      → markEntries bytes (tree .start) level k (8 * z) marks .0 ≡ true
       → Good (Seen level (z + k)) (markEntries bytes (tree .start) level k (8 * z) marks .1)
   unfolding markEntries
-  entries-step level zero z page marks g mark from to h = let same : z + 0 ≡ z = omega arith in rw same g
-  entries-step level (suc k) z page marks g mark from to h =
+  entries-step level zero z page marks g mark full from to h = let same : z + 0 ≡ z = omega arith in rw same g
+  entries-step level (suc k) z page marks g mark full from to h =
       let here : z / 512 ≡ page = omega arith in
       let next : 8 * z + 8 ≡ 8 * suc z = omega arith in
       let one = markEntry (tree .start) level (entryOf bytes (8 * z)) marks in
       let good = then-good one (markEntries bytes (tree .start) level k (8 * z + 8)) h in
-      let step = entry-step level z marks g (rw here mark) (good .0) in
+      let step = entry-step level z marks g (rw here mark) (rw here full) (good .0) in
       let rest : markEntries bytes (tree .start) level k (8 * suc z) (one .1) .0 ≡ true =
       rw (← next) (ap (λ (m : Marked). m .0) (sym (good .1)) ∙ h) in
-      let after = entries-step level k (suc z) page (one .1) (step .good) (step .stays page level mark) (omega arith) (omega arith) rest in
+      let after = entries-step level k (suc z) page (one .1) (step .good) (step .stays page level mark) full (omega arith) (omega arith) rest in
       let sum : z + suc k ≡ suc z + k = omega arith in
       rw (good .1, next, sum) after
 
@@ -200,7 +246,7 @@ module _ (bytes : List ℕ) (tree : Tree) (pages : ℕ) (placed : Placed tree pa
       → Good (Seen level (512 * (page + 1))) (markTable bytes tree level page marks .1)
   unfolding markTable
   table-step level page marks g =
-      go (eqb (getD marks page 0) (suc level)) refl (not (eqb (4096 * page) (tree .top)) && emptyTable bytes (4096 * page))
+      go (eqb (getD marks page 0) (suc level)) refl (not (eqb (4096 * page) (tree .top)) && emptyTable bytes (4096 * page)) refl
     where
       next : 512 * (page + 1) ≡ 512 * page + 512
       next = omega arith
@@ -220,15 +266,20 @@ module _ (bytes : List ℕ) (tree : Tree) (pages : ℕ) (placed : Placed tree pa
               absurd (eqb-false (getD marks page 0) (suc level) e (m′ ∙ ap suc (s .0)))
           by (no before) = omega arith
 
+      full : (not (eqb (4096 * page) (tree .top)) && emptyTable bytes (4096 * page)) ≡ false → (4096 * page ≡ tree .top → ⊥)
+          → emptyTable bytes (4096 * page) ≡ false
+      full k top = rw (ne-eqb (4096 * page) (tree .top) top) at k
+
       go : (a : Bool) → eqb (getD marks page 0) (suc level) ≡ a → (b : Bool)
+          → (not (eqb (4096 * page) (tree .top)) && emptyTable bytes (4096 * page)) ≡ b
           → (if_then_else_ {A = Marked} (not a) (true, marks) (if b then (false, marks) else markEntries bytes (tree .start) level 512 (4096 * page) marks)) .0 ≡ true
           → Good (Seen level (512 * (page + 1)))
           ((if_then_else_ {A = Marked} (not a) (true, marks) (if b then (false, marks) else markEntries bytes (tree .start) level 512 (4096 * page) marks)) .1)
-      go false e b h = fewer (Seen level (512 * page)) (Seen level (512 * (page + 1))) marks (none e) g
-      go true e true h = absurd (contradicts refl h)
-      go true e false h =
+      go false e b k h = fewer (Seen level (512 * page)) (Seen level (512 * (page + 1))) marks (none e) g
+      go true e true k h = absurd (contradicts refl h)
+      go true e false k h =
           rw (next, place)
-          (entries-step level 512 (512 * page) page marks g (eqb-true (getD marks page 0) (suc level) e) (omega arith) (omega arith) (rw place at h))
+          (entries-step level 512 (512 * page) page marks g (eqb-true (getD marks page 0) (suc level) e) (λ top. full k top) (omega arith) (omega arith) (rw place at h))
 
   -- so many pages
   level-step : (level k page : ℕ) (marks : List ℕ) → Good (Seen level (512 * page)) marks → markLevel bytes tree level k page marks .0 ≡ true
@@ -268,48 +319,30 @@ module _ (bytes : List ℕ) (tree : Tree) (pages : ℕ) (placed : Placed tree pa
           by (yes low) = let inside = marked-inside after (x / 512) m in inr (omega arith, omega arith)
           by (no high) = inl (omega arith)
 
-  -- the top table alone is marked
-  first : freePage (replicate pages 0) (tree .top) ≡ true → Good (From (tree .below + 1)) (set (replicate pages 0) (tree .top / 4096) (tree .below + 1))
+  first : freePage (replicate pages 0) (tree .top) ≡ true → Good (From (tree .below + 1)) (topAlone tree pages)
   first h =
       record {
         sized = length-set (replicate pages 0) (tree .top / 4096) (tree .below + 1) ∙ length-replicate pages 0;
         top-marked = getD-set-same (replicate pages 0) (tree .top / 4096) (tree .below + 1) 0 inside;
         from = λ page. 0;
-        leads = λ x n s m l. absurd (high x n s m (ℕ-discrete (x / 512) (tree .top / 4096)));
+        leads = λ x n s m l. absurd (high x n s m);
+        filled = λ page n s m top. absurd (high (512 * page) n s (let here : 512 * page / 512 ≡ page = omega arith in rw here m));
       }
     where
       inside : tree .top / 4096 < length {A = ℕ} (replicate pages 0)
       inside = free-inside (replicate pages 0) (tree .top / 4096) (eqb-true (getD (replicate pages 0) (tree .top / 4096) 1) 0 h)
 
-      zeros : (page : ℕ) → getD {A = ℕ} (replicate pages 0) page 0 ≡ 0
-      zeros page = by (decLe pages page)
-        where
-          by : Dec (pages ≤ page) → getD {A = ℕ} (replicate pages 0) page 0 ≡ 0
-          by (yes out) = List·getD-eq-default (replicate pages 0) 0 (rw (length-replicate {A = ℕ} pages 0) out)
-          by (no in-it) = getD-replicate pages page 0 0 (omega arith)
-
-      high : (x n : ℕ) → tree .below + 1 ≤ n → getD (set (replicate pages 0) (tree .top / 4096) (tree .below + 1)) (x / 512) 0 ≡ suc n
-          → Dec (x / 512 ≡ tree .top / 4096) → ⊥
-      high x n s m (yes same) =
-          let k = getD-set-same (replicate pages 0) (tree .top / 4096) (tree .below + 1) 0 inside in
-          let m′ : getD (set (replicate pages 0) (tree .top / 4096) (tree .below + 1)) (tree .top / 4096) 0 ≡ suc n = rw same at m in
-          omega arith
-      high x n s m (no apart) =
-          let k = other-mark (replicate pages 0) (tree .top / 4096) (tree .below + 1) (x / 512) apart in
-          let z = zeros (x / 512) in
-          omega arith
+      high : (x n : ℕ) → tree .below + 1 ≤ n → getD (topAlone tree pages) (x / 512) 0 ≡ suc n → ⊥
+      high x n s m = let t = top-alone tree pages (x / 512) n (rw (length-replicate {A = ℕ} pages 0) at inside) m in omega (arith, t .1)
 
   all-good : markAll bytes tree pages .0 ≡ true → Good (From 0) (markAll bytes tree pages .1)
   unfolding markAll
   all-good = go (freePage (replicate pages 0) (tree .top)) refl
     where
-      top : List ℕ
-      top = set (replicate pages 0) (tree .top / 4096) (tree .below + 1)
-
       go : (b : Bool) → freePage (replicate pages 0) (tree .top) ≡ b
-          → (if b then markLevels bytes tree (tree .below + 1) top else (false, replicate pages 0)) .0 ≡ true
-          → Good (From 0) ((if b then markLevels bytes tree (tree .below + 1) top else (false, replicate pages 0)) .1)
-      go true e h = levels-step (tree .below + 1) top (first e) h
+          → (if b then markLevels bytes tree (tree .below + 1) (topAlone tree pages) else (false, replicate pages 0)) .0 ≡ true
+          → Good (From 0) ((if b then markLevels bytes tree (tree .below + 1) (topAlone tree pages) else (false, replicate pages 0)) .1)
+      go true e h = levels-step (tree .below + 1) (topAlone tree pages) (first e) h
       go false e h = absurd (contradicts refl h)
 
 pub marked-as-built : MarkedAsBuilt
@@ -322,3 +355,6 @@ marked-as-built bytes tree pages placed sized h =
       from = g .from;
       leads = λ n below m l. g .leads n below (omega arith) m l;
     }
+
+pub marked-none-empty : MarkedNoneEmpty
+marked-none-empty bytes tree pages placed h page below m top = all-good bytes tree pages placed h .filled page below (omega arith) m top

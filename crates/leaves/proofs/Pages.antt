@@ -1,14 +1,14 @@
 -- The lowest free page, where there is one, and how many there are after it was taken.
-use Prim.Native.Nat.{ℕ, zero, suc, _+_, _<_, _≤_}
+use Prim.Native.Nat.{ℕ, suc, _+_, _<_}
 use mathlib.Core.Bool.{Bool, true, false}
-use mathlib.Core.Path.{_≡_, refl, ap, sym, _∙_}
+use mathlib.Core.Path.{_≡_, refl}
 use mathlib.Core.List.{List, [], _∷_}
 use native.Mathlib.Omega.{arith}
 use borrow.Author.Tests.{eqb-true, ne-eqb}
 use lib.Dec.{eqb}
 use lib.ListN.{length, getD, set}
 use Rattle.image.specs.Choice.{if_then_else_}
-use Rattle.tables.specs.Pages.{lowest, oneIfFree, freePages}
+use Rattle.tables.specs.Pages.{lowest, freePages}
 
 pub lowest-free : (marks : List ℕ) → 0 < freePages marks → (lowest marks < length marks) × (getD marks (lowest marks) 0 ≡ 0)
 unfolding lowest freePages

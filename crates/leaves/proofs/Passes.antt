@@ -1,5 +1,5 @@
 -- The tables that the way to an address passes through, from the top one down: a page by its number in the region.
-use Prim.Native.Nat.{ℕ, zero, suc, _+_, _-_, _*_, _/_, _%_, _^_, _<_, _≤_}
+use Prim.Native.Nat.{ℕ, zero, suc, _+_, _-_, _*_, _/_, _^_, _<_, _≤_}
 use mathlib.Core.Bool.{Bool, true, false, not, _&&_, _||_}
 use mathlib.Core.Path.{_≡_, refl, ap, sym, _∙_, subst}
 use mathlib.Core.List.{List}
@@ -10,14 +10,14 @@ use borrow.Author.Tests.{ne-eqb, eq-eqb, eqb-false, not-true}
 use lib.Dec.{eqb}
 use lib.ListN.{length, getD, List·getD-eq-default}
 use Rattle.image.specs.Choice.{if_then_else_}
-use Rattle.image.proofs.GoodWindows.{both, neither}
+use Rattle.image.proofs.GoodWindows.{both}
 use Rattle.dma.specs.Walk.{placeIn}
-use Rattle.tables.specs.Tables.{entryOf, present, mapsPage, tableEntry, tableOf}
+use Rattle.tables.specs.Tables.{entryOf, present, mapsPage, tableOf}
 use Rattle.tables.specs.Way.{ends, stopIn, wayTo, way}
 use Rattle.tables.specs.declared.Tree.{Tree}
 use Rattle.tables.specs.declared.way.Stop.{Stop}
-use Rattle.leaves.specs.Leaves.{Leaf, none, leaf, leafAt, leafOver}
-use Rattle.leaves.specs.WellBuilt.{Placed, leadsOn, Leads, WellBuilt}
+use Rattle.leaves.specs.Leaves.{none, leaf, leafAt, leafOver}
+use Rattle.leaves.specs.WellBuilt.{leadsOn, Leads, WellBuilt}
 use Rattle.leaves.proofs.Addresses.{above, index, number, index-small, above-next, above-split, above-all, placed, table-back}
 
 -- the entry on the way in a page that is a table with so many levels below it

@@ -2,28 +2,28 @@
 -- empty table is released. Each keeps the tables as built here; the first changes the pages at the addresses whose way comes to its
 -- entry, the others change none.
 use Prim.Native.Nat.{ℕ, zero, suc, _+_, _-_, _*_, _/_, _%_, _^_, _<_, _≤_}
-use mathlib.Core.Bool.{Bool, true, false, not, _&&_, _||_}
+use mathlib.Core.Bool.{Bool, true, false, not, _&&_}
 use mathlib.Core.Path.{_≡_, refl, ap, sym, _∙_, subst}
 use mathlib.Core.List.{List}
 use mathlib.Core.Logic.{_⊎_, inl, inr}
 use native.Mathlib.Decide.{decLe, ℕ-discrete}
 use native.Mathlib.Omega.{arith}
 use native.Mathlib.Nat.{div-one}
-use borrow.Author.Tests.{ne-eqb, eq-eqb, not-true}
+use borrow.Author.Tests.{ne-eqb, eq-eqb}
 use lib.Dec.{eqb}
 use lib.ListN.{length, getD, set, length-set}
 use lib.Seq.{getD-set-same, getD-set-other}
 use Rattle.image.specs.Bits.{bits}
 use Rattle.image.specs.Choice.{if_then_else_}
 use Rattle.image.specs.Memory.{withWord}
-use Rattle.tables.specs.Tables.{entryOf, present, mapsPage, tableEntry, tableOf, zeroed}
+use Rattle.tables.specs.Tables.{entryOf, present, tableEntry, tableOf, zeroed}
 use Rattle.tables.specs.Way.{wayTo}
 use Rattle.tables.specs.declared.Tree.{Tree}
-use Rattle.leaves.specs.Leaves.{Leaf, none, leaf, leafAt, leafOver}
-use Rattle.leaves.specs.WellBuilt.{Placed, leadsOn, Leads, WellBuilt}
+use Rattle.leaves.specs.Leaves.{none, leaf, leafAt, leafOver}
+use Rattle.leaves.specs.WellBuilt.{leadsOn, Leads, WellBuilt}
 use Rattle.leaves.proofs.Addresses.{above, index, number, index-small, above-next, above-split, placed, table-back}
 use Rattle.leaves.proofs.Entries.{length-stored, entry-kept, entry-stored, length-zeroed, zeroed-elsewhere, zeroed-there}
-use Rattle.leaves.proofs.Passes.{Passes, at-top, onward, entryOn, marked-inside, leads-deep, goes-on, stops, way-here, way-down, led-to, passed-mark, one-way, passing-too, passing-still, same-leaf, leaf-in}
+use Rattle.leaves.proofs.Passes.{Passes, onward, entryOn, marked-inside, leads-deep, goes-on, stops, way-here, way-down, led-to, passed-mark, one-way, passing-too, passing-still, same-leaf, leaf-in}
 
 -- nothing present leads on
 pub absent-ends : (n e : ℕ) → present e ≡ false → leadsOn n e ≡ false
@@ -58,8 +58,8 @@ other-kept bytes x word y apart = go (decLe y x)
     go (no h) = entry-kept bytes (8 * x) word (8 * y) (inr (omega arith))
 
 module _ (bytes marks : List ℕ) (tree : Tree) (w : WellBuilt bytes marks tree) (x level : ℕ) (mark : getD marks (x / 512) 0 ≡ suc level) where
-  inside : 8 * x + 8 ≤ length bytes
-  inside = let h = marked-inside marks (x / 512) mark in omega (arith, w .sized)
+  pub in-region : 8 * x + 8 ≤ length bytes
+  in-region = let h = marked-inside marks (x / 512) mark in omega (arith, w .sized)
 
   -- an entry that leads nowhere over another such
   module _ (word : ℕ) (fits : word < 2 ^ 64) (was : leadsOn level (entryOf bytes (8 * x)) ≡ false) (is : leadsOn level word ≡ false) where
@@ -79,7 +79,7 @@ module _ (bytes marks : List ℕ) (tree : Tree) (w : WellBuilt bytes marks tree)
           where
             go : Dec (y ≡ x) → Leads tree marks (w .from) y n (entryOf (withWord bytes (8 * x) word) (8 * y))
             go (yes same) =
-                let e : entryOf (withWord bytes (8 * x) word) (8 * y) ≡ word = rw same (entry-stored bytes (8 * x) word inside fits) in
+                let e : entryOf (withWord bytes (8 * x) word) (8 * y) ≡ word = rw same (entry-stored bytes (8 * x) word in-region fits) in
                 let m′ : getD marks (x / 512) 0 ≡ suc n = rw same at m in
                 let deep : n ≡ level = omega arith in
                 absurd (contradicts is (rw (e, deep) at h))
@@ -103,7 +103,7 @@ module _ (bytes marks : List ℕ) (tree : Tree) (w : WellBuilt bytes marks tree)
           let upper : above q (suc level) ≡ above place (suc level) = rw (above-next q level, above-next place level, same) in
           let i : index q level ≡ index place level =
           omega (arith, above-split q level, above-split place level, index-small q level, index-small place level) in
-          let e : entryOn (withWord bytes (8 * x) word) q page level ≡ word = rw (i, here) (entry-stored bytes (8 * x) word inside fits) in
+          let e : entryOn (withWord bytes (8 * x) word) q page level ≡ word = rw (i, here) (entry-stored bytes (8 * x) word in-region fits) in
           leaf-in (withWord bytes (8 * x) word) tree q (still q (omega arith) (passing-too bytes tree place q upper passes)) (rw e is) ∙ rw e
 
       pub stored-elsewhere : place < 2 ^ (12 + 9 * (tree .below + 1)) → (q : ℕ) → q < 2 ^ (12 + 9 * (tree .below + 1))
@@ -159,7 +159,7 @@ module _ (bytes marks : List ℕ) (tree : Tree) (w : WellBuilt bytes marks tree)
   made-sized : length made ≡ 4096 * length marks
   made-sized = length-stored cleared (8 * x) (tableEntry (tree .start) (4096 * f)) ∙ length-zeroed 512 bytes (4096 * f) ∙ w .sized
 
-  made-here : entryOf made (8 * x) ≡ tableEntry (tree .start) (4096 * f)
+  pub made-here : entryOf made (8 * x) ≡ tableEntry (tree .start) (4096 * f)
   made-here =
       let h = marked-inside marks (x / 512) mark in
       entry-stored cleared (8 * x) (tableEntry (tree .start) (4096 * f)) (rw (length-zeroed 512 bytes (4096 * f)) (omega (arith, w .sized)))
@@ -171,7 +171,7 @@ module _ (bytes marks : List ℕ) (tree : Tree) (w : WellBuilt bytes marks tree)
       other-kept cleared x (tableEntry (tree .start) (4096 * f)) y (λ same. not-free x level mark (rw same at in-it))
       ∙ rw place (zeroed-there 512 bytes (4096 * f) (y % 512) (omega (arith, w .sized)) (omega arith))
 
-  made-other : (y : ℕ) → (y ≡ x → ⊥) → (y / 512 ≡ f → ⊥) → entryOf made (8 * y) ≡ entryOf bytes (8 * y)
+  pub made-other : (y : ℕ) → (y ≡ x → ⊥) → (y / 512 ≡ f → ⊥) → entryOf made (8 * y) ≡ entryOf bytes (8 * y)
   made-other y apart outside = other-kept cleared x (tableEntry (tree .start) (4096 * f)) y apart ∙ go (decLe y (512 * f))
     where
       go : Dec (y ≤ 512 * f) → entryOf cleared (8 * y) ≡ entryOf bytes (8 * y)
@@ -225,7 +225,7 @@ module _ (bytes marks : List ℕ) (tree : Tree) (w : WellBuilt bytes marks tree)
                 alone = rw (ne-eqb (l .page) f not-f) (l .alone);
               }
 
-  made-leads : leadsOn level (entryOf made (8 * x)) ≡ true
+  pub made-leads : leadsOn level (entryOf made (8 * x)) ≡ true
   made-leads = rw made-here (table-leads (tree .start) f level (w .placed .start-aligned) deep)
 
   made-down : tableOf (tree .start) (entryOf made (8 * x)) ≡ 4096 * f
@@ -288,7 +288,7 @@ module _ (bytes marks : List ℕ) (tree : Tree) (w : WellBuilt bytes marks tree)
   f-from : w .from f ≡ x
   f-from = rw (← same-page) (w .leads x level mark leads .alone)
 
-  f-inside : f < length marks
+  pub f-inside : f < length marks
   f-inside = marked-inside marks f {n = level - 1} (f-level ∙ omega (arith, deep))
 
   freed-here : entryOf freed (8 * x) ≡ 0

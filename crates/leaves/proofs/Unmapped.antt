@@ -1,27 +1,28 @@
 -- A page that was unmapped: the tables are as built here, and no page is mapped at its addresses.
 use Prim.Native.Nat.{ℕ, zero, suc, _+_, _-_, _*_, _/_, _%_, _^_, _<_, _≤_}
-use mathlib.Core.Bool.{Bool, true, false, not, _&&_, _||_}
+use mathlib.Core.Bool.{Bool, true, false, _&&_}
 use mathlib.Core.Path.{_≡_, refl, ap, sym, _∙_, subst}
 use mathlib.Core.List.{List}
 use native.Mathlib.Omega.{arith}
 use borrow.Author.Tests.{eqb-true}
 use lib.Dec.{eqb}
-use lib.ListN.{length, getD, set}
+use lib.ListN.{getD}
 use Rattle.image.specs.Choice.{if_then_else_}
 use Rattle.image.specs.Memory.{withWord}
 use Rattle.image.proofs.GoodWindows.{both}
-use Rattle.tables.specs.Tables.{Tables, tables, entryOf, present, mapsPage, tableOf, emptyTable}
+use Rattle.tables.specs.Tables.{Tables, tables, entryOf, present, mapsPage, emptyTable}
 use Rattle.tables.specs.Unmapped.{withoutTable, released, leafHere, unmapped}
-use Rattle.tables.specs.Way.{stopIn, wayTo, way}
+use Rattle.tables.specs.Way.{stopIn, way}
 use Rattle.tables.specs.declared.Tree.{Tree}
 use Rattle.tables.specs.declared.way.Stop.{Stop}
-use Rattle.leaves.specs.Leaves.{Leaf, none, leaf, leafAt, leafOver}
-use Rattle.leaves.specs.WellBuilt.{leadsOn, WellBuilt}
-use Rattle.leaves.proofs.Addresses.{above, index, number, index-small, placed}
+use Rattle.leaves.specs.Leaves.{none, leafOver}
+use Rattle.leaves.specs.WellBuilt.{leadsOn, WellBuilt, NoneEmpty}
+use Rattle.leaves.proofs.Addresses.{number, placed}
 use Rattle.leaves.proofs.Entries.{each-absent}
+use Rattle.leaves.proofs.Filled.{FilledBut, all-but, and-it, filled-page, stored-but, freed-but}
 use Rattle.leaves.proofs.Mapped.{Changed, page-is}
-use Rattle.leaves.proofs.Passes.{Passes, at-top, onward, entryOn, ends-last, way-here, passing, passed-mark, Arrived, arrives}
-use Rattle.leaves.proofs.Steps.{absent-ends, zero-absent, stored-built, stored-still, stored-here, stored-elsewhere, freed-built, freed-leaf, freed-passes}
+use Rattle.leaves.proofs.Passes.{Passes, at-top, onward, entryOn, ends-last, way-here, passing, not-over, passed-mark, Arrived, arrives}
+use Rattle.leaves.proofs.Steps.{absent-ends, zero-absent, in-region, f-inside, stored-built, stored-still, stored-here, stored-elsewhere, freed-built, freed-leaf, freed-passes}
 
 -- the same pages, in tables as built here
 pub record Kept (tree : Tree) (before after : Tables) : Type 0 where
@@ -42,14 +43,15 @@ maps-ends n e h = rw h (go (present e))
 
 module _ (tree : Tree) (place : ℕ) where
   -- a table was released: the way comes to the one over it
-  record Released (below : ℕ) (before after : Tables) : Type 0 where
+  record Released (below page : ℕ) (before after : Tables) : Type 0 where
     pub kept : Kept tree before after
     pub upper : ℕ
+    pub filled : FilledBut (before .bytes) (before .marks) tree page → FilledBut (after .bytes) (after .marks) tree upper
     pub passes : Passes (after .bytes) tree place (suc below) upper
 
   release : (below page : ℕ) (t : Tables) → WellBuilt (t .bytes) (t .marks) tree → below < tree .below → Passes (t .bytes) tree place below page
       → emptyTable (t .bytes) (way (t .bytes) tree place below .table) ≡ true
-      → Released below t (withoutTable (way (t .bytes) tree place below .table) (way (t .bytes) tree place (suc below) .at) t)
+      → Released below page t (withoutTable (way (t .bytes) tree place below .table) (way (t .bytes) tree place (suc below) .at) t)
   release below page t w less (at-top level top) empty = absurd (omega arith)
   release below page t w less (onward upper p leads down) empty =
       let x = number place upper (suc below) in
@@ -70,34 +72,57 @@ module _ (tree : Tree) (place : ℕ) where
           same = freed-leaf (t .bytes) (t .marks) tree w x (suc below) page mark leads down less absent;
         };
         upper = upper;
+        filled = λ full. rw (page-is place upper (suc below)) at (freed-but (t .bytes) (t .marks) tree x page (f-inside (t .bytes) (t .marks) tree w x (suc below) page mark leads down less absent) full);
         passes = freed-passes (t .bytes) (t .marks) tree w x (suc below) page mark leads down less absent place p;
       })
 
-  released-kept : (k below page : ℕ) (t : Tables) → WellBuilt (t .bytes) (t .marks) tree → below + k ≤ tree .below
-      → Passes (t .bytes) tree place below page → Kept tree t (released tree place k below t)
+  -- the way's first table is the top one
+  top-only : (bytes : List ℕ) {n page : ℕ} → Passes bytes tree place n page → n ≡ tree .below → 4096 * page ≡ tree .top
+  top-only bytes (at-top level top) is = top
+  top-only bytes (onward upper p leads down) is = let h = not-over bytes tree place p in absurd (omega arith)
+
+  released-kept : (k below page : ℕ) (t : Tables) → WellBuilt (t .bytes) (t .marks) tree → below + k ≡ tree .below
+      → Passes (t .bytes) tree place below page
+      → Kept tree t (released tree place k below t)
+      × (FilledBut (t .bytes) (t .marks) tree page → NoneEmpty (released tree place k below t .bytes) (released tree place k below t .marks) tree)
   unfolding released
-  released-kept zero below page t w less passes = record { built = w; same = λ q. refl }
-  released-kept (suc k) below page t w less passes =
+  released-kept zero below page t w level passes = (
+    record { built = w; same = λ q. refl },
+    λ full. and-it (t .bytes) (t .marks) tree page (λ other. absurd (other (top-only (t .bytes) passes (omega arith)))) full,
+  )
+  released-kept (suc k) below page t w level passes =
       go (emptyTable (t .bytes) (way (t .bytes) tree place below .table)) refl (λ upper. released-kept k (suc below) upper)
     where
       u : Tables
       u = withoutTable (way (t .bytes) tree place below .table) (way (t .bytes) tree place (suc below) .at) t
 
       go : (b : Bool) → emptyTable (t .bytes) (way (t .bytes) tree place below .table) ≡ b
-          → ((upper : ℕ) (v : Tables) → WellBuilt (v .bytes) (v .marks) tree → suc below + k ≤ tree .below
-          → Passes (v .bytes) tree place (suc below) upper → Kept tree v (released tree place k (suc below) v))
+          → ((upper : ℕ) (v : Tables) → WellBuilt (v .bytes) (v .marks) tree → suc below + k ≡ tree .below
+          → Passes (v .bytes) tree place (suc below) upper
+          → Kept tree v (released tree place k (suc below) v)
+          × (FilledBut (v .bytes) (v .marks) tree upper → NoneEmpty (released tree place k (suc below) v .bytes) (released tree place k (suc below) v .marks) tree))
           → Kept tree t (if b then released tree place k (suc below) u else t)
-      go false e on = record { built = w; same = λ q. refl }
+          × (FilledBut (t .bytes) (t .marks) tree page
+          → NoneEmpty ((if b then released tree place k (suc below) u else t) .bytes) ((if b then released tree place k (suc below) u else t) .marks) tree)
+      go false e on =
+          let table : way (t .bytes) tree place below .table ≡ 4096 * page = ap (λ (s : Stop). s .table) (stop-there (t .bytes) tree place below page passes) in
+          let some : emptyTable (t .bytes) (4096 * page) ≡ false = rw table at e in (
+            record { built = w; same = λ q. refl },
+            λ full. and-it (t .bytes) (t .marks) tree page (λ other. filled-page (t .bytes) page some) full,
+          )
       go true e on =
           let r = release below page t w (omega arith) passes e in
-          let later = on (r .upper) u (r .kept .built) (omega arith) (r .passes) in
-          record { built = later .built; same = λ q. later .same q ∙ r .kept .same q }
+          let later = on (r .upper) u (r .kept .built) (omega arith) (r .passes) in (
+            record { built = later .0 .built; same = λ q. later .0 .same q ∙ r .kept .same q },
+            λ full. later .1 (r .filled full),
+          )
 
   module _ (last : ℕ) (reached : place < 2 ^ (12 + 9 * (tree .below + 1))) (t : Tables) (w : WellBuilt (t .bytes) (t .marks) tree) (less : last ≤ tree .below) where
     -- its entry is at a place of the last table on the way
     cut : (page : ℕ) → Passes (t .bytes) tree place last page → mapsPage last (entryOn (t .bytes) place page last) ≡ true
         → Changed tree place last none t
         (released tree place (tree .below - last) last (tables (withWord (t .bytes) (8 * number place page last) 0) (t .marks)))
+        (NoneEmpty (t .bytes) (t .marks) tree)
     cut page p maps =
         let x = number place page last in
         let mark : getD (t .marks) (x / 512) 0 ≡ suc last = rw (page-is place page last) (passed-mark (t .bytes) (t .marks) tree w place p) in
@@ -108,12 +133,14 @@ module _ (tree : Tree) (place : ℕ) where
         let kept = released-kept (tree .below - last) last page u (stored-built (t .bytes) (t .marks) tree w x last mark 0 small was is) (omega arith)
         (stored-still (t .bytes) (t .marks) tree w x last mark 0 small was is place p) in
         record {
-          built = kept .built;
-          here = λ q h. kept .same q ∙ stored-here (t .bytes) (t .marks) tree w x last mark 0 small was is place page p refl q h ∙ rw zero-absent;
-          elsewhere = λ q hq h. kept .same q ∙ stored-elsewhere (t .bytes) (t .marks) tree w x last mark 0 small was is place page p refl reached q hq h;
+          built = kept .0 .built;
+          here = λ q h. kept .0 .same q ∙ stored-here (t .bytes) (t .marks) tree w x last mark 0 small was is place page p refl q h ∙ rw zero-absent;
+          elsewhere = λ q hq h. kept .0 .same q ∙ stored-elsewhere (t .bytes) (t .marks) tree w x last mark 0 small was is place page p refl reached q hq h;
+          filled = λ full. kept .1 (stored-but (t .bytes) (t .marks) tree x 0 page (in-region (t .bytes) (t .marks) tree w x last mark) small (page-is place page last) (all-but (t .bytes) (t .marks) tree page full));
         }
 
-    pub unmapped-changed : unmapped tree place last t .0 ≡ 0 → Changed tree place last none t (unmapped tree place last t .1)
+    pub unmapped-changed : unmapped tree place last t .0 ≡ 0
+        → Changed tree place last none t (unmapped tree place last t .1) (NoneEmpty (t .bytes) (t .marks) tree)
     unfolding unmapped
     unmapped-changed taken =
         go (arrives (t .bytes) (t .marks) tree w place last less) (leafHere last (way (t .bytes) tree place last)) refl taken
@@ -125,6 +152,7 @@ module _ (tree : Tree) (place : ℕ) where
             → (if_then_else_ {A = ℕ × Tables} b (0, released tree place (tree .below - last) last (tables (withWord (t .bytes) (stop .at) 0) (t .marks))) (8, t)) .0 ≡ 0
             → Changed tree place last none t
             ((if_then_else_ {A = ℕ × Tables} b (0, released tree place (tree .below - last) last (tables (withWord (t .bytes) (stop .at) 0) (t .marks))) (8, t)) .1)
+            (NoneEmpty (t .bytes) (t .marks) tree)
         go a false e taken = absurd (omega arith)
         go a true e taken =
             let b = both (eqb (stop .below) last && present (stop .entry)) (mapsPage last (stop .entry)) e in
@@ -134,5 +162,6 @@ module _ (tree : Tree) (place : ℕ) where
             let entry : entryOn (t .bytes) place (a .page) last ≡ stop .entry =
             ap (entryOf (t .bytes)) (sym (placed place (a .page) last)) ∙ sym (ap (λ (s : Stop). s .entry) there) in
             subst (λ (at : ℕ). Changed tree place last none t
-            (released tree place (tree .below - last) last (tables (withWord (t .bytes) at 0) (t .marks)))) at
+            (released tree place (tree .below - last) last (tables (withWord (t .bytes) at 0) (t .marks)))
+            (NoneEmpty (t .bytes) (t .marks) tree)) at
             (cut (a .page) (subst (λ (n : ℕ). Passes (t .bytes) tree place n (a .page)) level (a .passes)) (rw entry (b .1)))

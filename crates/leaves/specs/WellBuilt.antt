@@ -2,11 +2,11 @@
 -- it is, or 0. They are a tree of distinct pages. An entry is counted from the region's start: entry n lies at its byte 8 n, in its page
 -- n / 512.
 use Prim.Native.Nat.{ℕ, suc, _+_, _*_, _/_, _%_, _^_, _<_, _≤_}
-use mathlib.Core.Bool.{Bool, true, not, _&&_}
+use mathlib.Core.Bool.{Bool, true, false, not, _&&_}
 use mathlib.Core.List.{List}
 use mathlib.Core.Path.{_≡_}
 use lib.ListN.{length, getD}
-use Rattle.tables.specs.Tables.{entryOf, present, mapsPage, tableEntry}
+use Rattle.tables.specs.Tables.{entryOf, present, mapsPage, tableEntry, emptyTable}
 use Rattle.tables.specs.declared.Tree.{Tree}
 
 -- a region of so many pages, and the top table in it: both begin at multiples of 4096, the region ends at or below 2^52, and there is
@@ -36,3 +36,8 @@ pub record WellBuilt (bytes marks : List ℕ) (tree : Tree) : Type 0 where
   pub from : (page : ℕ) → ℕ
   pub leads : (n below : ℕ) → getD marks (n / 512) 0 ≡ suc below → leadsOn below (entryOf bytes (8 * n)) ≡ true
       → Leads tree marks from n below (entryOf bytes (8 * n))
+
+-- no table but the top one is empty: pages of emptied tables are free
+abbrev pub NoneEmpty : (bytes marks : List ℕ) → Tree → Type 0
+NoneEmpty bytes marks tree =
+    (page below : ℕ) → getD marks page 0 ≡ suc below → (4096 * page ≡ tree .top → ⊥) → emptyTable bytes (4096 * page) ≡ false
