@@ -69,7 +69,7 @@ impl Laid {
     fn lay_lookup(&mut self, plan: &Plan, random: &mut Random) {
         let (bus, devfn) = (u64::from(plan.source >> 8), u64::from(plan.source & 0xFF));
         let half = 8 * (devfn >> 7);
-        self.set(PAGE + 16 * bus + half, 2 * PAGE | 1);
+        self.set(PAGE + 16 * bus + half, (2 * PAGE) | 1);
         let context = 2 * PAGE + 32 * (devfn & 0x7F);
         // FPD, DTE, PASIDE, PRE; PDTS 11:9.
         let fpd = u64::from(random.one_in(4)) << 1;
@@ -79,18 +79,21 @@ impl Laid {
         let pdts = random.pick(&[2, 3, 7]) << 9;
         self.set(
             context,
-            3 * PAGE | pdts | with_pasid | page_requests | fpd | 1,
+            (3 * PAGE) | pdts | with_pasid | page_requests | fpd | 1,
         );
         self.set(context + 8, plan.pasid | u64::from(random.one_in(4)) << 20);
         self.set(context + 16, 0);
         self.set(context + 24, 0);
         let fpd = u64::from(random.one_in(6)) << 1;
-        self.set(3 * PAGE + 8 * (plan.pasid >> 6), 4 * PAGE | fpd | 1);
+        self.set(3 * PAGE + 8 * (plan.pasid >> 6), (4 * PAGE) | fpd | 1);
         let table = 4 * PAGE + 64 * (plan.pasid & 63);
         let fpd = u64::from(random.one_in(6)) << 1;
         let slade = u64::from(self.registers.slads && random.coin()) << 9;
         let aw = (plan.second_levels - 2) << 2;
-        self.set(table, SECOND * PAGE | slade | plan.pgtt << 6 | aw | fpd | 1);
+        self.set(
+            table,
+            (SECOND * PAGE) | slade | plan.pgtt << 6 | aw | fpd | 1,
+        );
         // DID, PWSNP.
         let pwsnp = u64::from(!random.one_in(5)) << 23;
         self.set(
