@@ -24,6 +24,7 @@ use Rattle.translation.specs.Claims.{TranslationLocality, TranslationAccessMean
 use Rattle.cache.specs.Claims.{Equal, AsCached, AsNow, OnlyPages, AtMost64, Held64, PushedOut, ByDomain, Newest, MustAnswer, JustThose, PageWords, WhenCached, DomainAsCached}
 use Rattle.cache.specs.Lent.{AsDefined, EqualCalls}
 use Rattle.rights.specs.Rights.{ScalableRightsOn, ScalableRightsOff}
+use Rattle.scalable_cases.specs.Rows.{ScalableRows}
 use Rattle.scalable.specs.Isolation.{ScalableLocality, ScalableSetsExactly, ScalableLeavesAll}
 use Rattle.scalable.specs.Named.{AtMostFifty}
 use Rattle.agreement.specs.Claims.{WindowsTell, ListedWhereWalked, SpansAgree, OthersLack, SpansInOrder}
@@ -177,3 +178,4 @@ pub record Everything : Type 0 where
   pub scalable-leaves-all : ScalableLeavesAll
   pub scalable-rights-on : ScalableRightsOn
   pub scalable-rights-off : ScalableRightsOff
+  pub scalable-rows : ScalableRows
