@@ -118,49 +118,49 @@ reasons! {
     /// 43h, scalable mode: the context entry has PRE without DTE, or its RID_PASID is beyond the directory.
     ScalableContextInvalid = 0x43, "scalable context entry invalid";
     /// 45h, scalable mode: the context entry doesn't allow requests with a PASID.
-    PasidDisabled = 0x45, "request with PASID disabled";
+    ScalablePasidDisabled = 0x45, "request with PASID disabled";
     /// 46h, scalable mode: the PASID is beyond the directory.
-    PasidOutOfRange = 0x46, "PASID beyond directory";
+    ScalablePasidOutOfRange = 0x46, "PASID beyond directory";
     /// 50h, scalable mode: the PASID directory entry can't be fetched.
-    PasidDirectoryAccess = 0x50, "PASID directory entry not fetched";
+    ScalableDirectoryAccess = 0x50, "PASID directory entry not fetched";
     /// 51h, scalable mode: the PASID directory entry isn't present.
-    PasidDirectoryNotPresent = 0x51, "PASID directory entry not present";
+    ScalableDirectoryNotPresent = 0x51, "PASID directory entry not present";
     /// 52h, scalable mode: a reserved bit of the PASID directory entry is set.
-    PasidDirectoryReserved = 0x52, "reserved bit set in PASID directory entry";
+    ScalableDirectoryReserved = 0x52, "reserved bit set in PASID directory entry";
     /// 58h, scalable mode: the PASID table entry can't be fetched.
-    PasidTableAccess = 0x58, "PASID table entry not fetched";
+    ScalableTableAccess = 0x58, "PASID table entry not fetched";
     /// 59h, scalable mode: the PASID table entry isn't present.
-    PasidTableNotPresent = 0x59, "PASID table entry not present";
+    ScalableTableNotPresent = 0x59, "PASID table entry not present";
     /// 5Ah, scalable mode: a reserved bit of the PASID table entry is set.
-    PasidTableReserved = 0x5A, "reserved bit set in PASID table entry";
+    ScalableTableReserved = 0x5A, "reserved bit set in PASID table entry";
     /// 5Bh, scalable mode: the PASID table entry has an unsupported type (PGTT) or width (AW, FLPM).
-    PasidTableInvalid = 0x5B, "PASID table entry invalid";
+    ScalableTableInvalid = 0x5B, "PASID table entry invalid";
     /// 5Dh, scalable mode: the PASID table entry doesn't allow privileged requests.
-    SupervisorDenied = 0x5D, "supervisor request denied";
+    ScalableSupervisorDenied = 0x5D, "supervisor request denied";
     /// 70h, scalable mode: a first-level entry below the top can't be fetched.
-    FirstLevelAccess = 0x70, "first-level entry not fetched";
+    ScalableFirstLevelAccess = 0x70, "first-level entry not fetched";
     /// 71h, scalable mode: a first-level entry isn't present.
-    FirstLevelNotPresent = 0x71, "first-level entry not present";
+    ScalableFirstLevelNotPresent = 0x71, "first-level entry not present";
     /// 72h, scalable mode: a reserved bit of a first-level entry is set.
-    FirstLevelReserved = 0x72, "reserved bit set in first-level entry";
+    ScalableFirstLevelReserved = 0x72, "reserved bit set in first-level entry";
     /// 73h, scalable mode: the top first-level entry can't be fetched.
-    FirstLevelTopAccess = 0x73, "top first-level entry not fetched";
+    ScalableFirstLevelTopAccess = 0x73, "top first-level entry not fetched";
     /// 74h, scalable mode: nested: an intermediate address is beyond the guest width.
-    IntermediateOverflow = 0x74, "intermediate address beyond guest width";
+    ScalableIntermediateOverflow = 0x74, "intermediate address beyond guest width";
     /// 78h, scalable mode: a second-level entry below the top can't be fetched.
-    SecondLevelAccess = 0x78, "second-level entry not fetched";
+    ScalableSecondLevelAccess = 0x78, "second-level entry not fetched";
     /// 79h, scalable mode: no right is left in a second-level entry.
-    SecondLevelNotPresent = 0x79, "second-level entry without rights";
+    ScalableSecondLevelNotPresent = 0x79, "second-level entry without rights";
     /// 7Ah, scalable mode: a reserved bit of a second-level entry is set.
-    SecondLevelReserved = 0x7A, "reserved bit set in second-level entry";
+    ScalableSecondLevelReserved = 0x7A, "reserved bit set in second-level entry";
     /// 7Bh, scalable mode: the top second-level entry can't be fetched.
-    SecondLevelTopAccess = 0x7B, "top second-level entry not fetched";
+    ScalableSecondLevelTopAccess = 0x7B, "top second-level entry not fetched";
     /// 7Ch, scalable mode: an accessed or dirty flag would have to be set, and the walk isn't snooped.
-    FlagsNotSnooped = 0x7C, "flag to set in a walk not snooped";
+    ScalableFlagsNotSnooped = 0x7C, "flag to set in a walk not snooped";
     /// 80h, scalable mode: the address of a first-level walk isn't canonical.
-    NotCanonical = 0x80, "address not canonical";
+    ScalableNotCanonical = 0x80, "address not canonical";
     /// 81h, scalable mode: a first-level entry doesn't allow user requests.
-    UserDenied = 0x81, "user access denied";
+    ScalableUserDenied = 0x81, "user access denied";
     /// 84h, scalable mode: the address of a second-level walk is beyond the guest width.
     ScalableAddressOverflow = 0x84, "address beyond second-level width";
     /// 85h, scalable mode: an entry doesn't allow the write, or the flag to be set.
@@ -460,7 +460,10 @@ mod tests {
         for number in 0..=u8::MAX {
             let reason = Reason::from(number);
             assert_eq!(reason.number(), number);
-            let named = (0x01..=0x0D).contains(&number) || (0x20..=0x28).contains(&number);
+            let named = matches!(number, 0x01..=0x0D | 0x20..=0x28)
+                // Of scalable mode.
+                || matches!(number, 0x38..=0x3A | 0x40..=0x43 | 0x45..=0x46 | 0x50..=0x52 | 0x58..=0x5B | 0x5D)
+                || matches!(number, 0x70..=0x74 | 0x78..=0x7C | 0x80..=0x81 | 0x84..=0x86);
             assert_eq!(Reason::NAMED.contains(&reason), named, "{number:02X}h");
         }
     }
