@@ -29,6 +29,7 @@ use Rattle.cache.proofs.History.{when-cached, domain-as-cached}
 use Rattle.cache.proofs.Holding.{only-pages, at-most-64, held64, pushed-out, by-domain, newest, must-answer, just-those}
 use Rattle.rights.proofs.Rights.{scalable-rights-on, scalable-rights-off}
 use Rattle.scalable.proofs.Fifty.{at-most-fifty}
+use Rattle.claims.proofs.ScalableLent.{scalable-isolation}
 use Rattle.scalable_cases.proofs.Rows.{scalable-rows}
 use Rattle.scalable.proofs.Isolation.{scalable-locality}
 use Rattle.scalable.proofs.Written.{scalable-leaves-all, scalable-sets-exactly}
@@ -180,5 +181,6 @@ everything =
       scalable-leaves-all = scalable-leaves-all;
       scalable-rights-on = scalable-rights-on;
       scalable-rights-off = scalable-rights-off;
+      scalable-isolation = scalable-isolation;
       scalable-rows = scalable-rows;
     }

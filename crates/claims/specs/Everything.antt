@@ -24,6 +24,7 @@ use Rattle.translation.specs.Claims.{TranslationLocality, TranslationAccessMean
 use Rattle.cache.specs.Claims.{Equal, AsCached, AsNow, OnlyPages, AtMost64, Held64, PushedOut, ByDomain, Newest, MustAnswer, JustThose, PageWords, WhenCached, DomainAsCached}
 use Rattle.cache.specs.Lent.{AsDefined, EqualCalls}
 use Rattle.rights.specs.Rights.{ScalableRightsOn, ScalableRightsOff}
+use Rattle.claims.specs.ScalableLent.{ScalableIsolation}
 use Rattle.scalable_cases.specs.Rows.{ScalableRows}
 use Rattle.scalable.specs.Isolation.{ScalableLocality, ScalableSetsExactly, ScalableLeavesAll}
 use Rattle.scalable.specs.Named.{AtMostFifty}
@@ -178,4 +179,5 @@ pub record Everything : Type 0 where
   pub scalable-leaves-all : ScalableLeavesAll
   pub scalable-rights-on : ScalableRightsOn
   pub scalable-rights-off : ScalableRightsOff
+  pub scalable-isolation : ScalableIsolation
   pub scalable-rows : ScalableRows

@@ -2,3 +2,4 @@ pub mod Everything
 pub mod FirstNamed
 pub mod OneAnswer
 pub mod OneWindow
+pub mod ScalableLent

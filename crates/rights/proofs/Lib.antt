@@ -1,3 +1,4 @@
+pub mod Aligned
 pub mod First
 pub mod Kept
 pub mod Lookup

@@ -1,0 +1,41 @@
+-- Demand 3 for requests in scalable mode, over lent memory.
+use Prim.Native.Nat.{ℕ, _≤_}
+use mathlib.Core.List.{List, [], _∷_}
+use mathlib.Core.Path.{_≡_, sym}
+use Rattle.image.specs.Rules.{named, SameIn}
+use Rattle.image.specs.Windows.{ofWindows, entryIn}
+use Rattle.scalable.specs.Requests.{scalableRules}
+use Rattle.scalable.proofs.Isolation.{scalable-locality}
+use Rattle.rights.specs.Rights.{walkedByAny}
+use Rattle.rights.proofs.Aligned.{aligned-walked}
+use Rattle.rights.proofs.Rights.{scalable-rights-on, scalable-rights-off}
+use Rattle.unit.specs.Lent.{Lent, memoryOf, SameWordAt, SameWordsAt}
+use Rattle.unit.proofs.HostBytes.{words-switched}
+use Rattle.claims.specs.ScalableLent.{ScalableIsolation}
+
+same-word : (l l′ : Lent) (at : ℕ) → SameWordAt l l′ at → memoryOf l at ≡ memoryOf l′ at
+unfolding ofWindows entryIn
+same-word l l′ at h = rw (h .whole, h .whole′, h .same)
+
+same-words : (l l′ : Lent) (words : List ℕ) → SameWordsAt l l′ words → SameIn words (memoryOf l) (memoryOf l′)
+unfolding SameWordsAt SameIn
+same-words l l′ [] h = tt
+same-words l l′ (at ∷ rest) h = (same-word l l′ at (h .0), same-words l l′ rest (h .1))
+
+pub scalable-isolation : ScalableIsolation
+scalable-isolation =
+    record {
+      alike = λ r q l l′ answered same.
+          rw (l .good, l′ .good)
+          (scalable-locality r q (memoryOf l) (memoryOf l′) (rw (l .good) at answered)
+          (same-words l l′ (named (scalableRules r q) (memoryOf l)) same));
+      rights-on = λ r walkers q l l′ apart on address was.
+          rw (l .good, l′ .good)
+          (scalable-rights-on r walkers q (memoryOf l) (memoryOf l′) apart
+          (words-switched (λ before after. before ≤ after) (walkedByAny r walkers (memoryOf l)) l l′ (aligned-walked r walkers (memoryOf l)) on) address
+          (rw (l .good) at was));
+      rights-off = λ r walkers q l l′ apart off denied address was.
+          scalable-rights-off r walkers q (memoryOf l) (memoryOf l′) apart
+          (words-switched (λ before after. after ≤ before) (walkedByAny r walkers (memoryOf l)) l l′ (aligned-walked r walkers (memoryOf l)) off)
+          (rw (l .good) at denied) address (rw (l′ .good) at was);
+    }
