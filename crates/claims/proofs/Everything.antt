@@ -27,6 +27,7 @@ use Rattle.translation.proofs.Types.{only-type-1}
 use Rattle.cache.proofs.AsDefined.{as-defined, equal-calls}
 use Rattle.cache.proofs.History.{when-cached, domain-as-cached}
 use Rattle.cache.proofs.Holding.{only-pages, at-most-64, held64, pushed-out, by-domain, newest, must-answer, just-those}
+use Rattle.rights.proofs.More.{scalable-more-memory}
 use Rattle.rights.proofs.Rights.{scalable-rights-on, scalable-rights-off}
 use Rattle.scalable.proofs.Fifty.{at-most-fifty}
 use Rattle.claims.proofs.ScalableLent.{scalable-isolation}
@@ -179,6 +180,7 @@ everything =
       at-most-fifty = at-most-fifty;
       scalable-sets-exactly = scalable-sets-exactly;
       scalable-leaves-all = scalable-leaves-all;
+      scalable-more-memory = scalable-more-memory;
       scalable-rights-on = scalable-rights-on;
       scalable-rights-off = scalable-rights-off;
       scalable-isolation = scalable-isolation;

@@ -8,9 +8,10 @@ use Rattle.scalable.specs.Requests.{scalableRules}
 use Rattle.scalable.proofs.Isolation.{scalable-locality}
 use Rattle.rights.specs.Rights.{walkedByAny}
 use Rattle.rights.proofs.Aligned.{aligned-walked}
+use Rattle.rights.proofs.More.{scalable-more-memory}
 use Rattle.rights.proofs.Rights.{scalable-rights-on, scalable-rights-off}
 use Rattle.unit.specs.Lent.{Lent, memoryOf, SameWordAt, SameWordsAt}
-use Rattle.unit.proofs.HostBytes.{words-switched}
+use Rattle.unit.proofs.HostBytes.{words-switched, words-kept}
 use Rattle.claims.specs.ScalableLent.{ScalableIsolation}
 
 same-word : (l l′ : Lent) (at : ℕ) → SameWordAt l l′ at → memoryOf l at ≡ memoryOf l′ at
@@ -29,6 +30,8 @@ scalable-isolation =
           rw (l .good, l′ .good)
           (scalable-locality r q (memoryOf l) (memoryOf l′) (rw (l .good) at answered)
           (same-words l l′ (named (scalableRules r q) (memoryOf l)) same));
+      more-memory = λ r q l l′ address all was.
+          rw (l .good, l′ .good) (scalable-more-memory r q (memoryOf l) (memoryOf l′) address (words-kept l l′ all) (rw (l .good) at was));
       rights-on = λ r walkers q l l′ apart on address was.
           rw (l .good, l′ .good)
           (scalable-rights-on r walkers q (memoryOf l) (memoryOf l′) apart

@@ -23,7 +23,7 @@ use Rattle.dma.specs.Reached.{GrantedByOwnWalk}
 use Rattle.translation.specs.Claims.{TranslationLocality, TranslationAccessMeansUnfetched, TranslationAtMostNine, TranslationNoneUntaken, TranslationReadsWords, TranslationAlwaysAnEntry, EnginesAgree, OnlyType1}
 use Rattle.cache.specs.Claims.{Equal, AsCached, AsNow, OnlyPages, AtMost64, Held64, PushedOut, ByDomain, Newest, MustAnswer, JustThose, PageWords, WhenCached, DomainAsCached}
 use Rattle.cache.specs.Lent.{AsDefined, EqualCalls}
-use Rattle.rights.specs.Rights.{ScalableRightsOn, ScalableRightsOff}
+use Rattle.rights.specs.Rights.{ScalableMoreMemory, ScalableRightsOn, ScalableRightsOff}
 use Rattle.claims.specs.ScalableLent.{ScalableIsolation}
 use Rattle.scalable_cases.specs.Rows.{ScalableRows}
 use Rattle.scalable.specs.Isolation.{ScalableLocality, ScalableSetsExactly, ScalableLeavesAll}
@@ -177,6 +177,7 @@ pub record Everything : Type 0 where
   pub at-most-fifty : AtMostFifty
   pub scalable-sets-exactly : ScalableSetsExactly
   pub scalable-leaves-all : ScalableLeavesAll
+  pub scalable-more-memory : ScalableMoreMemory
   pub scalable-rights-on : ScalableRightsOn
   pub scalable-rights-off : ScalableRightsOff
   pub scalable-isolation : ScalableIsolation

@@ -12,7 +12,7 @@ use Rattle.scalable.specs.Isolation.{accessFault}
 use Rattle.scalable.specs.Requests.{Decision, scalableRules, scalableDecision, scalableAnswerPlace}
 use Rattle.scalable.specs.declared.ScalableRequest.{ScalableRequest}
 use Rattle.rights.specs.Rights.{walkedByAny, Apart}
-use Rattle.unit.specs.Lent.{Lent, memoryOf, SameWordsAt, SwitchedAt}
+use Rattle.unit.specs.Lent.{Lent, memoryOf, SameWordsAt, SwitchedAt, ShowsAll}
 
 abbrev pub decidedOver : ScalableRegisters → ScalableRequest → Lent → Decision
 decidedOver registers request l = scalableDecision registers request (l .windows) (l .bytes)
@@ -27,6 +27,11 @@ pub record ScalableIsolation : Type 0 where
       → accessFault (decidedOver registers request l .outcome) ≡ false
       → SameWordsAt l l′ (named (scalableRules registers request) (memoryOf l))
       → (decidedOver registers request l′ ≡ decidedOver registers request l) × (placeOver registers request l′ ≡ placeOver registers request l)
+  -- so more memory never takes back a grant, nor changes what it writes
+  pub more-memory : (registers : ScalableRegisters) (request : ScalableRequest) (l l′ : Lent) (address : ℕ)
+      → ShowsAll l l′
+      → decidedOver registers request l .outcome ≡ granted address
+      → decidedOver registers request l′ ≡ decidedOver registers request l
   -- whichever of the first-level and second-level entries that any requests walked have read, write or both switched on, a granted request stays
   -- granted, with the same host address and bits written; where none of them shares a byte with its root, context, directory or table entry
   pub rights-on : (registers : ScalableRegisters) (walkers : List ScalableRequest) (request : ScalableRequest) (l l′ : Lent)

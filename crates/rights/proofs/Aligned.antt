@@ -18,7 +18,7 @@ use Rattle.rights.specs.Tables.{isWalked}
 use Rattle.rights.proofs.Kept.{Entries, Keeps}
 use Rattle.rights.proofs.Requests.{DecisionKept, DecisionDead, request-kept}
 
-unswitched : (walked : Bool) (e : ℕ) → Entries Raised walked e e
+pub unswitched : (walked : Bool) (e : ℕ) → Entries Raised walked e e
 unswitched true e = record { other-bits = refl; read = omega arith; write = omega arith }
 unswitched false e = refl
 

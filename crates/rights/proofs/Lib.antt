@@ -2,6 +2,7 @@ pub mod Aligned
 pub mod First
 pub mod Kept
 pub mod Lookup
+pub mod More
 pub mod Nested
 pub mod Raised
 pub mod Requests

@@ -3,6 +3,7 @@
 use Prim.Native.Nat.{ℕ}
 use mathlib.Core.List.{List, [], _∷_, _++_, List·Memᴰ}
 use mathlib.Core.Path.{_≡_}
+use Rattle.image.specs.Alike.{Extends}
 use Rattle.image.specs.Memory.{Memory}
 use Rattle.image.specs.Rules.{run, entriesOf}
 use Rattle.dma.specs.Isolation.{SwitchedOn, SwitchedOff}
@@ -27,6 +28,14 @@ Apart registers walkers request m =
     → List·Memᴰ walked (walkedByAny registers walkers m)
     → List·Memᴰ word (tableWords (scalableRules registers request) m)
     → SharesNoByte walked word
+
+-- More memory never takes back a grant: it keeps its host address and the bits written.
+abbrev pub ScalableMoreMemory : Type 0
+ScalableMoreMemory =
+    (registers : ScalableRegisters) (request : ScalableRequest) (m m′ : Memory) (address : ℕ)
+    → Extends m m′
+    → decided registers request m .outcome ≡ granted address
+    → decided registers request m′ ≡ decided registers request m
 
 -- Whichever of these entries have read (bit 0; in a first-level entry that is P), write (bit 1) or both switched on, a granted request stays
 -- granted, with the same host address and the same bits written.
