@@ -1,25 +1,29 @@
 -- What a first-level entry's step says, told as a step of the walk, and where it leads.
-use Prim.Native.Nat.{ℕ, zero, suc, _+_, _-_, _%_, _<_, _≤_}
+use Prim.Native.Nat.{ℕ, suc, _+_, _-_, _*_, _<_, _≤_}
 use mathlib.Core.Bool.{Bool, true, false, not, _&&_}
 use mathlib.Core.List.{List, [], _∷_, _++_, map}
 use mathlib.Core.Path.{_≡_, refl, ap, sym, _∙_}
 use native.Mathlib.Omega.{arith}
-use Rattle.image.specs.Bits.{bit}
+use Rattle.image.specs.Bits.{bits, bit}
 use Rattle.image.specs.Choice.{if_then_else_}
-use Rattle.image.specs.Memory.{Memory}
+use Rattle.image.specs.Memory.{Memory, missing, found, entry}
+use Rattle.image.specs.Place.{Place, entryAt, lastTried}
+use Rattle.image.specs.Rules.{Rules, run}
 use Rattle.dma.specs.Page.{hostAddress, leafAt}
-use Rattle.dma.specs.Walk.{Step, done, down}
+use Rattle.dma.specs.Walk.{Step, done, down, placeIn}
 use Rattle.dma.proofs.Stepped.{more-levels}
 use Rattle.pasid.specs.declared.ScalableRegisters.{ScalableRegisters}
 use Rattle.pasid.specs.declared.table.PasidEntry.{PasidEntry}
 use Rattle.flags.specs.Flags.{flag}
 use Rattle.first.specs.First.{FirstStep, down as downTo, page, fault as stop, onFirst, firstReserved, flagClear, notSnooped, userDenied, writeDenied, firstFrame, firstStep}
-use Rattle.nested.specs.Pages.{Pages, reached, fault, Handed, handed, entryFlags, unfetched, locate, walkStep, levelOver}
+use Rattle.nested.specs.Pages.{Pages, reached, fault, Handed, handed, entryFlags, unfetched, locate, walkStep, firstRules, levelOver, levelTried}
+use Rattle.nested.specs.Way.{Located, located, lost}
 use Rattle.image.specs.EntryKind.{firstLevelEntry}
 use Rattle.nested.specs.Answers.{LevelGrows}
 use Rattle.nested.specs.declared.level.Level.{Level}
 use Rattle.nested.specs.declared.level.Level.the-variants as level
-use Rattle.nested.proofs.Ways.{leads-by}
+use Rattle.nested.proofs.Nested.{no-entry}
+use Rattle.nested.proofs.Ways.{leads-by, lost-over, lost-tried, missed-over, fetched-over, found-tried, ended-way, onward-way, ended-way-at, onward-way-at}
 
 -- the flags of an entry, one by one
 pub one-by-one : (p : PasidEntry) (dirty : Bool) (place : ℕ) (l : List ℕ)
@@ -101,6 +105,52 @@ module _ (r : ScalableRegisters) (p : PasidEntry) (address : ℕ) (write : Bool)
   pub not-last : {next : ℕ} {t : Handed} → down next t ≡ levelOver r p address write m n table s → 0 < n
   not-last =
       leads-by firstLevelEntry address (locate r p) (unfetched p) (walkStep r p address write) m n table s (λ next. 0 < n) step-leads
+
+-- one level, by what the code's way to the entry and its fetch say: i is the entry's place in its table
+module _ (r : ScalableRegisters) (p : PasidEntry) (address : ℕ) (write : Bool) (m : Memory) (n table : ℕ) (s : Handed) {i : ℕ}
+    (index : i ≡ bits address (20 + 9 * n) (12 + 9 * n)) where
+  abbrev way : Rules (Located Handed Pages)
+  way = locate r p s (table + 8 * i)
+
+  on : {x : Located Handed Pages} → x ≡ run way m → x ≡ run (locate r p s (placeIn address table n)) m
+  on h = h ∙ ap (λ (j : ℕ). run (locate r p s (table + 8 * j)) m) index
+
+  pub stopped : {a : Pages} → lost a ≡ run way m → done a ≡ levelOver r p address write m n table s
+  stopped h = lost-over firstLevelEntry address (locate r p) (unfetched p) (walkStep r p address write) m n table s (on h)
+
+  pub stopped-at : (before : Place) {here : Place} {a : Pages} → lost a ≡ run way m → here ≡ lastTried before way m
+      → here ≡ levelTried r p address write before m n table s
+  stopped-at before h there =
+      there ∙ ap (λ (j : ℕ). lastTried before (locate r p s (table + 8 * j)) m) index
+      ∙ lost-tried firstLevelEntry address (locate r p) (unfetched p) (walkStep r p address write) m n table s before (on h)
+
+  module _ {place : ℕ} {t : Handed} (h : located place t ≡ run way m) where
+    pub missed : missing ≡ entry 1 m place → done (unfetched p t) ≡ levelOver r p address write m n table s
+    missed = missed-over firstLevelEntry address (locate r p) (unfetched p) (walkStep r p address write) m n table s (on h)
+
+    pub stepped : {e : ℕ} → found e ≡ entry 1 m place → walkStep r p address write (suc n) place t e ≡ levelOver r p address write m n table s
+    stepped = fetched-over firstLevelEntry address (locate r p) (unfetched p) (walkStep r p address write) m n table s (on h)
+
+    pub there-at : (before : Place) → entryAt place ≡ levelTried r p address write before m n table s
+    there-at = found-tried firstLevelEntry address (locate r p) (unfetched p) (walkStep r p address write) m n table s (on h)
+
+-- the laws of every walk with a way to its entries, at this one
+module _ (r : ScalableRegisters) (p : PasidEntry) (address : ℕ) (write : Bool) (m : Memory) (level table : ℕ) (s : Handed) (more : 0 < level) where
+  pub ended : {a : Pages} → done a ≡ levelOver r p address write m (level - 1) table s → a ≡ run (firstRules r p address write level table s) m
+  ended = ended-way firstLevelEntry address (locate r p) (unfetched p) (walkStep r p address write) (no-entry r p) m level table s more
+
+  pub led : {to : ℕ} {t : Handed} → down to t ≡ levelOver r p address write m (level - 1) table s
+      → run (firstRules r p address write (level - 1) to t) m ≡ run (firstRules r p address write level table s) m
+  led = onward-way firstLevelEntry address (locate r p) (unfetched p) (walkStep r p address write) (no-entry r p) m level table s more
+
+  pub ended-at : (before : Place) {here : Place} {a : Pages} → here ≡ levelTried r p address write before m (level - 1) table s
+      → done a ≡ levelOver r p address write m (level - 1) table s → here ≡ lastTried before (firstRules r p address write level table s) m
+  ended-at = ended-way-at firstLevelEntry address (locate r p) (unfetched p) (walkStep r p address write) (no-entry r p) m level table s more
+
+  pub led-at : (before : Place) {here : Place} {to : ℕ} {t : Handed} → here ≡ levelTried r p address write before m (level - 1) table s
+      → down to t ≡ levelOver r p address write m (level - 1) table s
+      → lastTried here (firstRules r p address write (level - 1) to t) m ≡ lastTried before (firstRules r p address write level table s) m
+  led-at = onward-way-at firstLevelEntry address (locate r p) (unfetched p) (walkStep r p address write) (no-entry r p) m level table s more
 
 -- the number of flags by a larger bound
 pub grows-more : (l : Level) (most most′ : ℕ) → most ≤ most′ → LevelGrows l most → LevelGrows l most′

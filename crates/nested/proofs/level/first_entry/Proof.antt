@@ -6,17 +6,12 @@ use native.Mathlib.Numerals.{add-one}
 use native.Mathlib.Omega.{arith}
 use lib.ListN.{take, length}
 use Rattle.image.specs.Entries.{fetched8}
-use Rattle.image.specs.EntryKind.{firstLevelEntry}
-use Rattle.image.specs.Memory.{Memory, entry}
-use Rattle.image.specs.Place.{Place, entryAt, lastTried}
-use Rattle.image.specs.Rules.{run}
+use Rattle.image.specs.Memory.{entry}
+use Rattle.image.specs.Place.{entryAt}
 use Rattle.image.specs.Windows.{ofWindows}
 use Rattle.dma.proofs.Steps.{index-of}
-use Rattle.dma.specs.Walk.{Step, done, down, placeIn}
-use Rattle.nested.specs.Answers.{WayGrows}
-use Rattle.nested.specs.Pages.{Pages, fault, Handed, handed, unfetched, locate, walkStep}
-use Rattle.nested.proofs.Firsts.{grows-more}
-use Rattle.nested.proofs.Ways.{lost-over, lost-tried, missed-over, fetched-over, found-tried}
+use Rattle.nested.specs.Pages.{handed}
+use Rattle.nested.proofs.Firsts.{missed, stepped, there-at, stopped, stopped-at, grows-more}
 use borrow.Author.Needs.{needs}
 use Rattle.nested.proofs.level.first_entry.Statement.{statement}
 use Rattle.nested.proofs.level.first_entry.Tie as tie
@@ -43,12 +38,11 @@ returns c =
     let m = ofWindows (a .windows .now) (a .image .now) in
     let s = handed (a .top) (take (a .count) (a .flags .now)) in
     let g = c .before .before .before .before .before .at .given in
-    let step = walkStep (a .registers) (a .entry) (a .asked .address) (a .asked .write) in
-    let place = ap (λ (i : ℕ). run (locate (a .registers) (a .entry) s (a .table + 8 * i)) m) (index-of (a .asked .address) (a .below)) in
-    let found = (rw (g .1) at (c .before .before .before .before .before .before .before .before .before .locate .ensures .0)) ∙ place in
+    let index = index-of (a .asked .address) (a .below) in
+    let found = rw (g .1) at (c .before .before .before .before .before .before .before .before .before .locate .ensures .0) in
     let there : (g .0 .0 - g .0 .0 % 4096) + g .0 .0 % 4096 ≡ g .0 .0 = omega arith in
     let none = (rw (c .before .enum-told .given .1) at (c .before .before .before .page-entry8 .ensures .0)) ∙ ap (entry 1 m) there in
-    (rw (c .unfetchable .ensures) (missed-over firstLevelEntry (a .asked .address) (locate (a .registers) (a .entry)) (unfetched (a .entry)) step m (a .below) (a .table) s found none), (found-tried firstLevelEntry (a .asked .address) (locate (a .registers) (a .entry)) (unfetched (a .entry)) step m (a .below) (a .table) s found (entryAt (a .last)), (tt, tt)))
+    (rw (c .unfetchable .ensures) (missed (a .registers) (a .entry) (a .asked .address) (a .asked .write) m (a .below) (a .table) s index found none), (there-at (a .registers) (a .entry) (a .asked .address) (a .asked .write) m (a .below) (a .table) s index found (entryAt (a .last)), (tt, tt)))
 
 level-step-requires : tie.Need-level-step-requires
 level-step-requires c κs =
@@ -68,14 +62,13 @@ returns-2 c =
     let l = c .before .before .before .before .before .before .before .before .before .before .before .before .before .locate in
     let g = c .before .before .before .before .before .before .before .before .before .at .given in
     let e = c .before .before .before .before .before .e .given in
-    let step = walkStep (a .registers) (a .entry) (a .asked .address) (a .asked .write) in
-    let place = ap (λ (i : ℕ). run (locate (a .registers) (a .entry) s (a .table + 8 * i)) m) (index-of (a .asked .address) (a .below)) in
-    let found = (rw (g .1) at (l .ensures .0)) ∙ place in
+    let index = index-of (a .asked .address) (a .below) in
+    let found = rw (g .1) at (l .ensures .0) in
     let fine = rw (g .1) at (l .ensures .1 .1) in
     let there : (g .0 .0 - g .0 .0 % 4096) + g .0 .0 % 4096 ≡ g .0 .0 = omega arith in
     let got = (rw (e .1) at (c .before .before .before .before .before .before .before .page-entry8 .ensures .0)) ∙ ap (entry 1 m) there in
     let told = rw (add-one (a .below)) at (c .before .before .level-step .ensures .0 (a .top)) in
-    (told ∙ fetched-over firstLevelEntry (a .asked .address) (locate (a .registers) (a .entry)) (unfetched (a .entry)) step m (a .below) (a .table) s found got, (c .before .before .level-step .ensures .1 .0 ∙ found-tried firstLevelEntry (a .asked .address) (locate (a .registers) (a .entry)) (unfetched (a .entry)) step m (a .below) (a .table) s found (entryAt (a .last)), (c .before .before .level-step .ensures .1 .1 .0, grows-more (c .before .before .level-step .result) _ _ (omega (arith, fine .2)) (c .before .before .level-step .ensures .1 .1 .1))))
+    (told ∙ stepped (a .registers) (a .entry) (a .asked .address) (a .asked .write) m (a .below) (a .table) s index found got, (c .before .before .level-step .ensures .1 .0 ∙ there-at (a .registers) (a .entry) (a .asked .address) (a .asked .write) m (a .below) (a .table) s index found (entryAt (a .last)), (c .before .before .level-step .ensures .1 .1 .0, grows-more (c .before .before .level-step .result) _ _ (omega (arith, fine .2)) (c .before .before .level-step .ensures .1 .1 .1))))
 
 same-length-3 : tie.Need-same-length-3
 same-length-3 c = search needs
@@ -87,11 +80,10 @@ returns-3 c =
     let s = handed (a .top) (take (a .count) (a .flags .now)) in
     let l = c .before .before .before .before .before .locate in
     let g = c .before .reason .given in
-    let step = walkStep (a .registers) (a .entry) (a .asked .address) (a .asked .write) in
     let index = index-of (a .asked .address) (a .below) in
-    let found = (rw (g .1) at (l .ensures .0)) ∙ ap (λ (i : ℕ). run (locate (a .registers) (a .entry) s (a .table + 8 * i)) m) index in
-    let there = (rw (g .1) at (l .ensures .1 .0)) ∙ ap (λ (i : ℕ). lastTried (entryAt (a .last)) (locate (a .registers) (a .entry) s (a .table + 8 * i)) m) index in
-    (lost-over firstLevelEntry (a .asked .address) (locate (a .registers) (a .entry)) (unfetched (a .entry)) step m (a .below) (a .table) s found, (there ∙ lost-tried firstLevelEntry (a .asked .address) (locate (a .registers) (a .entry)) (unfetched (a .entry)) step m (a .below) (a .table) s (entryAt (a .last)) found, (tt, tt)))
+    let found = rw (g .1) at (l .ensures .0) in
+    let there = rw (g .1) at (l .ensures .1 .0) in
+    (stopped (a .registers) (a .entry) (a .asked .address) (a .asked .write) m (a .below) (a .table) s index found, (stopped-at (a .registers) (a .entry) (a .asked .address) (a .asked .write) m (a .below) (a .table) s index (entryAt (a .last)) found there, (tt, tt)))
 
 pub first-entry-spec : {M : Type 1} → statement M
 first-entry-spec =

@@ -4,15 +4,11 @@ use mathlib.Core.List.{List, []}
 use mathlib.Core.Path.{_≡_, refl, ap, sym, _∙_, subst}
 use native.Mathlib.Omega.{arith}
 use lib.ListN.{take, length}
-use Rattle.image.specs.EntryKind.{firstLevelEntry}
 use Rattle.image.specs.Place.{Place, entryAt, lastTried}
 use Rattle.image.specs.Rules.{run}
 use Rattle.image.specs.Windows.{ofWindows, badWindows}
-use Rattle.nested.specs.Answers.{levelPlace}
-use Rattle.nested.specs.Pages.{handed, unfetched, locate, walkStep, firstRules, FirstWalkable}
-use Rattle.nested.proofs.Firsts.{not-last}
-use Rattle.nested.proofs.Nested.{no-entry}
-use Rattle.nested.proofs.Ways.{ended-way, onward-way, ended-way-at, onward-way-at}
+use Rattle.nested.specs.Pages.{handed, firstRules, FirstWalkable}
+use Rattle.nested.proofs.Firsts.{not-last, ended, led, ended-at, led-at}
 use borrow.Author.Needs.{needs}
 use Rattle.nested.proofs.walk.first_walk.Statement.{statement}
 use Rattle.nested.proofs.walk.first_walk.Tie as tie
@@ -65,8 +61,7 @@ returns c =
     let page = rw (g .1) at (f .ensures .1 .1 .0) in
     let grows = rw (g .1) at (f .ensures .1 .1 .1) in
     let s = handed (l .top) (take (l .count) (l .flags)) in
-    let step = walkStep (a .registers) (a .entry) (a .asked .address) (a .asked .write) in
-    (ended-way firstLevelEntry (a .asked .address) (locate (a .registers) (a .entry)) (unfetched (a .entry)) step (no-entry (a .registers) (a .entry)) m (l .level) (l .table) s (i .2) told ∙ i .9, (ended-way-at firstLevelEntry (a .asked .address) (locate (a .registers) (a .entry)) (unfetched (a .entry)) step (no-entry (a .registers) (a .entry)) m (l .level) (l .table) s (i .2) (entryAt (l .last)) there told ∙ i .10, (page, omega (arith, grows, i .2, i .8))))
+    (ended (a .registers) (a .entry) (a .asked .address) (a .asked .write) m (l .level) (l .table) s (i .2) told ∙ i .9, (ended-at (a .registers) (a .entry) (a .asked .address) (a .asked .write) m (l .level) (l .table) s (i .2) (entryAt (l .last)) there told ∙ i .10, (page, omega (arith, grows, i .2, i .8))))
 
 same-length-2 : tie.Need-same-length-2 Inv-loop μ-loop
 same-length-2 c = c .before .before .before .before .before .first-entry .kept .1 .1 .1 .1 .1 .1 .1 .1 .1 .0 ∙ c .before .before .before .before .before .before .before .before .loop .inv .6
@@ -82,8 +77,7 @@ returns-2 c =
     let told = rw (g .1) at (f .ensures .0) in
     let there = rw (g .1) at (f .ensures .1 .0) in
     let s = handed (l .top) (take (l .count) (l .flags)) in
-    let step = walkStep (a .registers) (a .entry) (a .asked .address) (a .asked .write) in
-    (ended-way firstLevelEntry (a .asked .address) (locate (a .registers) (a .entry)) (unfetched (a .entry)) step (no-entry (a .registers) (a .entry)) m (l .level) (l .table) s (i .2) told ∙ i .9, (ended-way-at firstLevelEntry (a .asked .address) (locate (a .registers) (a .entry)) (unfetched (a .entry)) step (no-entry (a .registers) (a .entry)) m (l .level) (l .table) s (i .2) (entryAt (l .last)) there told ∙ i .10, (tt, tt)))
+    (ended (a .registers) (a .entry) (a .asked .address) (a .asked .write) m (l .level) (l .table) s (i .2) told ∙ i .9, (ended-at (a .registers) (a .entry) (a .asked .address) (a .asked .write) m (l .level) (l .table) s (i .2) (entryAt (l .last)) there told ∙ i .10, (tt, tt)))
 
 sub-level : tie.Need-sub-level Inv-loop μ-loop
 sub-level c = search needs
@@ -104,9 +98,8 @@ loop-again c =
     let small = rw (g .1) at (f .ensures .1 .1 .0) in
     let grows = rw (g .1) at (f .ensures .1 .1 .1) in
     let s = handed (l .top) (take (l .count) (l .flags)) in
-    let step = walkStep (a .registers) (a .entry) (a .asked .address) (a .asked .write) in
     let more = not-last (a .registers) (a .entry) (a .asked .address) (a .asked .write) m (l .level - 1) (l .table) s told in
-    (i .0, i .1, more, omega (arith, i .3), small .0, small .1, f .kept .1 .1 .1 .1 .1 .1 .1 .1 .1 .0 ∙ i .6, i .7, omega (arith, grows, i .2, i .8), onward-way firstLevelEntry (a .asked .address) (locate (a .registers) (a .entry)) (unfetched (a .entry)) step (no-entry (a .registers) (a .entry)) m (l .level) (l .table) s (i .2) told ∙ i .9, onward-way-at firstLevelEntry (a .asked .address) (locate (a .registers) (a .entry)) (unfetched (a .entry)) step (no-entry (a .registers) (a .entry)) m (l .level) (l .table) s (i .2) (entryAt (l .last)) there told ∙ i .10)
+    (i .0, i .1, more, omega (arith, i .3), small .0, small .1, f .kept .1 .1 .1 .1 .1 .1 .1 .1 .1 .0 ∙ i .6, i .7, omega (arith, grows, i .2, i .8), led (a .registers) (a .entry) (a .asked .address) (a .asked .write) m (l .level) (l .table) s (i .2) told ∙ i .9, led-at (a .registers) (a .entry) (a .asked .address) (a .asked .write) m (l .level) (l .table) s (i .2) (entryAt (l .last)) there told ∙ i .10)
 
 same-length-3 : tie.Need-same-length-3 Inv-loop μ-loop
 same-length-3 c = c .before .loop .inv .6
