@@ -125,13 +125,13 @@ extern "C" {
 /* Answers: 32 bytes. Byte 0 is the kind; bytes that a kind doesn't name are zero. No kind is 0, so that a
  * zeroed buffer that no call filled is no answer.
  *
- *   GRANTED   bytes 15:8 host address                                            (memory requests)
+ *   GRANTED   bytes 15:8 host address                        (memory requests, requests in scalable mode)
  *   BLOCKED   byte 1 reason, byte 2 1 where the fault may be recorded, else 0;
  *             bytes 23:8 the 16 record bytes; byte 3 1 where bytes 31:24 are the host address of the
  *             entry concerned, else 0 (20h, 21h and 25h have none); galitzaf_text.h makes a line of it
- *   REFUSED   byte 1 refusal number (1 bad registers or windows, 2 address of the wrong kind, 4 a memory
- *             or translation request whose walk ended with a page that has a byte in FEE00000h to
- *             FEEFFFFFh)
+ *   REFUSED   byte 1 refusal number (1 bad registers or windows, 2 address of the wrong kind, 4 a request
+ *             whose walk ended with a page that has a byte in FEE00000h to FEEFFFFFh, 6 a PASID of more
+ *             than 20 bits)
  *   PASSED    the request goes on unchanged; of a translation request bytes 15:8 are its address
  *                                                                (interrupts, translation requests)
  *   REMAPPED  byte 1 vector, byte 2 delivery mode, byte 3 bit 0 destination mode, bit 1 redirection
@@ -245,7 +245,7 @@ extern "C" {
  *
  *   1  Log it, with what galitzaf_first_bad names. A register is the guest's doing where the guest wrote it, and every
  *      request is refused until it writes a good one; windows are the caller's own mistake.
- *   2  An access in FEE00000h to FEEFFFFFh is an interrupt and goes to galitzaf_interrupt_request, any other to the two
+ *   2  An access in FEE00000h to FEEFFFFFh is an interrupt and goes to galitzaf_interrupt_request, any other to the
  *      other calls. Where that was so, log the device: it read from that range, or its message lies outside.
  *   4  Log the device and its address: its tables map a page onto the interrupt range.
  *   6  No device can send such a PASID: the caller's own mistake.
@@ -327,8 +327,8 @@ extern "C" {
 #define GALITZAF_LISTED 0x2000       /* list: 2000h to 3000h, the count of spans is added */
 #define GALITZAF_LISTED_MORE 0x6000  /* list: the same, and there are more spans */
 
-/* Requests and takes tell what is malformed in this order: registers, windows, answer, write; then comes
- * refusal 1, and all else after it. image is the run, and image_len its length. */
+/* Requests and takes tell what is malformed in this order: registers (with capabilities), windows, answer, write
+ * or kind; then comes refusal 1, and all else after it. image is the run, and image_len its length. */
 
 /* Where an untranslated request may go. source has the bus in 15:8, device and function in 7:0; write
  * is 1 for a write, 0 for a read. */
