@@ -37,35 +37,34 @@ pub data Sized (size last : ℕ) : Type 0 where
 
 -- the addresses of a page are those with its bits above it
 module _ (place size last q : ℕ) (aligned : place % size ≡ 0) where
+  within : (leb place q && ltb q (place + size)) ≡ true → (place ≤ q) × (q < place + size)
+  within h =
+      let b = both (leb place q) (ltb q (place + size)) h in
+      (leb-true place q (b .0), ltb-true q (place + size) (b .1))
+
   in-page : Sized size last → (leb place q && ltb q (place + size)) ≡ true → above q last ≡ above place last
   in-page (small s l) h =
       let a : place % 0x1000 ≡ 0 = rw s at aligned in
-      let b = both (leb place q) (ltb q (place + size)) h in
-      let from = leb-true place q (b .0) in
-      let to = ltb-true q (place + size) (b .1) in
-      rw l (omega arith)
+      rw l (omega (arith, within h .0, within h .1))
   in-page (large s l) h =
       let a : place % 0x20_0000 ≡ 0 = rw s at aligned in
-      let b = both (leb place q) (ltb q (place + size)) h in
-      let from = leb-true place q (b .0) in
-      let to = ltb-true q (place + size) (b .1) in
-      rw l (omega arith)
+      rw l (omega (arith, within h .0, within h .1))
+
+  outside : (leb place q && ltb q (place + size)) ≡ false → place ≤ q → q < place + size → ⊥
+  outside h from to =
+      let z : _≡_ {A = Bool} true false = sym (rw (le-leb place q from, lt-ltb q (place + size) to) refl) ∙ h in
+      let y : _≡_ {A = ℕ} 0 1 = cc in
+      omega arith
 
   out-of-page : Sized size last → (leb place q && ltb q (place + size)) ≡ false → above q last ≡ above place last → ⊥
   out-of-page (small s l) h same =
       let a : place % 0x1000 ≡ 0 = rw s at aligned in
       let e : q / 0x1000 ≡ place / 0x1000 = rw l at same in
-      let z : _≡_ {A = Bool} true false =
-      sym (rw (le-leb place q (omega arith), lt-ltb q (place + size) (omega arith)) refl) ∙ h in
-      let y : _≡_ {A = ℕ} 0 1 = cc in
-      omega arith
+      outside h (omega arith) (omega arith)
   out-of-page (large s l) h same =
       let a : place % 0x20_0000 ≡ 0 = rw s at aligned in
       let e : q / 0x20_0000 ≡ place / 0x20_0000 = rw l at same in
-      let z : _≡_ {A = Bool} true false =
-      sym (rw (le-leb place q (omega arith), lt-ltb q (place + size) (omega arith)) refl) ∙ h in
-      let y : _≡_ {A = ℕ} 0 1 = cc in
-      omega arith
+      outside h (omega arith) (omega arith)
 
 -- bits 1:0, and bit 7 in an entry with one level below it
 low-set : (e r : ℕ) → e % 4 ≡ r → (r ≡ 0 → ⊥) → present e ≡ true

@@ -77,21 +77,37 @@ module _ (bytes : List ℕ) (tree : Tree) (below page : ℕ) (marks : List ℕ) 
     unfolding markTable
     its-entries h = rw (this, h)
 
-  pub level-first : (n : ℕ) → 0 < n
+  level-first : (n : ℕ) → 0 < n
       → thenMark (markTable bytes tree below page marks) (markLevel bytes tree below (n - 1) (page + 1))
       ≡ markLevel bytes tree below n page marks
   unfolding markLevel
   level-first n h = sym (ap (λ (k : ℕ). markLevel bytes tree below k page marks) (again n h))
+
+  pub level-bad : (n : ℕ) → 0 < n → {b : Bool} {after : List ℕ} → (b, after) ≡ markTable bytes tree below page marks → b ≡ false
+      → (false, after) ≡ markLevel bytes tree below n page marks
+  level-bad n h told b = bad (markLevel bytes tree below (n - 1) (page + 1)) told b ∙ level-first n h
+
+  pub level-on : (n : ℕ) → 0 < n → {b : Bool} {after : List ℕ} → (b, after) ≡ markTable bytes tree below page marks → b ≡ true
+      → markLevel bytes tree below (n - 1) (page + 1) after ≡ markLevel bytes tree below n page marks
+  level-on n h told b = good (markLevel bytes tree below (n - 1) (page + 1)) told b ∙ level-first n h
 
   pub level-done : (n : ℕ) → n ≤ 0 → (true, marks) ≡ markLevel bytes tree below n page marks
   unfolding markLevel
   level-done n h = sym (ap (λ (k : ℕ). markLevel bytes tree below k page marks) (none-left n h))
 
 module _ (bytes : List ℕ) (tree : Tree) (marks : List ℕ) (n : ℕ) where
-  pub levels-first : 0 < n
+  levels-first : 0 < n
       → thenMark (markLevel bytes tree (n - 1) (length marks) 0 marks) (markLevels bytes tree (n - 1)) ≡ markLevels bytes tree n marks
   unfolding markLevels
   levels-first h = sym (ap (λ (k : ℕ). markLevels bytes tree k marks) (again n h))
+
+  pub levels-bad : 0 < n → {b : Bool} {after : List ℕ} → (b, after) ≡ markLevel bytes tree (n - 1) (length marks) 0 marks → b ≡ false
+      → (false, after) ≡ markLevels bytes tree n marks
+  levels-bad h told b = bad (markLevels bytes tree (n - 1)) told b ∙ levels-first h
+
+  pub levels-on : 0 < n → {b : Bool} {after : List ℕ} → (b, after) ≡ markLevel bytes tree (n - 1) (length marks) 0 marks → b ≡ true
+      → markLevels bytes tree (n - 1) after ≡ markLevels bytes tree n marks
+  levels-on h told b = good (markLevels bytes tree (n - 1)) told b ∙ levels-first h
 
   pub levels-done : n ≤ 0 → (true, marks) ≡ markLevels bytes tree n marks
   unfolding markLevels

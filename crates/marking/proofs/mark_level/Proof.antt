@@ -5,7 +5,7 @@ use borrow.Author.Needs.{needs}
 use borrow.Author.Tests.{not-true, not-false}
 use lib.ListN.{length}
 use Rattle.marking.specs.Marking.{markLevel}
-use Rattle.marking.proofs.Turns.{good, bad, level-first, level-done}
+use Rattle.marking.proofs.Turns.{level-bad, level-on, level-done}
 use Rattle.marking.proofs.mark_level.Statement.{statement}
 use Rattle.marking.proofs.mark_level.Tie as tie
 
@@ -33,9 +33,7 @@ returns c =
     let i = k .before .before in
     let l = i .before .loop in
     let a = i .before .before .before .before .args in
-    bad (markLevel (a .bytes .now) (a .tree) (a .below) (l .left - 1) (l .page + 1)) (k .mark-table .ensures) (not-true _ (c .if1 .taken))
-    ∙ level-first (a .bytes .now) (a .tree) (a .below) (l .page) (l .marks) (l .left) (i .loop-test .taken)
-    ∙ l .inv .0
+    level-bad (a .bytes .now) (a .tree) (a .below) (l .page) (l .marks) (l .left) (i .loop-test .taken) (k .mark-table .ensures) (not-true _ (c .if1 .taken)) ∙ l .inv .0
 
 loop-again : tie.Need-loop-again Inv-loop μ-loop
 loop-again c =
@@ -43,9 +41,7 @@ loop-again c =
     let i = k .before .before in
     let l = i .before .loop in
     let a = i .before .before .before .before .args in (
-      good (markLevel (a .bytes .now) (a .tree) (a .below) (l .left - 1) (l .page + 1)) (k .mark-table .ensures) (not-false _ (c .if1 .left))
-          ∙ level-first (a .bytes .now) (a .tree) (a .below) (l .page) (l .marks) (l .left) (i .loop-test .taken)
-          ∙ l .inv .0,
+      level-on (a .bytes .now) (a .tree) (a .below) (l .page) (l .marks) (l .left) (i .loop-test .taken) (k .mark-table .ensures) (not-false _ (c .if1 .left)) ∙ l .inv .0,
       omega (arith, l .inv .1, i .loop-test .taken),
       search needs,
     )

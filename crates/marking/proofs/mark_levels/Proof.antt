@@ -5,7 +5,7 @@ use borrow.Author.Needs.{needs}
 use borrow.Author.Tests.{not-true, not-false}
 use lib.ListN.{length}
 use Rattle.marking.specs.Marking.{markLevels}
-use Rattle.marking.proofs.Turns.{good, bad, levels-first, levels-done}
+use Rattle.marking.proofs.Turns.{levels-bad, levels-on, levels-done}
 use Rattle.marking.proofs.mark_levels.Statement.{statement}
 use Rattle.marking.proofs.mark_levels.Tie as tie
 
@@ -33,9 +33,7 @@ returns c =
     let i = k .before .before in
     let l = i .before .loop in
     let a = i .before .before .before .before .before .args in
-    bad (markLevels (a .bytes .now) (a .tree) (l .left - 1)) (k .mark-level .ensures) (not-true _ (c .if1 .taken))
-    ∙ levels-first (a .bytes .now) (a .tree) (l .marks) (l .left) (i .loop-test .taken)
-    ∙ l .inv .0
+    levels-bad (a .bytes .now) (a .tree) (l .marks) (l .left) (i .loop-test .taken) (k .mark-level .ensures) (not-true _ (c .if1 .taken)) ∙ l .inv .0
 
 loop-again : tie.Need-loop-again Inv-loop μ-loop
 loop-again c =
@@ -43,9 +41,7 @@ loop-again c =
     let i = k .before .before in
     let l = i .before .loop in
     let a = i .before .before .before .before .before .args in (
-      good (markLevels (a .bytes .now) (a .tree) (l .left - 1)) (k .mark-level .ensures) (not-false _ (c .if1 .left))
-          ∙ levels-first (a .bytes .now) (a .tree) (l .marks) (l .left) (i .loop-test .taken)
-          ∙ l .inv .0,
+      levels-on (a .bytes .now) (a .tree) (l .marks) (l .left) (i .loop-test .taken) (k .mark-level .ensures) (not-false _ (c .if1 .left)) ∙ l .inv .0,
       omega (arith, l .inv .1),
       search needs,
     )
