@@ -14,11 +14,6 @@ returns-2 : tie.Need-returns-2
 unfolding firstBadCall
 returns-2 c = rw (← c .before .before .malformed .ensures, c .before .if1 .left, ne-eqb _ _ (c .if2 .taken))
 
-unpack-requires : tie.Need-unpack-requires
-unpack-requires c κs =
-    let past = c .before in
-    sym (past .before .malformed .ensures) ∙ past .if1 .left
-
 returns-3 : tie.Need-returns-3
 unfolding firstBadCall
 returns-3 c =
@@ -31,4 +26,4 @@ pub galitzaf-first-bad-spec : {M : Type 1} → statement M
 galitzaf-first-bad-spec =
     tie.close
     (tie.spec
-    (λ c κs. search needs) returns returns-2 unpack-requires (λ c κs. search needs) (λ c. search needs) (λ c. search needs) returns-3)
+    (λ c κs. search needs) returns returns-2 (λ c κs. sym (c .before .before .malformed .ensures) ∙ c .before .if1 .left) (λ c κs. search needs) (λ c. search needs) (λ c. search needs) returns-3)

@@ -1,5 +1,6 @@
 -- Each way out is a line of the definition.
 use Prim.Native.Nat.{ℕ}
+use mathlib.Core.Bool.{false}
 use mathlib.Core.Path.{_≡_, ap, sym, _∙_}
 use native.Mathlib.Omega.{arith}
 use borrow.Author.Needs.{needs}
@@ -7,7 +8,8 @@ use borrow.Author.Tests.{lt-ltb, le-ltb, eq-eqb, ne-eqb}
 use lib.Dec.{lit≤}
 use lib.ListN.{length}
 use Rattle.image.specs.Memory.{wordAt}
-use Rattle.galitzaf.specs.Recording.{recordCall, withBoth}
+use Rattle.faults.specs.Slots.{slotsIn}
+use Rattle.galitzaf.specs.Recording.{unfit, badFault, recordCall, withBoth}
 use Rattle.galitzaf.proofs.States.{two-bytes, answer-length, word-of}
 use Rattle.galitzaf.proofs.recorder.galitzaf_record.Statement.{statement}
 use Rattle.galitzaf.proofs.recorder.galitzaf_record.Tie as tie
@@ -16,23 +18,23 @@ returns : tie.Need-returns
 unfolding recordCall
 returns c = rw (← c .before .before .before .slot-count .ensures, ← c .before .is-unfit .ensures, c .if1 .taken)
 
+fit : (c : tie.Else1) → unfit (slotsIn (c .before .before .before .before .before .before .before .args .records .now)) (c .before .before .before .before .before .before .before .args .recorder .now) ≡ false
+fit c = rw (← c .before .before .before .slot-count .ensures) (sym (c .before .is-unfit .ensures) ∙ c .if1 .left)
+
 returns-2 : tie.Need-returns-2
 unfolding recordCall
-returns-2 c =
-    let first = c .before .before in
-    rw (← first .before .before .before .slot-count .ensures, ← first .before .is-unfit .ensures, first .if1 .left, ← c .before .bad-answer .ensures, c .if2 .taken)
+returns-2 c = rw (fit (c .before .before), ← c .before .bad-answer .ensures, c .if2 .taken)
 
 two : (c : tie.Else1) → length (c .before .before .before .before .before .before .before .args .recorder .now) ≡ 2
 two c =
-    let counted = c .before .before .before in
-    two-bytes (counted .slot-count .result) (counted .before .before .before .before .args .recorder .now)
-    (sym (c .before .is-unfit .ensures) ∙ c .if1 .left)
+    let a = c .before .before .before .before .before .before .before .args in
+    two-bytes (slotsIn (a .records .now)) (a .recorder .now) (fit c)
 
-whole : (c : tie.Else2)
-    → length (c .before .before .before .before .before .before .before .before .before .args .answer .now) ≡ 32
-whole c =
-    answer-length (c .before .before .before .before .before .before .before .before .before .args .answer .now)
-    (sym (c .before .bad-answer .ensures) ∙ c .if2 .left)
+sound : (c : tie.Else2) → badFault (c .before .before .before .before .before .before .before .before .before .args .answer .now) ≡ false
+sound c = sym (c .before .bad-answer .ensures) ∙ c .if2 .left
+
+whole : (c : tie.Else2) → length (c .before .before .before .before .before .before .before .before .before .args .answer .now) ≡ 32
+whole c = answer-length (c .before .before .before .before .before .before .before .before .before .args .answer .now) (sound c)
 
 slice-read-if3 : tie.Need-slice-read-if3
 slice-read-if3 c = omega (arith, two (c .before .before .before))
@@ -41,15 +43,7 @@ returns-3 : tie.Need-returns-3
 unfolding recordCall
 returns-3 c =
     let second = c .before .before in
-    let first = second .before .before in
-    rw (
-      ← first .before .before .before .slot-count .ensures,
-      ← first .before .is-unfit .ensures,
-      first .if1 .left,
-      ← second .before .bad-answer .ensures,
-      second .if2 .left,
-      lt-ltb _ _ (c .if3 .taken),
-    )
+    rw (fit (second .before .before), sound second, lt-ltb _ _ (c .if3 .taken))
 
 shared-slice-read-if4 : tie.Need-shared-slice-read-if4
 shared-slice-read-if4 c = omega (arith, whole (c .before .before .before))
@@ -59,16 +53,7 @@ unfolding recordCall
 returns-4 c =
     let third = c .before .before in
     let second = third .before .before in
-    let first = second .before .before in
-    rw (
-      ← first .before .before .before .slot-count .ensures,
-      ← first .before .is-unfit .ensures,
-      first .if1 .left,
-      ← second .before .bad-answer .ensures,
-      second .if2 .left,
-      le-ltb _ _ (third .if3 .left),
-      ne-eqb _ 1 (c .if4 .taken),
-    )
+    rw (fit (second .before .before), sound second, le-ltb _ _ (third .if3 .left), ne-eqb _ 1 (c .if4 .taken))
 
 read-state-requires : tie.Need-read-state-requires
 read-state-requires c κs =
@@ -93,19 +78,16 @@ returns-5 c =
     let second = third .before .before in
     let first = second .before .before in
     let answer = first .before .before .before .before .before .before .before .args .answer .now in
-    let fine = sym (second .before .bad-answer .ensures) ∙ second .if2 .left in
     rw (
       c .number .ensures,
       wrote .write-state .ensures,
+      fit first,
+      sound second,
       ← first .before .before .before .slot-count .ensures,
-      ← first .before .is-unfit .ensures,
-      first .if1 .left,
-      ← second .before .bad-answer .ensures,
-      second .if2 .left,
       le-ltb _ _ (third .if3 .left),
       eq-eqb _ _ (fourth .if4 .left),
-      ← word-of answer fine 8 (lit≤ tt),
-      ← word-of answer fine 16 (lit≤ tt),
+      ← word-of answer (sound second) 8 (lit≤ tt),
+      ← word-of answer (sound second) 16 (lit≤ tt),
       ← words .before .word .ensures,
       ← words .word2 .ensures,
       ← read .read-state .ensures .0,
