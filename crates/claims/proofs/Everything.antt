@@ -30,6 +30,7 @@ use Rattle.cache.proofs.Holding.{only-pages, at-most-64, held64, pushed-out, by
 use Rattle.rights.proofs.More.{scalable-more-memory}
 use Rattle.rights.proofs.Rights.{scalable-rights-on, scalable-rights-off}
 use Rattle.scalable.proofs.Fifty.{at-most-fifty}
+use Rattle.claims.proofs.ScalableClaims.{scalable-access-means-unfetched, scalable-stays-inside, scalable-no-interrupt-granted, scalable-none-untaken, scalable-always-an-entry}
 use Rattle.claims.proofs.ScalableLent.{scalable-isolation}
 use Rattle.scalable_cases.proofs.Rows.{scalable-rows}
 use Rattle.scalable.proofs.Isolation.{scalable-locality}
@@ -177,9 +178,14 @@ everything =
       none-of-its-own = none-of-its-own;
       answers-traced = answers-traced;
       scalable-locality = scalable-locality;
+      scalable-access-means-unfetched = scalable-access-means-unfetched;
       at-most-fifty = at-most-fifty;
+      scalable-none-untaken = scalable-none-untaken;
+      scalable-always-an-entry = scalable-always-an-entry;
+      scalable-no-interrupt-granted = scalable-no-interrupt-granted;
       scalable-sets-exactly = scalable-sets-exactly;
       scalable-leaves-all = scalable-leaves-all;
+      scalable-stays-inside = scalable-stays-inside;
       scalable-more-memory = scalable-more-memory;
       scalable-rights-on = scalable-rights-on;
       scalable-rights-off = scalable-rights-off;

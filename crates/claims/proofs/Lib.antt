@@ -2,4 +2,7 @@ pub mod Everything
 pub mod FirstNamed
 pub mod OneAnswer
 pub mod OneWindow
+pub mod ScalableAnswers
+pub mod ScalableClaims
 pub mod ScalableLent
+pub mod ScalableTold

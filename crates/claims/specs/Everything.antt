@@ -24,6 +24,7 @@ use Rattle.translation.specs.Claims.{TranslationLocality, TranslationAccessMean
 use Rattle.cache.specs.Claims.{Equal, AsCached, AsNow, OnlyPages, AtMost64, Held64, PushedOut, ByDomain, Newest, MustAnswer, JustThose, PageWords, WhenCached, DomainAsCached}
 use Rattle.cache.specs.Lent.{AsDefined, EqualCalls}
 use Rattle.rights.specs.Rights.{ScalableMoreMemory, ScalableRightsOn, ScalableRightsOff}
+use Rattle.claims.specs.ScalableClaims.{ScalableAccessMeansUnfetched, ScalableStaysInside, ScalableNoInterruptGranted, ScalableNoneUntaken, ScalableAlwaysAnEntry}
 use Rattle.claims.specs.ScalableLent.{ScalableIsolation}
 use Rattle.scalable_cases.specs.Rows.{ScalableRows}
 use Rattle.scalable.specs.Isolation.{ScalableLocality, ScalableSetsExactly, ScalableLeavesAll}
@@ -174,9 +175,14 @@ pub record Everything : Type 0 where
   pub answers-traced : AnswersTraced
   -- scalable mode
   pub scalable-locality : ScalableLocality
+  pub scalable-access-means-unfetched : ScalableAccessMeansUnfetched
   pub at-most-fifty : AtMostFifty
+  pub scalable-none-untaken : ScalableNoneUntaken
+  pub scalable-always-an-entry : ScalableAlwaysAnEntry
+  pub scalable-no-interrupt-granted : ScalableNoInterruptGranted
   pub scalable-sets-exactly : ScalableSetsExactly
   pub scalable-leaves-all : ScalableLeavesAll
+  pub scalable-stays-inside : ScalableStaysInside
   pub scalable-more-memory : ScalableMoreMemory
   pub scalable-rights-on : ScalableRightsOn
   pub scalable-rights-off : ScalableRightsOff
