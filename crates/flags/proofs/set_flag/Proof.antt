@@ -19,7 +19,7 @@ holds : (c : tie.After-known-told) → let a = c .before .before .before .before
 holds c =
     let a = c .before .before .before .before .before .before .args in
     subst (λ (r : Held). HeldBy r (windowsOf (a .windows .now)) (length (a .image .now)) (a .flag / 8)) (c .before .span .given .1)
-    (c .before .before .before .find-window .ensures)
+    (c .before .before .before .window-of .ensures)
 
 -- the byte's place in the run
 module _ (c : tie.After-wrapping-add-u64) where
@@ -61,7 +61,7 @@ returns-2 c =
     let a = c .before .before .before .before .before .args in
     not-set (a .windows .now) (a .image .now) (a .flag)
     (subst (λ (r : Held). HeldBy r (windowsOf (a .windows .now)) (length (a .image .now)) (a .flag / 8)) (c .enum-told .given .1)
-    (c .before .before .find-window .ensures))
+    (c .before .before .window-of .ensures))
 
 pub set-flag-spec : {M : Type 1} → statement M
 set-flag-spec =
