@@ -1,12 +1,12 @@
 // What the second-level walk makes of an entry.
-ghost use mathlib.Core.Bool.{false};
 ghost use mathlib.Core.Path.{_≡_};
 ghost use mathlib.Core.List.{_++_};
 ghost use lib.ListN.{length, take};
 ghost use Prim.Native.Nat.{_+_, _%_, _^_, _<_, _≤_};
 ghost use Rattle.image.specs.Choice.{if_then_else_};
 ghost use Rattle.image.specs.Place.{entryAt};
-ghost use Rattle.image.specs.Windows.{ofWindows, badWindows};
+ghost use Rattle.image.specs.Spans.{Opened};
+ghost use Rattle.image.specs.Windows.{ofWindows};
 ghost use Rattle.dma.specs.Walk.{placeIn};
 ghost use Rattle.pasid.specs.Reason.{numberOf};
 ghost use Rattle.second.specs.Answers.{handedBy, stepOf, StepNames, StepReachable, StepGrown};
@@ -15,9 +15,10 @@ use dma::is_leaf;
 use dma::page_reserved;
 use flags::push;
 use image::Found8;
+use image::Span;
 use image::field;
 use image::in_place;
-use image::page_entry8;
+use image::page_entry8_by;
 use pasid::PasidEntry;
 use pasid::ScalableReason;
 use pasid::ScalableRegisters;
@@ -56,10 +57,14 @@ fn flags_not_snooped(
 ) -> bool
     ensures { λ r. ⌜ r ≡ flagsNotSnooped registers entry dirty level e ⌝ }
 {
+    // The same for all entries of a walk, and asked first.
+    if !(entry.slade & !(registers.smpwc & entry.pwsnp)) {
+        return false;
+    }
     let accessed = field(e, 8, 8) == 1;
     let written = field(e, 9, 9) == 1;
     let leaf = is_leaf(level, e);
-    entry.slade & !(registers.smpwc & entry.pwsnp) & (!accessed | (leaf & dirty & !written))
+    !accessed | (leaf & dirty & !written)
 }
 
 fn unfetchable(top: bool) -> ScalableReason
@@ -132,6 +137,7 @@ fn second_step(
 
 // One level of the walk: below is how many levels come after it.
 pub(crate) fn second_entry(
+    first: Span,
     windows: &[u64],
     image: &[u8],
     registers: ScalableRegisters,
@@ -143,14 +149,14 @@ pub(crate) fn second_entry(
     above: Above,
     flags: &mut [u64],
 ) -> SecondStep
-    requires { ⌜ (badWindows (now windows) (length (now image)) ≡ false) × (below < 5) × (table % 4096 ≡ 0) × (table < 2 ^ 52) × (above .count + 2 ≤ length (now flags)) ⌝ }
+    requires { ⌜ Opened first (now windows) (length (now image)) × (below < 5) × (table % 4096 ≡ 0) × (table < 2 ^ 52) × (above .count + 2 ≤ length (now flags)) ⌝ }
     ensures { λ r. ⌜ stepOf r (now (flags .exit)) ≡ secondOver registers entry wanted address (ofWindows (now (windows .entry)) (now (image .entry))) below table (handedBy above (now (flags .entry))) ⌝ }
     ensures { λ r. ⌜ StepNames r (entryAt (placeIn address table below)) ⌝ }
     ensures { λ r. ⌜ StepReachable r × StepGrown r (above .count) ⌝ }
 {
     let offset = 8 * ((address >> (Page4K::SHIFT + 9 * below)) % 512);
     let at = table + offset;
-    let Found8::Entry(e) = page_entry8(windows, image, table, offset) else {
+    let Found8::Entry(e) = page_entry8_by(first, windows, image, table, offset) else {
         return SecondStep::Fault(unfetchable(above.top), entry.fpd, at);
     };
     second_step(registers, entry, wanted, above, below + 1, at, e, flags)

@@ -12,6 +12,7 @@ use crate::step::Above;
 use crate::step::SecondStep;
 use crate::step::Wanted;
 use crate::step::second_entry;
+use image::first_span;
 use pasid::PasidEntry;
 use pasid::ScalableReason;
 use pasid::ScalableRegisters;
@@ -40,6 +41,7 @@ pub fn second_walk(
     ensures { λ r. ⌜ Reachable (walkedOf r (now (flags .exit))) ⌝ }
     ensures { λ r. ⌜ Grown r count (count + entry .«second_levels» + 1) ⌝ }
 {
+    let first = first_span(windows);
     let mut level = entry.second_levels;
     let mut at = entry.second_top;
     let mut top = true;
@@ -54,6 +56,7 @@ pub fn second_walk(
             count,
         };
         let step = second_entry(
+            first,
             windows,
             image,
             registers,

@@ -1,19 +1,35 @@
+use Prim.Native.Nat.{ℕ}
+use mathlib.Core.Bool.{Bool, true, false, not, _&&_}
+use mathlib.Core.Path.{_≡_, refl}
+use native.Mathlib.Omega.{arith}
 use borrow.Author.Needs.{needs}
 use Rattle.second.proofs.step.flags_not_snooped.Statement.{statement}
 use Rattle.second.proofs.step.flags_not_snooped.Tie as tie
 
-field-requires : tie.Need-field-requires
-field-requires c κs = search needs
+-- no entry of the walk needs it
+never : (s x y : Bool) → not (s && not x) ≡ true → false ≡ (s && not x && y)
+never true true y h = refl
+never true false y h = let z : _≡_ {A = ℕ} 0 1 = cc in absurd (omega arith)
+never false x y h = refl
 
-field-requires-2 : tie.Need-field-requires-2
-field-requires-2 c κs = search needs
-
-is-leaf-requires : tie.Need-is-leaf-requires
-is-leaf-requires c κs = search needs
+-- the entry tells
+by-entry : (s x y : Bool) → not (s && not x) ≡ false → y ≡ (s && not x && y)
+by-entry true true y h = let z : _≡_ {A = ℕ} 0 1 = cc in absurd (omega arith)
+by-entry true false y h = refl
+by-entry false x y h = let z : _≡_ {A = ℕ} 0 1 = cc in absurd (omega arith)
 
 returns : tie.Need-returns
-returns c = rw (c .before .before .before .before .before .field .ensures, c .before .before .before .before .field2 .ensures, c .before .before .before .is-leaf .ensures)
+returns c =
+    let a = c .before .before .before .before .args in
+    never (a .entry .slade) (a .registers .smpwc && a .entry .pwsnp) _ (c .if1 .taken)
+
+returns-2 : tie.Need-returns-2
+returns-2 c =
+    let l = c .before .before in
+    let s = l .before .before .before .before .before in
+    let a = s .args in
+    rw (l .field .ensures, c .before .field2 .ensures, c .is-leaf .ensures) (by-entry (a .entry .slade) (a .registers .smpwc && a .entry .pwsnp) _ (l .before .if1 .left))
 
 pub flags-not-snooped-spec : {M : Type 1} → statement M
 flags-not-snooped-spec =
-    tie.close (tie.spec field-requires field-requires-2 is-leaf-requires returns)
+    tie.close (tie.spec returns (λ c κs. search needs) (λ c κs. search needs) (λ c κs. search needs) returns-2)

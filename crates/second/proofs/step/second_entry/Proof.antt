@@ -24,7 +24,7 @@ returns c =
     let s = f .before .before .before .before in
     let a = s .args in
     let m = ofWindows (a .windows .now) (a .image .now) in
-    let none = sym (ap fetched8 (c .before .enum-told .given .1)) ∙ f .page-entry8 .ensures .0
+    let none = sym (ap fetched8 (c .before .enum-told .given .1)) ∙ f .page-entry8-by .ensures .0
     ∙ ap (λ (i : ℕ). entry 1 m (a .table + 8 * i)) (index-of (a .address) (a .below)) in (
       rw (c .unfetchable .ensures) (unfetched (a .registers) (a .entry) (a .wanted) (a .address) m (a .below) (a .table) (handedBy (a .above) (a .flags .now)) none),
       (there s, (tt, tt)),
@@ -38,7 +38,7 @@ returns-2 c =
     let s = f .before .before .before .before in
     let a = s .args in
     let m = ofWindows (a .windows .now) (a .image .now) in
-    let here = sym (ap fetched8 (e .e .given .1)) ∙ f .page-entry8 .ensures .0
+    let here = sym (ap fetched8 (e .e .given .1)) ∙ f .page-entry8-by .ensures .0
     ∙ ap (λ (i : ℕ). entry 1 m (a .table + 8 * i)) (index-of (a .address) (a .below)) in
     let stepped = fetched (a .registers) (a .entry) (a .wanted) (a .address) m (a .below) (a .table) (handedBy (a .above) (a .flags .now)) here in (
       k .second-step .ensures .0 ∙ rw (add-one (a .below), index-of (a .address) (a .below)) stepped,
@@ -63,8 +63,8 @@ mul-offset-2 c = search needs
 add-at : tie.Need-add-at
 add-at c = search needs
 
-page-entry8-requires : tie.Need-page-entry8-requires
-page-entry8-requires c κs = search needs
+page-entry8-by-requires : tie.Need-page-entry8-by-requires
+page-entry8-by-requires c κs = search needs
 
 enum-known-e : tie.Need-enum-known-e
 enum-known-e c = search needs
@@ -94,7 +94,7 @@ second-entry-spec =
     shr-offset
     mul-offset-2
     add-at
-    page-entry8-requires
+    page-entry8-by-requires
     enum-known-e
     enum-told
     unfetchable-requires

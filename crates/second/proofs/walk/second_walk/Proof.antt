@@ -8,6 +8,7 @@ use Rattle.image.specs.Memory.{Memory}
 use Rattle.image.specs.Place.{Place, entryAt, lastTried}
 use Rattle.image.specs.Rules.{run}
 use Rattle.image.specs.Windows.{ofWindows}
+use Rattle.image.proofs.GoodWindows.{three-each}
 use Rattle.dma.specs.Walk.{placeIn}
 use Rattle.second.specs.Answers.{stepPlace, StepReachable, StepGrown}
 use Rattle.second.specs.Second.{Handed, atTop, secondRules}
@@ -17,7 +18,7 @@ use Rattle.second.proofs.walk.second_walk.Statement.{statement}
 use Rattle.second.proofs.walk.second_walk.Tie as tie
 
 abbrev Inv-loop : tie.InvT-loop
-Inv-loop windows image registers entry wanted address flags₀ count₀ level₀ at₀ top₀ read₀ write₀ n₀ flags level at top read write n =
+Inv-loop windows image registers entry wanted address flags₀ count₀ first level₀ at₀ top₀ read₀ write₀ n₀ flags level at top read write n =
     (0 < level)
     × (level ≤ 5)
     × (at % 4096 ≡ 0)
@@ -32,14 +33,19 @@ Inv-loop windows image registers entry wanted address flags₀ count₀ level₀
     ≡ lastTried before′ (secondRules registers entry wanted address (entry .«second_levels») (entry .«second_top») (atTop (take count₀ flags₀))) (ofWindows windows image))
 
 abbrev μ-loop : tie.MeasureT-loop
-μ-loop windows image registers entry wanted address flags₀ count₀ level₀ at₀ top₀ read₀ write₀ n₀ flags level at top read write n = level
+μ-loop windows image registers entry wanted address flags₀ count₀ first level₀ at₀ top₀ read₀ write₀ n₀ flags level at top read write n = level
 
 abbrev memory : tie.Start Inv-loop μ-loop → Memory
 memory s = ofWindows (s .args .windows .now) (s .args .image .now)
 
+first-span-requires : tie.Need-first-span-requires Inv-loop μ-loop
+first-span-requires c κs =
+    let s = c .before .before .before in
+    three-each (s .args .windows .now) (length (s .args .image .now)) (s .pre .0) .1
+
 loop-holds : tie.Need-loop-holds Inv-loop μ-loop
 loop-holds c =
-    let s = c .before .before .before in
+    let s = c .before .before .before .before in
     let a = s .args in
     let p = s .pre in (
       p .1,
@@ -56,17 +62,18 @@ loop-holds c =
 second-entry-requires : tie.Need-second-entry-requires Inv-loop μ-loop
 second-entry-requires c κs =
     let l = c .before .before .loop in
-    let p = c .before .before .before .before .before .before .pre in
-    (p .0, omega (arith, l .inv .1), l .inv .2, l .inv .3, omega (arith, l .inv .0, l .inv .5, l .inv .6, p .5))
+    let f = c .before .before .before in
+    let p = f .before .before .before .before .pre in
+    ((p .0, f .first-span .ensures), omega (arith, l .inv .1), l .inv .2, l .inv .3, omega (arith, l .inv .0, l .inv .5, l .inv .6, p .5))
 
 -- the buffer after a turn
 abbrev after : tie.After-second-entry Inv-loop μ-loop → List ℕ
-after k = k .second-entry .last .1 .1 .1 .1 .1 .1 .1 .1 .1 .0
+after k = k .second-entry .last .1 .1 .1 .1 .1 .1 .1 .1 .1 .1 .0
 
 -- a turn of the loop
 module _ (i : tie.In-loop Inv-loop μ-loop) where
   abbrev s : tie.Start Inv-loop μ-loop
-  s = i .before .before .before .before .before
+  s = i .before .before .before .before .before .before
 
   abbrev handed : Handed
   handed =
@@ -161,6 +168,7 @@ second-walk-spec =
     (tie.spec
     Inv-loop
     μ-loop
+    first-span-requires
     loop-holds
     sub-second-entry
     second-entry-requires
