@@ -1,6 +1,7 @@
 pub mod Cases
 pub mod Instances
 pub mod InterruptFrames
+pub mod Known
 pub mod PostsThroughWindows
 pub mod Takes
 pub mod Translations
