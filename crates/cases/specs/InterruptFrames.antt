@@ -5,10 +5,9 @@ use mathlib.Core.Path.{_≡_}
 use Rattle.cases.specs.Bench.{Row, read, write, host, fault, refusal, row, layout, answers, said}
 
 -- source 0310h walks three levels, source 0311h passes through
-unfoldable pub frames : List ℕ
-frames =
-    layout 0
-    ((0x1030, 0x2001)
+abbrev pub frameWords : List (ℕ × ℕ)
+frameWords =
+    (0x1030, 0x2001)
     ∷ (0x2100, 0x3001)
     ∷ (0x2108, 0x501)
     ∷ (0x2110, 0x9)
@@ -28,8 +27,10 @@ frames =
     ∷ (0x5008, 0xFEEFF003)
     ∷ (0x5010, 0xFEDFF003)
     ∷ (0x5018, 0xFEF00003)
-    ∷ [])
-    0x5020
+    ∷ []
+
+unfoldable pub frames : List ℕ
+frames = layout 0 frameWords 0x5020
 
 abbrev pub frameRows : List ℕ → List Row
 frameRows image =
