@@ -24,10 +24,11 @@ use Rattle.builder.specs.declared.items.Item.{Item}
 use Rattle.builder.specs.declared.items.Taken.{Taken}
 use Rattle.builder.proofs.ItemLaws.{none-of, both-0, frame-below}
 use Rattle.leaves.specs.Claims.{Leaves, ItemsLeave}
-use Rattle.leaves.specs.Leaves.{Leaf, none, leaf, leafOver, holds, leftBy, left}
+use Rattle.leaves.specs.Leaves.{Leaf, none, leaf, leafOver, placeOver, holds, leftBy, left}
 use Rattle.leaves.specs.WellBuilt.{WellBuilt, NoneEmpty}
 use Rattle.leaves.proofs.Addresses.{above}
 use Rattle.leaves.proofs.Mapped.{Changed, mapped-changed}
+use Rattle.leaves.proofs.Passes.{endOver, leaf-same, place-same}
 use Rattle.leaves.proofs.Unmapped.{unmapped-changed}
 
 -- an item's size, with the levels below its entry
@@ -173,19 +174,29 @@ module _ (registers : Registers) (tree : Tree) (item : Item) (t : Tables) (haw :
   pub record Left (after : Tables) : Type 0 where
     pub built : WellBuilt (after .bytes) (after .marks) tree
     pub leaves : (q : ℕ) → q < 2 ^ (12 + 9 * (tree .below + 1)) → leafOver (after .bytes) tree q ≡ leftBy item q (leafOver (t .bytes) tree q)
+    pub kept : (q : ℕ) → q < 2 ^ (12 + 9 * (tree .below + 1)) → holds item q ≡ false → placeOver (after .bytes) tree q ≡ placeOver (t .bytes) tree q
     pub none-empty : NoneEmpty (t .bytes) (t .marks) tree → NoneEmpty (after .bytes) (after .marks) tree
 
   module _ (fine : itemReason registers (tree .below + 1) item ≡ 0) where
     left-of : (now : Leaf) → now ≡ (if unmaps item then none else leaf (levelsBelow item) (leafOf item)) → {after : Tables}
         → Changed tree (item .place) (levelsBelow item) now t after (NoneEmpty (t .bytes) (t .marks) tree) → Left after
-    left-of now is {after} c = record { built = c .built; leaves = λ q hq. go q hq (holds item q) refl; none-empty = c .filled }
+    left-of now is {after} c =
+        record {
+          built = c .built;
+          leaves = λ q hq. go q hq (holds item q) refl;
+          kept = λ q hq h. place-same (t .bytes) (after .bytes) tree q (apart q hq h);
+          none-empty = c .filled;
+        }
       where
+        apart : (q : ℕ) → q < 2 ^ (12 + 9 * (tree .below + 1)) → holds item q ≡ false → endOver (after .bytes) tree q ≡ endOver (t .bytes) tree q
+        apart q hq h =
+            c .elsewhere q hq (out-of-page (item .place) (item .size) (levelsBelow item) q (aligned registers (tree .below + 1) item fine) (sized registers (tree .below + 1) item fine) h)
+
         go : (q : ℕ) → q < 2 ^ (12 + 9 * (tree .below + 1)) → (h : Bool) → holds item q ≡ h
             → leafOver (after .bytes) tree q ≡ (if h then (if unmaps item then none else leaf (levelsBelow item) (leafOf item)) else leafOver (t .bytes) tree q)
         go q hq true h =
             c .here q (in-page (item .place) (item .size) (levelsBelow item) q (aligned registers (tree .below + 1) item fine) (sized registers (tree .below + 1) item fine) h) ∙ is
-        go q hq false h =
-            c .elsewhere q hq (out-of-page (item .place) (item .size) (levelsBelow item) q (aligned registers (tree .below + 1) item fine) (sized registers (tree .below + 1) item fine) h)
+        go q hq false h = leaf-same (t .bytes) (after .bytes) tree q (apart q hq h)
 
     not-deep : levelsBelow item ≤ tree .below
     not-deep = go (isLarge item)
@@ -219,7 +230,7 @@ module _ (registers : Registers) (tree : Tree) (item : Item) (t : Tables) (haw :
 
 pub items-leave : ItemsLeave
 unfolding takeItems left
-items-leave registers tree numbers zero i t haw w h = record { well-built = w; leaves = λ q hq. refl; none-empty = λ h. h }
+items-leave registers tree numbers zero i t haw w h = record { well-built = w; leaves = λ q hq. refl; kept = λ q hq off. refl; none-empty = λ h. h }
 items-leave registers tree numbers (suc n) i t haw w h =
     go (eqb (takeItem registers tree (itemAt numbers i) t .0) 0) refl h (items-leave registers tree numbers n (i + 1))
   where
@@ -237,6 +248,7 @@ items-leave registers tree numbers (suc n) i t haw w h =
         record {
           well-built = rest .well-built;
           leaves = λ q hq. rest .leaves q hq ∙ ap (left numbers n (i + 1) q) (l .leaves q hq);
+          kept = λ q hq off. rest .kept q hq (λ j from to. off j (omega arith) (omega arith)) ∙ l .kept q hq (off i (omega arith) (omega arith));
           none-empty = λ full. rest .none-empty (l .none-empty full);
         }
     go false e h on = absurd (eqb-false (one .0) 0 e h)

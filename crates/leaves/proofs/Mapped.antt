@@ -19,16 +19,16 @@ use Rattle.leaves.specs.WellBuilt.{leadsOn, WellBuilt, NoneEmpty}
 use Rattle.leaves.proofs.Addresses.{above, number, index-small, placed}
 use Rattle.leaves.proofs.Filled.{FilledBut, all-but, and-it, stored-in, stored-but, made-but}
 use Rattle.leaves.proofs.Pages.{lowest-free, one-less}
-use Rattle.leaves.proofs.Passes.{Passes, entryOn, passed-mark, Arrived, arrives}
-use Rattle.leaves.proofs.Steps.{absent-ends, in-region, stored-built, stored-here, stored-elsewhere, made-built, made-leaf, made-passes, made-absent}
+use Rattle.leaves.proofs.Passes.{Passes, entryOn, endOver, passed-mark, Arrived, arrives}
+use Rattle.leaves.proofs.Steps.{absent-ends, in-region, stored-built, stored-here, stored-elsewhere, made-built, made-end, made-passes, made-absent}
 
 -- the tables after a change at the page of a place, so many levels above the last: at its addresses another page is over, at all others
--- the one that was; and none is empty, if they were full before
+-- the one that was, by the same entry; and none is empty, if they were full before
 pub record Changed (tree : Tree) (place last : ℕ) (now : Leaf) (before after : Tables) (Full : Type 0) : Type 0 where
   pub built : WellBuilt (after .bytes) (after .marks) tree
   pub here : (q : ℕ) → above q last ≡ above place last → leafOver (after .bytes) tree q ≡ now
   pub elsewhere : (q : ℕ) → q < 2 ^ (12 + 9 * (tree .below + 1)) → (above q last ≡ above place last → ⊥)
-      → leafOver (after .bytes) tree q ≡ leafOver (before .bytes) tree q
+      → endOver (after .bytes) tree q ≡ endOver (before .bytes) tree q
   pub filled : Full → NoneEmpty (after .bytes) (after .marks) tree
 
 fuller : (tree : Tree) (place last : ℕ) (now : Leaf) (before : Tables) (P Q : Type 0) → (Q → P) → {after : Tables}
@@ -83,7 +83,7 @@ module _ (tree : Tree) (place last word : ℕ) (reached : place < 2 ^ (12 + 9 * 
       (record {
         built = after .built;
         here = after .here;
-        elsewhere = λ q hq h. after .elsewhere q hq h ∙ made-leaf (t .bytes) (t .marks) tree w x (last + suc k) f mark deep (free .0) (free .1) absent q;
+        elsewhere = λ q hq h. after .elsewhere q hq h ∙ made-end (t .bytes) (t .marks) tree w x (last + suc k) f mark deep (free .0) (free .1) absent q;
         filled = λ full. after .filled (made-but (t .bytes) (t .marks) tree w x (last + suc k) f mark deep (free .0) (free .1) absent (rw (page-is place page (last + suc k)) full));
       })
 

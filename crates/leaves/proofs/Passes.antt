@@ -10,13 +10,14 @@ use borrow.Author.Tests.{ne-eqb, eq-eqb, eqb-false, not-true}
 use lib.Dec.{eqb}
 use lib.ListN.{length, getD, List·getD-eq-default}
 use Rattle.image.specs.Choice.{if_then_else_}
+use Rattle.image.specs.Place.{Place, noEntry, entryAt}
 use Rattle.image.proofs.GoodWindows.{both}
 use Rattle.dma.specs.Walk.{placeIn}
 use Rattle.tables.specs.Tables.{entryOf, present, mapsPage, tableOf}
 use Rattle.tables.specs.Way.{ends, stopIn, wayTo, way}
 use Rattle.tables.specs.declared.Tree.{Tree}
 use Rattle.tables.specs.declared.way.Stop.{Stop}
-use Rattle.leaves.specs.Leaves.{none, leaf, leafAt, leafOver}
+use Rattle.leaves.specs.Leaves.{Leaf, none, leaf, leafAt, leafOver, placeOver}
 use Rattle.leaves.specs.WellBuilt.{leadsOn, Leads, WellBuilt}
 use Rattle.leaves.proofs.Addresses.{above, index, number, index-small, above-next, above-split, above-all, placed, table-back}
 
@@ -28,6 +29,49 @@ pub data Passes (bytes : List ℕ) (tree : Tree) (q : ℕ) : ℕ → ℕ → Typ
   at-top : {n page : ℕ} → n ≡ tree .below → 4096 * page ≡ tree .top → Passes bytes tree q n page
   onward : {n page : ℕ} (upper : ℕ) → Passes bytes tree q (suc n) upper → leadsOn (suc n) (entryOn bytes q upper (suc n)) ≡ true
       → tableOf (tree .start) (entryOn bytes q upper (suc n)) ≡ 4096 * page → Passes bytes tree q n page
+
+-- the end of a way at a page
+pub data End : Type 0 where
+  no-page : End
+  at-page : Stop → End
+
+abbrev pub endAt : Stop → End
+endAt stop = if present (stop .entry) then at-page stop else no-page
+
+unfoldable pub endOver : (bytes : List ℕ) → Tree → (q : ℕ) → End
+endOver bytes tree q = endAt (way bytes tree q 0)
+
+-- it has the page, and the place of its entry
+abbrev leafOf : End → Leaf
+leafOf no-page = none
+leafOf (at-page stop) = leaf (stop .below) (stop .entry)
+
+abbrev placeOf : End → Place
+placeOf no-page = noEntry
+placeOf (at-page stop) = entryAt (stop .at)
+
+module _ (bytes bytes′ : List ℕ) (tree : Tree) (q : ℕ) (same : endOver bytes′ tree q ≡ endOver bytes tree q) where
+  pub leaf-same : leafOver bytes′ tree q ≡ leafOver bytes tree q
+  unfolding leafOver endOver
+  leaf-same = sym (by (way bytes′ tree q 0)) ∙ ap leafOf same ∙ by (way bytes tree q 0)
+    where
+      by : (stop : Stop) → leafOf (endAt stop) ≡ leafAt stop
+      by stop = go (present (stop .entry))
+        where
+          go : (t : Bool) → leafOf (if t then at-page stop else no-page) ≡ (if t then leaf (stop .below) (stop .entry) else none)
+          go true = refl
+          go false = refl
+
+  pub place-same : placeOver bytes′ tree q ≡ placeOver bytes tree q
+  unfolding placeOver endOver
+  place-same = sym (by (way bytes′ tree q 0)) ∙ ap placeOf same ∙ by (way bytes tree q 0)
+    where
+      by : (stop : Stop) → placeOf (endAt stop) ≡ (if present (stop .entry) then entryAt (stop .at) else noEntry)
+      by stop = go (present (stop .entry))
+        where
+          go : (t : Bool) → placeOf (if t then at-page stop else no-page) ≡ (if t then entryAt (stop .at) else noEntry)
+          go true = refl
+          go false = refl
 
 -- a page with a mark is one of the region
 pub marked-inside : (marks : List ℕ) (page : ℕ) {n : ℕ} → getD marks page 0 ≡ suc n → page < length marks
@@ -198,12 +242,12 @@ module _ (bytes marks : List ℕ) (tree : Tree) (w : WellBuilt bytes marks tree)
       subst (λ (t : ℕ). Arrived q last (wayTo bytes (tree .start) q last (tree .below) t)) top
       (arrived q last (tree .below) (tree .top / 4096) less (top-passed q))
 
-  -- Another run of bytes in which, wherever the way to an address passes, either the entry is the same or the page over it is: then the
-  -- page over it is the same.
+  -- Another run of bytes in which, wherever the way to an address passes, either the entry is the same or the end at a page is: then the
+  -- way ends at the same page.
   module _ (bytes′ : List ℕ) (q : ℕ) where
     abbrev SameHere : (n page : ℕ) → Type 0
     SameHere n page =
-        leafAt (wayTo bytes′ (tree .start) q 0 n (4096 * page)) ≡ leafAt (wayTo bytes (tree .start) q 0 n (4096 * page))
+        endAt (wayTo bytes′ (tree .start) q 0 n (4096 * page)) ≡ endAt (wayTo bytes (tree .start) q 0 n (4096 * page))
 
     module _ (same : (n page : ℕ) → Passes bytes tree q n page → (entryOn bytes′ q page n ≡ entryOn bytes q page n) ⊎ SameHere n page) where
       stop-same : (n page : ℕ) → entryOn bytes′ q page n ≡ entryOn bytes q page n → leadsOn n (entryOn bytes q page n) ≡ false → SameHere n page
@@ -233,15 +277,15 @@ module _ (bytes marks : List ℕ) (tree : Tree) (w : WellBuilt bytes marks tree)
               let k′ : leadsOn (suc n) (entryOn bytes′ q page (suc n)) ≡ true = rw e k in
               let further = goes-on 0 n (entryOn bytes q page (suc n)) (omega arith) k in
               let further′ = goes-on 0 n (entryOn bytes′ q page (suc n)) (omega arith) k′ in
-              ap leafAt (way-down bytes′ (tree .start) q 0 n page further′ ∙ ap (wayTo bytes′ (tree .start) q 0 n) down′)
+              ap endAt (way-down bytes′ (tree .start) q 0 n page further′ ∙ ap (wayTo bytes′ (tree .start) q 0 n) down′)
               ∙ on (l .page) (onward page p k down)
-              ∙ sym (ap leafAt (way-down bytes (tree .start) q 0 n page further ∙ ap (wayTo bytes (tree .start) q 0 n) down))
+              ∙ sym (ap endAt (way-down bytes (tree .start) q 0 n page further ∙ ap (wayTo bytes (tree .start) q 0 n) down))
 
-      pub same-leaf : leafOver bytes′ tree q ≡ leafOver bytes tree q
-      unfolding leafOver
-      same-leaf =
+      pub same-end : endOver bytes′ tree q ≡ endOver bytes tree q
+      unfolding endOver
+      same-end =
           let top : 4096 * (tree .top / 4096) ≡ tree .top = omega (arith, w .placed .top-aligned) in
-          subst (λ (t : ℕ). leafAt (wayTo bytes′ (tree .start) q 0 (tree .below) t) ≡ leafAt (wayTo bytes (tree .start) q 0 (tree .below) t)) top
+          subst (λ (t : ℕ). endAt (wayTo bytes′ (tree .start) q 0 (tree .below) t) ≡ endAt (wayTo bytes (tree .start) q 0 (tree .below) t)) top
           (follow (tree .below) (tree .top / 4096) (top-passed q))
 
   -- a way goes on passing where the entries over a level are the same

@@ -19,11 +19,11 @@ use Rattle.image.specs.Memory.{withWord}
 use Rattle.tables.specs.Tables.{entryOf, present, tableEntry, tableOf, zeroed}
 use Rattle.tables.specs.Way.{wayTo}
 use Rattle.tables.specs.declared.Tree.{Tree}
-use Rattle.leaves.specs.Leaves.{none, leaf, leafAt, leafOver}
+use Rattle.leaves.specs.Leaves.{none, leaf, leafOver}
 use Rattle.leaves.specs.WellBuilt.{leadsOn, Leads, WellBuilt}
 use Rattle.leaves.proofs.Addresses.{above, index, number, index-small, above-next, above-split, placed, table-back}
 use Rattle.leaves.proofs.Entries.{length-stored, entry-kept, entry-stored, length-zeroed, zeroed-elsewhere, zeroed-there}
-use Rattle.leaves.proofs.Passes.{Passes, onward, entryOn, marked-inside, leads-deep, goes-on, stops, way-here, way-down, led-to, passed-mark, one-way, passing-too, passing-still, same-leaf, leaf-in}
+use Rattle.leaves.proofs.Passes.{Passes, onward, entryOn, no-page, endAt, endOver, marked-inside, leads-deep, goes-on, stops, way-here, way-down, led-to, passed-mark, one-way, passing-too, passing-still, same-end, leaf-in}
 
 -- nothing present leads on
 pub absent-ends : (n e : ℕ) → present e ≡ false → leadsOn n e ≡ false
@@ -35,15 +35,15 @@ zero-absent = refl
 
 -- no page where the entry isn't present, nor over a table whose entry isn't
 none-here : (bytes : List ℕ) (start q n page : ℕ) → present (entryOn bytes q page n) ≡ false
-    → leafAt (wayTo bytes start q 0 n (4096 * page)) ≡ none
+    → endAt (wayTo bytes start q 0 n (4096 * page)) ≡ no-page
 none-here bytes start q n page h =
     rw (way-here bytes start q 0 n page (stops 0 n (entryOn bytes q page n) (absent-ends n (entryOn bytes q page n) h)), placed q page n, h)
 
 none-below : (bytes : List ℕ) (start q n page f : ℕ) → leadsOn (suc n) (entryOn bytes q page (suc n)) ≡ true
     → tableOf start (entryOn bytes q page (suc n)) ≡ 4096 * f → present (entryOn bytes q f n) ≡ false
-    → leafAt (wayTo bytes start q 0 (suc n) (4096 * page)) ≡ none
+    → endAt (wayTo bytes start q 0 (suc n) (4096 * page)) ≡ no-page
 none-below bytes start q n page f leads down h =
-    ap leafAt (way-down bytes start q 0 n page (goes-on 0 n (entryOn bytes q page (suc n)) (omega arith) leads) ∙ ap (wayTo bytes start q 0 n) down)
+    ap endAt (way-down bytes start q 0 n page (goes-on 0 n (entryOn bytes q page (suc n)) (omega arith) leads) ∙ ap (wayTo bytes start q 0 n) down)
     ∙ none-here bytes start q n f h
 
 pub contradicts : {b : Bool} → b ≡ false → b ≡ true → ⊥
@@ -107,9 +107,9 @@ module _ (bytes marks : List ℕ) (tree : Tree) (w : WellBuilt bytes marks tree)
           leaf-in (withWord bytes (8 * x) word) tree q (still q (omega arith) (passing-too bytes tree place q upper passes)) (rw e is) ∙ rw e
 
       pub stored-elsewhere : place < 2 ^ (12 + 9 * (tree .below + 1)) → (q : ℕ) → q < 2 ^ (12 + 9 * (tree .below + 1))
-          → (above q level ≡ above place level → ⊥) → leafOver (withWord bytes (8 * x) word) tree q ≡ leafOver bytes tree q
+          → (above q level ≡ above place level → ⊥) → endOver (withWord bytes (8 * x) word) tree q ≡ endOver bytes tree q
       stored-elsewhere hp q hq apart =
-          same-leaf bytes marks tree w (withWord bytes (8 * x) word) q
+          same-end bytes marks tree w (withWord bytes (8 * x) word) q
           (λ n p on. inl (other-kept bytes x word (number q p n) (λ same. apart (agree n p on same))))
         where
           agree : (n p : ℕ) → Passes bytes tree q n p → number q p n ≡ x → above q level ≡ above place level
@@ -234,11 +234,11 @@ module _ (bytes marks : List ℕ) (tree : Tree) (w : WellBuilt bytes marks tree)
   pub made-absent : (q n : ℕ) → present (entryOn made q f n) ≡ false
   made-absent q n = rw (made-in-it (number q f n) (omega (arith, index-small q n))) zero-absent
 
-  pub made-leaf : (q : ℕ) → leafOver made tree q ≡ leafOver bytes tree q
-  made-leaf q = same-leaf bytes marks tree w made q (λ n page p. go n page p (ℕ-discrete (number q page n) x))
+  pub made-end : (q : ℕ) → endOver made tree q ≡ endOver bytes tree q
+  made-end q = same-end bytes marks tree w made q (λ n page p. go n page p (ℕ-discrete (number q page n) x))
     where
       SameAt : (n page : ℕ) → Type 0
-      SameAt n page = leafAt (wayTo made (tree .start) q 0 n (4096 * page)) ≡ leafAt (wayTo bytes (tree .start) q 0 n (4096 * page))
+      SameAt n page = endAt (wayTo made (tree .start) q 0 n (4096 * page)) ≡ endAt (wayTo bytes (tree .start) q 0 n (4096 * page))
 
       both-none : (n page : ℕ) → level ≡ suc n → number q page (suc n) ≡ x → SameAt (suc n) page
       both-none n page is here =
@@ -333,11 +333,11 @@ module _ (bytes marks : List ℕ) (tree : Tree) (w : WellBuilt bytes marks tree)
                 alone = l .alone;
               }
 
-  pub freed-leaf : (q : ℕ) → leafOver freed tree q ≡ leafOver bytes tree q
-  freed-leaf q = same-leaf bytes marks tree w freed q (λ n page p. go n page p (ℕ-discrete (number q page n) x))
+  pub freed-end : (q : ℕ) → endOver freed tree q ≡ endOver bytes tree q
+  freed-end q = same-end bytes marks tree w freed q (λ n page p. go n page p (ℕ-discrete (number q page n) x))
     where
       SameAt : (n page : ℕ) → Type 0
-      SameAt n page = leafAt (wayTo freed (tree .start) q 0 n (4096 * page)) ≡ leafAt (wayTo bytes (tree .start) q 0 n (4096 * page))
+      SameAt n page = endAt (wayTo freed (tree .start) q 0 n (4096 * page)) ≡ endAt (wayTo bytes (tree .start) q 0 n (4096 * page))
 
       page-is : (n page : ℕ) → number q page n / 512 ≡ page
       page-is n page = omega (arith, index-small q n)

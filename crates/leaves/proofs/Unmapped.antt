@@ -15,19 +15,19 @@ use Rattle.tables.specs.Unmapped.{withoutTable, released, leafHere, unmapped}
 use Rattle.tables.specs.Way.{stopIn, way}
 use Rattle.tables.specs.declared.Tree.{Tree}
 use Rattle.tables.specs.declared.way.Stop.{Stop}
-use Rattle.leaves.specs.Leaves.{none, leafOver}
+use Rattle.leaves.specs.Leaves.{none}
 use Rattle.leaves.specs.WellBuilt.{leadsOn, WellBuilt, NoneEmpty}
 use Rattle.leaves.proofs.Addresses.{number, placed}
 use Rattle.leaves.proofs.Entries.{each-absent}
 use Rattle.leaves.proofs.Filled.{FilledBut, all-but, and-it, filled-page, stored-but, freed-but}
 use Rattle.leaves.proofs.Mapped.{Changed, page-is}
-use Rattle.leaves.proofs.Passes.{Passes, at-top, onward, entryOn, ends-last, way-here, passing, not-over, passed-mark, Arrived, arrives}
-use Rattle.leaves.proofs.Steps.{absent-ends, zero-absent, in-region, f-inside, stored-built, stored-still, stored-here, stored-elsewhere, freed-built, freed-leaf, freed-passes}
+use Rattle.leaves.proofs.Passes.{Passes, at-top, onward, entryOn, endOver, leaf-same, ends-last, way-here, passing, not-over, passed-mark, Arrived, arrives}
+use Rattle.leaves.proofs.Steps.{absent-ends, zero-absent, in-region, f-inside, stored-built, stored-still, stored-here, stored-elsewhere, freed-built, freed-end, freed-passes}
 
 -- the same pages, in tables as built here
 pub record Kept (tree : Tree) (before after : Tables) : Type 0 where
   pub built : WellBuilt (after .bytes) (after .marks) tree
-  pub same : (q : ℕ) → leafOver (after .bytes) tree q ≡ leafOver (before .bytes) tree q
+  pub same : (q : ℕ) → endOver (after .bytes) tree q ≡ endOver (before .bytes) tree q
 
 -- a way to a level that it reaches
 stop-there : (bytes : List ℕ) (tree : Tree) (q n page : ℕ) → Passes bytes tree q n page → way bytes tree q n ≡ stopIn bytes q n (4096 * page)
@@ -69,7 +69,7 @@ module _ (tree : Tree) (place : ℕ) where
       (record {
         kept = record {
           built = freed-built (t .bytes) (t .marks) tree w x (suc below) page mark leads down less absent;
-          same = freed-leaf (t .bytes) (t .marks) tree w x (suc below) page mark leads down less absent;
+          same = freed-end (t .bytes) (t .marks) tree w x (suc below) page mark leads down less absent;
         };
         upper = upper;
         filled = λ full. rw (page-is place upper (suc below)) at (freed-but (t .bytes) (t .marks) tree x page (f-inside (t .bytes) (t .marks) tree w x (suc below) page mark leads down less absent) full);
@@ -134,7 +134,9 @@ module _ (tree : Tree) (place : ℕ) where
         (stored-still (t .bytes) (t .marks) tree w x last mark 0 small was is place p) in
         record {
           built = kept .0 .built;
-          here = λ q h. kept .0 .same q ∙ stored-here (t .bytes) (t .marks) tree w x last mark 0 small was is place page p refl q h ∙ rw zero-absent;
+          here = λ q h.
+              leaf-same (u .bytes) (released tree place (tree .below - last) last u .bytes) tree q (kept .0 .same q)
+              ∙ stored-here (t .bytes) (t .marks) tree w x last mark 0 small was is place page p refl q h ∙ rw zero-absent;
           elsewhere = λ q hq h. kept .0 .same q ∙ stored-elsewhere (t .bytes) (t .marks) tree w x last mark 0 small was is place page p refl reached q hq h;
           filled = λ full. kept .1 (stored-but (t .bytes) (t .marks) tree x 0 page (in-region (t .bytes) (t .marks) tree w x last mark) small (page-is place page last) (all-but (t .bytes) (t .marks) tree page full));
         }

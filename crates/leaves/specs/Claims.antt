@@ -1,6 +1,6 @@
 -- Document 02, ask 8: what the tables map after a list was taken. Proved in proofs/.
 use Prim.Native.Nat.{ℕ, _+_, _*_, _^_, _<_, _≤_}
-use mathlib.Core.Bool.{true}
+use mathlib.Core.Bool.{true, false}
 use mathlib.Core.List.{List}
 use mathlib.Core.Path.{_≡_}
 use lib.ListN.{length}
@@ -8,8 +8,8 @@ use Rattle.registers.specs.declared.Registers.{Registers}
 use Rattle.tables.specs.Tables.{Tables, emptyTable}
 use Rattle.tables.specs.declared.Tree.{Tree}
 use Rattle.marking.specs.Marking.{markAll}
-use Rattle.builder.specs.Items.{takeItems}
-use Rattle.leaves.specs.Leaves.{leafOver, left}
+use Rattle.builder.specs.Items.{itemAt, takeItems}
+use Rattle.leaves.specs.Leaves.{leafOver, placeOver, holds, left}
 use Rattle.leaves.specs.WellBuilt.{Placed, WellBuilt, NoneEmpty}
 
 -- tables that the builder lets pass are as built here
@@ -35,11 +35,15 @@ EmptyPasses =
     → emptyTable bytes (tree .top) ≡ true → markAll bytes tree pages .0 ≡ true
 
 -- where every item was taken, the tables are as built here again, and at every address that their levels reach they map what the list
--- leaves of what they mapped before; and none but the top one is empty if none was
+-- leaves of what they mapped before; the entry of a page that no item's page meets stays where it was; and none but the top one is empty if
+-- none was
 pub record Leaves (tree : Tree) (numbers : List ℕ) (n i : ℕ) (before after : Tables) : Type 0 where
   pub well-built : WellBuilt (after .bytes) (after .marks) tree
   pub leaves : (address : ℕ) → address < 2 ^ (12 + 9 * (tree .below + 1))
       → leafOver (after .bytes) tree address ≡ left numbers n i address (leafOver (before .bytes) tree address)
+  pub kept : (address : ℕ) → address < 2 ^ (12 + 9 * (tree .below + 1))
+      → ((j : ℕ) → i ≤ j → j < i + n → holds (itemAt numbers j) address ≡ false)
+      → placeOver (after .bytes) tree address ≡ placeOver (before .bytes) tree address
   pub none-empty : NoneEmpty (before .bytes) (before .marks) tree → NoneEmpty (after .bytes) (after .marks) tree
 
 abbrev pub ItemsLeave : Type 0

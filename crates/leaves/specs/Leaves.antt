@@ -4,6 +4,7 @@ use mathlib.Core.Bool.{Bool, _&&_}
 use mathlib.Core.List.{List}
 use lib.Dec.{leb, ltb}
 use Rattle.image.specs.Choice.{if_then_else_}
+use Rattle.image.specs.Place.{Place, noEntry, entryAt}
 use Rattle.tables.specs.Tables.{present}
 use Rattle.tables.specs.Way.{way}
 use Rattle.tables.specs.declared.Tree.{Tree}
@@ -28,6 +29,11 @@ leafAt stop = if present (stop .entry) then leaf (stop .below) (stop .entry) els
 -- the page over an address: at the end of the way to it, all levels down
 unfoldable pub leafOver : (bytes : List ℕ) → Tree → (address : ℕ) → Leaf
 leafOver bytes tree address = leafAt (way bytes tree address 0)
+
+-- the entry that maps it, by its place in the region
+unfoldable pub placeOver : (bytes : List ℕ) → Tree → (address : ℕ) → Place
+placeOver bytes tree address =
+    if present (way bytes tree address 0 .entry) then entryAt (way bytes tree address 0 .at) else noEntry
 
 -- an item's page holds an address
 abbrev pub holds : Item → (address : ℕ) → Bool
