@@ -223,10 +223,10 @@ module _ (registers : Registers) (source start size : ℕ) (windows items : List
             λ request t off.
             let same = kept-as t (request .address) off in (
               rw (fit, fit′) (memory-same registers start size items own m m′ st (t .its) (same-top t) (same-levels t) (t .translates) request (t .its-context) same),
-              λ elsewhere.
+              λ rights.
                   rw (fit, fit′)
                   (memory-place-same registers start size items own m m′ st (t .its) (same-top t) (same-levels t) (t .translates) request (t .its-context) same
-                  (rw fit at elsewhere)),
+                  off (rw fit at rights)),
             );
         translations-listed =
             λ request t i type last.
@@ -239,10 +239,7 @@ module _ (registers : Registers) (source start size : ℕ) (windows items : List
             λ request t off.
             let same = kept-as t (request .address) off in (
               rw (fit, fit′) (translation-same registers start size items own m m′ st (t .its) (same-top t) (same-levels t) (t .translates) request (t .its-context) same),
-              λ elsewhere.
-                  rw (fit, fit′)
-                  (translation-place-same registers start size items own m m′ st (t .its) (same-top t) (same-levels t) (t .translates) request (t .its-context) same
-                  (rw fit at elsewhere)),
+              rw (fit, fit′) (translation-place-same registers start size items own m m′ st (t .its) (same-top t) (same-levels t) (t .translates) request (t .its-context) same off),
             );
         others =
             λ request apart.

@@ -13,7 +13,8 @@ use Rattle.image.specs.Bits.{bits, bit, anySet, inPlace}
 use Rattle.image.specs.Check.{Check, stop, go, onCheck}
 use Rattle.image.specs.Choice.{if_then_else_}
 use Rattle.image.specs.Memory.{Memory}
-use Rattle.image.specs.Rules.{run}
+use Rattle.image.specs.Place.{Place, entryAt, lastTried}
+use Rattle.image.specs.Rules.{Rules, run}
 use Rattle.image.proofs.Fields.{past-top}
 use Rattle.image.proofs.GoodWindows.{both as both-true}
 use Rattle.registers.specs.declared.Registers.{Registers}
@@ -27,6 +28,7 @@ use Rattle.translation.specs.Rights.{both, joined, someLeft}
 use Rattle.translation.specs.declared.Rights.{Rights}
 use Rattle.translation.proofs.Entries.{check-clear, check-own}
 use Rattle.tables.specs.Tables.{present, mapsPage, tableEntry}
+use Rattle.tables.specs.Way.{way}
 use Rattle.tables.specs.declared.Tree.{Tree}
 use Rattle.leaves.specs.Leaves.{Leaf, onLeaf, leafOver}
 use Rattle.leaves.specs.WellBuilt.{WellBuilt}
@@ -143,9 +145,14 @@ module _ (registers : Registers) (haw : registers .haw ≤ 52) (m : Memory) (byt
   room : (p : ℕ) → p < length marks → tree .start + 4096 * p + 4096 ≤ 2 ^ registers .haw
   room p inside = omega arith
 
+  -- rules that stop at the entry where the way ends
+  abbrev StopsThere : {A : Type 0} → Rules A → Type 0
+  StopsThere q = (before : Place) → lastTried before q m ≡ entryAt (tree .start + way bytes tree address 0 .at)
+
   pub memory-by-leaf : (write fpd : Bool)
-      → run (pageRules registers address write fpd (suc (tree .below)) (tree .start + tree .top)) m
-      ≡ translatedBy registers write fpd (leafOver bytes tree address)
+      → (run (pageRules registers address write fpd (suc (tree .below)) (tree .start + tree .top)) m
+      ≡ translatedBy registers write fpd (leafOver bytes tree address))
+      × StopsThere (pageRules registers address write fpd (suc (tree .below)) (tree .start + tree .top))
   memory-by-leaf write fpd =
       by-leaf address (λ s. fault 0x07 fpd) (pageStep registers address write fpd) m bytes marks tree well shown tt
       (λ n at p inside. memory-passes registers (tree .start) p (well .placed .start-aligned) (room p inside) haw address write fpd n at)
@@ -153,8 +160,9 @@ module _ (registers : Registers) (haw : registers .haw ≤ 52) (m : Memory) (byt
       (λ below at e is maps. memory-maps below at e is maps registers address write fpd)
 
   pub translation-by-leaf : (fpd : Bool)
-      → run (joinedRules registers address fpd (suc (tree .below)) (tree .start + tree .top) both) m
-      ≡ completedBy registers fpd (leafOver bytes tree address)
+      → (run (joinedRules registers address fpd (suc (tree .below)) (tree .start + tree .top) both) m
+      ≡ completedBy registers fpd (leafOver bytes tree address))
+      × StopsThere (joinedRules registers address fpd (suc (tree .below)) (tree .start + tree .top) both)
   translation-by-leaf fpd =
       by-leaf address (λ above. completion.fault 0x07 fpd) (entryStep registers fpd) m bytes marks tree well shown both
       (λ n at p inside. translation-passes registers (tree .start) p (well .placed .start-aligned) (room p inside) haw fpd n at)

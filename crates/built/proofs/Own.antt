@@ -1,6 +1,6 @@
 -- Requests that translate by the tables that were built: what they are answered before and after is decided by the page over their address.
 use Prim.Native.Nat.{ℕ, suc, _+_, _*_, _/_, _^_, _≤_, _<_, min}
-use mathlib.Core.Bool.{Bool, true, false, not, _||_}
+use mathlib.Core.Bool.{Bool, true, false, _||_}
 use mathlib.Core.Path.{_≡_, refl, ap, ap₂, sym, _∙_}
 use mathlib.Core.List.{List, List·Memᴰ}
 use native.Mathlib.Omega.{arith}
@@ -8,25 +8,20 @@ use borrow.Author.Tests.{leb-false}
 use lib.Dec.{eqb}
 use lib.ListN.{length}
 use lib.Pow.{pow-mono}
-use Rattle.image.specs.Bits.{anySet, inPlace}
-use Rattle.image.specs.Check.{Check, onCheck}
 use Rattle.image.specs.Choice.{if_then_else_}
 use Rattle.image.specs.EntryKind.{EntryKind, isPage}
 use Rattle.image.specs.Memory.{Memory}
-use Rattle.image.specs.Place.{Place, noEntry, lastTried, stoppedAt}
+use Rattle.image.specs.Place.{Place, noEntry, entryAt, lastTried, stoppedAt}
 use Rattle.image.specs.Rules.{Rules, answer, run, entriesOf}
-use Rattle.image.proofs.Choices.{either}
 use Rattle.image.proofs.Forks.{every-answer, every-entry}
 use Rattle.registers.specs.Admission.{Admitted, refusal, pass, takenUp, admission, inInterruptRange}
 use Rattle.registers.specs.declared.Registers.{Registers}
 use Rattle.registers.proofs.Good.{good}
-use Rattle.faults.specs.Record.{memoryFault, translationFault}
+use Rattle.faults.specs.Record.{memoryFault}
 use Rattle.dma.specs.Lookup.{Lookup, context, noContext, onLookup, contextRules, rootRules, lookupRules}
 use Rattle.dma.specs.Requests.{MemoryOutcome, memoryOutcome, memoryRules, memoryPlace, concerned}
-use Rattle.dma.specs.Requests as memory
-use Rattle.dma.specs.InterruptRange.{meetsInterruptRange, spanAt}
-use Rattle.dma.specs.Page.{denied, ownRight, pageReserved, pageCheck, hostAddress}
-use Rattle.dma.specs.Translation.{Translation, fault, leaf, through, overflows, pageRules, widthRules, translationRules}
+use Rattle.dma.specs.Page.{denied}
+use Rattle.dma.specs.Translation.{fault, through, overflows, pageRules, widthRules, translationRules}
 use Rattle.dma.specs.declared.context.Context.{Context}
 use Rattle.dma.specs.declared.MemoryRequest.{MemoryRequest}
 use Rattle.dma.proofs.Admissions.{refuses, passes, takes, takes-at}
@@ -35,78 +30,67 @@ use Rattle.translation.specs.Completion.{Completion, empty, joinedRules, typeRu
 use Rattle.translation.specs.Completion as completion
 use Rattle.translation.specs.Requests.{TranslationOutcome, translationOutcome, requestRules, translationPlace}
 use Rattle.translation.specs.Requests as translation
-use Rattle.translation.specs.Rights.{both, joined, someLeft}
-use Rattle.translation.specs.declared.Rights.{Rights}
+use Rattle.translation.specs.Rights.{both}
 use Rattle.translation.specs.declared.TranslationRequest.{TranslationRequest}
 use Rattle.translation.proofs.Admissions as translation-admissions
-use Rattle.leaves.specs.Leaves.{Leaf, leafOver, left}
+use Rattle.tables.specs.Tables.{present}
+use Rattle.tables.specs.Way.{way}
+use Rattle.tables.specs.declared.Tree.{Tree}
+use Rattle.leaves.specs.Leaves.{Leaf, leafOver, placeOver, left}
 use Rattle.leaves.specs.Leaves as leaves
-use Rattle.built.specs.Claims.{atPageEntry, atReserved}
+use Rattle.built.specs.Claims.{Unlisted, lacksRights}
 use Rattle.built.proofs.Formats.{translatedBy, completedBy, memory-by-leaf, translation-by-leaf}
 use Rattle.built.proofs.Others.{lookup-unmoved}
 use Rattle.built.proofs.Setting.{Setting}
 use Rattle.built.proofs.Unmoved.{Unmoved, only-answer}
 
--- a request that a page entry doesn't block has no entry concerned, however its walk ends
-no-place : (request : MemoryRequest) (fpd : Bool) (registers : Registers) (over : Leaf) (p : Place)
-    → atPageEntry (memoryOutcome request (translatedBy registers (request .write) fpd over)) ≡ false
-    → concerned (memoryOutcome request (translatedBy registers (request .write) fpd over)) p ≡ noEntry
-unfolding memoryFault pageCheck
-no-place request fpd registers over p = by over
+-- a page whose entry stays where it is
+stays : (bytes bytes′ : List ℕ) (tree : Tree) (q : ℕ) → placeOver bytes′ tree q ≡ placeOver bytes tree q → (below e : ℕ)
+    → leafOver bytes tree q ≡ leaves.leaf below e → way bytes′ tree q 0 .at ≡ way bytes tree q 0 .at
+unfolding placeOver leafOver
+stays bytes bytes′ tree q same below e is =
+    by (present (way bytes′ tree q 0 .entry)) (present (way bytes tree q 0 .entry)) same is
   where
-    Holds : Translation → Type 0
-    Holds t = atPageEntry (memoryOutcome request t) ≡ false → concerned (memoryOutcome request t) p ≡ noEntry
+    by : (t′ t : Bool)
+        → (if t′ then entryAt (way bytes′ tree q 0 .at) else noEntry) ≡ (if t then entryAt (way bytes tree q 0 .at) else noEntry)
+        → (if t then leaves.leaf (way bytes tree q 0 .below) (way bytes tree q 0 .entry) else leaves.none) ≡ leaves.leaf below e
+        → way bytes′ tree q 0 .at ≡ way bytes tree q 0 .at
+    by true true h k = cc
+    by false true h k = let z : _≡_ {A = ℕ} 0 1 = cc in absurd (omega arith)
+    by t′ false h k = let z : _≡_ {A = ℕ} 0 1 = cc in absurd (omega arith)
 
-    lost : (write : Bool) → (eqb (denied write) 0x05 || eqb (denied write) 0x06 || eqb (denied write) 0x0C) ≡ true
+-- a request that doesn't lack rights has the same entry concerned, if the walk stops at the same page
+same-place : (request : MemoryRequest) (fpd : Bool) (registers : Registers) (over : Leaf) (p′ p : Place)
+    → ((below e : ℕ) → over ≡ leaves.leaf below e → p′ ≡ p)
+    → lacksRights (memoryOutcome request (translatedBy registers (request .write) fpd over)) ≡ false
+    → concerned (memoryOutcome request (translatedBy registers (request .write) fpd over)) p′
+    ≡ concerned (memoryOutcome request (translatedBy registers (request .write) fpd over)) p
+unfolding memoryFault
+same-place request fpd registers over p′ p stay = by over stay
+  where
+    lost : (write : Bool) → (eqb (denied write) 0x05 || eqb (denied write) 0x06) ≡ true
     lost true = refl
     lost false = refl
 
-    no : {t : Bool} {A : Type 0} → t ≡ true → t ≡ false → A
-    no is h = let z : _≡_ {A = Bool} true false = sym is ∙ h in let y : _≡_ {A = ℕ} 0 1 = cc in absurd (omega arith)
+    by : (over : Leaf) → ((below e : ℕ) → over ≡ leaves.leaf below e → p′ ≡ p)
+        → lacksRights (memoryOutcome request (translatedBy registers (request .write) fpd over)) ≡ false
+        → concerned (memoryOutcome request (translatedBy registers (request .write) fpd over)) p′
+        ≡ concerned (memoryOutcome request (translatedBy registers (request .write) fpd over)) p
+    by leaves.none stay h =
+        let z : _≡_ {A = Bool} true false = sym (lost (request .write)) ∙ h in
+        let y : _≡_ {A = ℕ} 0 1 = cc in
+        absurd (omega arith)
+    by (leaves.leaf below e) stay h =
+        ap (concerned (memoryOutcome request (translatedBy registers (request .write) fpd (leaves.leaf below e)))) (stay below e refl)
 
-    lacks : Holds (fault (denied (request .write)) fpd)
-    lacks h = no (lost (request .write)) h
-
-    page : (frame level : ℕ) (meets : Bool)
-        → concerned (if meets then memory.refused 4 else memory.granted (hostAddress level frame (request .address))) p ≡ noEntry
-    page frame level true = refl
-    page frame level false = refl
-
-    check : (k : Check ℕ) (below : ℕ) → Translation
-    check k below = onCheck k (λ reason. fault reason fpd) (λ frame. leaf frame (suc below))
-
-    by : (over : Leaf) → Holds (translatedBy registers (request .write) fpd over)
-    by leaves.none = lacks
-    by (leaves.leaf below e) =
-        either (λ (k : Check ℕ). Holds (check k below)) (not (anySet e 1 0)) lacks
-        (either (λ (k : Check ℕ). Holds (check k below)) (pageReserved registers (suc below) e) (λ h. no refl h)
-        (either (λ (k : Check ℕ). Holds (check k below)) (not (ownRight (request .write) e)) lacks
-        (λ h. page (inPlace e 51 12) (suc below) (meetsInterruptRange (inPlace e 51 12) (spanAt (suc below))))))
-
--- so has a translation request that no reserved bit blocks
-no-place-asked : (request : TranslationRequest) (fpd : Bool) (registers : Registers) (over : Leaf) (p : Place)
-    → atReserved (translationOutcome request (completedBy registers fpd over)) ≡ false
-    → translation.concerned (translationOutcome request (completedBy registers fpd over)) p ≡ noEntry
-unfolding translationFault
-no-place-asked request fpd registers over p = by over
-  where
-    Holds : Completion → Type 0
-    Holds t = atReserved (translationOutcome request t) ≡ false → translation.concerned (translationOutcome request t) p ≡ noEntry
-
-    blocks : Holds (completion.fault 0x0C fpd)
-    blocks h = let z : _≡_ {A = Bool} true false = h in let y : _≡_ {A = ℕ} 0 1 = cc in absurd (omega arith)
-
-    page : (frame size : ℕ) (rights : Rights) (meets : Bool)
-        → translation.concerned (if meets then translation.refused 4 else translation.translated frame size rights) p ≡ noEntry
-    page frame size rights true = refl
-    page frame size rights false = refl
-
-    by : (over : Leaf) → Holds (completedBy registers fpd over)
-    by leaves.none = λ h. refl
-    by (leaves.leaf below e) =
-        either Holds (pageReserved registers (suc below) e) blocks
-        (either Holds (not (someLeft (joined both e))) (λ h. refl)
-        (λ h. page (inPlace e 51 12) (spanAt (suc below)) (joined both e) (meetsInterruptRange (inPlace e 51 12) (spanAt (suc below)))))
+-- so has every translation request: where there is no page it has none
+same-place-asked : (request : TranslationRequest) (fpd : Bool) (registers : Registers) (over : Leaf) (p′ p : Place)
+    → ((below e : ℕ) → over ≡ leaves.leaf below e → p′ ≡ p)
+    → translation.concerned (translationOutcome request (completedBy registers fpd over)) p′
+    ≡ translation.concerned (translationOutcome request (completedBy registers fpd over)) p
+same-place-asked request fpd registers leaves.none p′ p stay = refl
+same-place-asked request fpd registers (leaves.leaf below e) p′ p stay =
+    ap (translation.concerned (translationOutcome request (completedBy registers fpd (leaves.leaf below e)))) (stay below e refl)
 
 module _ (registers : Registers) (start size : ℕ) (items : List ℕ) (own : Context) (m m′ : Memory) (s : Setting registers start size items own m m′) where
   haw : registers .haw ≤ 52
@@ -155,23 +139,51 @@ module _ (registers : Registers) (start size : ℕ) (items : List ℕ) (own : Co
 
     pub memory-before : (write fpd : Bool) → run (pageRules registers address write fpd (its .levels) (its .top)) m ≡ translatedBy registers write fpd over
     memory-before write fpd =
-        rw (levels-is, top-is) (memory-by-leaf registers haw m (s .copy) (s .marks) (s .tree) (s .well) (s .shown) (s .fits) address write fpd)
+        rw (levels-is, top-is) (memory-by-leaf registers haw m (s .copy) (s .marks) (s .tree) (s .well) (s .shown) (s .fits) address write fpd .0)
 
     pub memory-after : overflows registers (its .levels) address ≡ false → (write fpd : Bool)
         → run (pageRules registers address write fpd (its .levels) (its .top)) m′ ≡ translatedBy registers write fpd over′
     memory-after narrow write fpd =
-        let walks = memory-by-leaf registers haw m′ (s .copy′) (s .marks′) (s .tree) (s .well′) (s .shown′) (s .fits′) address write fpd in
+        let walks = memory-by-leaf registers haw m′ (s .copy′) (s .marks′) (s .tree) (s .well′) (s .shown′) (s .fits′) address write fpd .0 in
         rw (levels-is, top-is) (walks ∙ ap (translatedBy registers write fpd) (s .leaves address (reach narrow)))
 
     pub translation-before : (fpd : Bool) → run (joinedRules registers address fpd (its .levels) (its .top) both) m ≡ completedBy registers fpd over
     translation-before fpd =
-        rw (levels-is, top-is) (translation-by-leaf registers haw m (s .copy) (s .marks) (s .tree) (s .well) (s .shown) (s .fits) address fpd)
+        rw (levels-is, top-is) (translation-by-leaf registers haw m (s .copy) (s .marks) (s .tree) (s .well) (s .shown) (s .fits) address fpd .0)
 
     pub translation-after : overflows registers (its .levels) address ≡ false → (fpd : Bool)
         → run (joinedRules registers address fpd (its .levels) (its .top) both) m′ ≡ completedBy registers fpd over′
     translation-after narrow fpd =
-        let walks = translation-by-leaf registers haw m′ (s .copy′) (s .marks′) (s .tree) (s .well′) (s .shown′) (s .fits′) address fpd in
+        let walks = translation-by-leaf registers haw m′ (s .copy′) (s .marks′) (s .tree) (s .well′) (s .shown′) (s .fits′) address fpd .0 in
         rw (levels-is, top-is) (walks ∙ ap (completedBy registers fpd) (s .leaves address (reach narrow)))
+
+    -- the entry at which a walk stops: that of a page stays
+    abbrev stopsAt : Place
+    stopsAt = entryAt (s .tree .start + way (s .copy) (s .tree) address 0 .at)
+
+    abbrev stopsAt′ : Place
+    stopsAt′ = entryAt (s .tree .start + way (s .copy′) (s .tree) address 0 .at)
+
+    page-stays : overflows registers (its .levels) address ≡ false → Unlisted items address → (below e : ℕ) → over ≡ leaves.leaf below e → stopsAt′ ≡ stopsAt
+    page-stays narrow off below e is =
+        ap (λ (n : ℕ). entryAt (s .tree .start + n))
+        (stays (s .copy) (s .copy′) (s .tree) address (s .places address (reach narrow) off) below e is)
+
+    memory-at-before : (write fpd : Bool) (before : Place) → lastTried before (pageRules registers address write fpd (its .levels) (its .top)) m ≡ stopsAt
+    memory-at-before write fpd =
+        rw (levels-is, top-is) (memory-by-leaf registers haw m (s .copy) (s .marks) (s .tree) (s .well) (s .shown) (s .fits) address write fpd .1)
+
+    memory-at-after : (write fpd : Bool) (before : Place) → lastTried before (pageRules registers address write fpd (its .levels) (its .top)) m′ ≡ stopsAt′
+    memory-at-after write fpd =
+        rw (levels-is, top-is) (memory-by-leaf registers haw m′ (s .copy′) (s .marks′) (s .tree) (s .well′) (s .shown′) (s .fits′) address write fpd .1)
+
+    translation-at-before : (fpd : Bool) (before : Place) → lastTried before (joinedRules registers address fpd (its .levels) (its .top) both) m ≡ stopsAt
+    translation-at-before fpd =
+        rw (levels-is, top-is) (translation-by-leaf registers haw m (s .copy) (s .marks) (s .tree) (s .well) (s .shown) (s .fits) address fpd .1)
+
+    translation-at-after : (fpd : Bool) (before : Place) → lastTried before (joinedRules registers address fpd (its .levels) (its .top) both) m′ ≡ stopsAt′
+    translation-at-after fpd =
+        rw (levels-is, top-is) (translation-by-leaf registers haw m′ (s .copy′) (s .marks′) (s .tree) (s .well′) (s .shown′) (s .fits′) address fpd .1)
 
   -- a request that translates by these tables
   module _ (its : Context) (top : its .top ≡ own .top) (levels : its .levels ≡ own .levels) (translates : eqb (its .«translation_type») 2 ≡ false) where
@@ -246,9 +258,9 @@ module _ (registers : Registers) (start size : ℕ) (items : List ℕ) (own : Co
                 sym (takes registers request m′ refl (sym is)) ∙ ap (memoryOutcome request) (follows m′ found-after ∙ width-same ∙ sym (follows m found-its))
                 ∙ takes registers request m refl (sym is)
 
-        pub memory-place-same : atPageEntry (run rules m) ≡ false → memoryPlace registers request m′ ≡ memoryPlace registers request m
+        pub memory-place-same : Unlisted items address → lacksRights (run rules m) ≡ false → memoryPlace registers request m′ ≡ memoryPlace registers request m
         unfolding widthRules lastTried
-        memory-place-same elsewhere = by (admission registers (inInterruptRange address) (registers .te)) refl
+        memory-place-same off held = by (admission registers (inInterruptRange address) (registers .te)) refl
           where
             by : (a : Admitted) → admission registers (inInterruptRange address) (registers .te) ≡ a → memoryPlace registers request m′ ≡ memoryPlace registers request m
             by (refusal n) is = rw (← refuses registers request m′ refl (sym is), ← refuses registers request m refl (sym is))
@@ -271,9 +283,13 @@ module _ (registers : Registers) (start size : ℕ) (items : List ℕ) (own : Co
                     let told : run rules m ≡ memoryOutcome request (translatedBy registers write (its .fpd) (over its top levels address)) =
                     sym (takes registers request m refl (sym is))
                     ∙ ap (memoryOutcome request) (follows m found-its ∙ walks narrow m ∙ memory-before its top levels address write (its .fpd)) in
-                    let none : (p : Place) → concerned (run rules m) p ≡ noEntry =
-                    λ p. rw told (no-place request (its .fpd) registers (over its top levels address) p (rw told at elsewhere)) in
-                    ap (λ (o : MemoryOutcome). concerned o (stoppedAt rules m′)) memory-same ∙ none (stoppedAt rules m′) ∙ sym (none (stoppedAt rules m))
+                    let at : stoppedAt rules m ≡ stopsAt its top levels address =
+                    stops-at m found-its ∙ rw (narrow, translates) (memory-at-before its top levels address write (its .fpd) _) in
+                    let at′ : stoppedAt rules m′ ≡ stopsAt′ its top levels address =
+                    stops-at m′ found-after ∙ rw (narrow, translates) (memory-at-after its top levels address write (its .fpd) _) in
+                    rw (memory-same, told, at, at′)
+                    (same-place request (its .fpd) registers (over its top levels address) (stopsAt′ its top levels address) (stopsAt its top levels address)
+                    (page-stays its top levels address narrow off) (rw told at held))
 
     module _ (request : TranslationRequest) (found-its : run (lookupRules registers (request .source .id)) m ≡ context its) where
       abbrev taddress : ℕ
@@ -331,10 +347,9 @@ module _ (registers : Registers) (start size : ℕ) (items : List ℕ) (own : Co
                 ∙ ap (translationOutcome request) (completes m′ found-then ∙ type-same ∙ sym (completes m found-its))
                 ∙ translation-admissions.takes registers request m refl (sym is)
 
-        pub translation-place-same : atReserved (run (requestRules registers request) m) ≡ false
-            → translationPlace registers request m′ ≡ translationPlace registers request m
+        pub translation-place-same : Unlisted items taddress → translationPlace registers request m′ ≡ translationPlace registers request m
         unfolding typeRules lastTried
-        translation-place-same elsewhere = by (admission registers (inInterruptRange taddress) (registers .te)) refl
+        translation-place-same off = by (admission registers (inInterruptRange taddress) (registers .te)) refl
           where
             asks : Rules TranslationOutcome
             asks = requestRules registers request
@@ -371,7 +386,10 @@ module _ (registers : Registers) (start size : ℕ) (items : List ℕ) (own : Co
                     let told : run asks m ≡ translationOutcome request (completedBy registers (its .fpd) (over its top levels taddress)) =
                     sym (translation-admissions.takes registers request m refl (sym is))
                     ∙ ap (translationOutcome request) (completes m found-its ∙ joins narrow other m ∙ translation-before its top levels taddress (its .fpd)) in
-                    let none : (p : Place) → translation.concerned (run asks m) p ≡ noEntry =
-                    λ p. rw told (no-place-asked request (its .fpd) registers (over its top levels taddress) p (rw told at elsewhere)) in
-                    ap (λ (o : TranslationOutcome). translation.concerned o (stoppedAt asks m′)) translation-same
-                    ∙ none (stoppedAt asks m′) ∙ sym (none (stoppedAt asks m))
+                    let at : stoppedAt asks m ≡ stopsAt its top levels taddress =
+                    stops-at m found-its ∙ rw (other, translates, narrow) (translation-at-before its top levels taddress (its .fpd) _) in
+                    let at′ : stoppedAt asks m′ ≡ stopsAt′ its top levels taddress =
+                    stops-at m′ found-then ∙ rw (other, translates, narrow) (translation-at-after its top levels taddress (its .fpd) _) in
+                    rw (translation-same, told, at, at′)
+                    (same-place-asked request (its .fpd) registers (over its top levels taddress) (stopsAt′ its top levels taddress) (stopsAt its top levels taddress)
+                    (page-stays its top levels taddress narrow off))

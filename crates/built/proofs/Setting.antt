@@ -41,10 +41,11 @@ use Rattle.builder.specs.Build.{Lent}
 use Rattle.builder.specs.Items.{itemAt, changed, takeItem, takeItems}
 use Rattle.builder.specs.Reasons.{itemReason}
 use Rattle.leaves.specs.Claims.{Leaves}
-use Rattle.leaves.specs.Leaves.{leafOver, left}
+use Rattle.leaves.specs.Leaves.{leafOver, placeOver, left}
 use Rattle.leaves.specs.WellBuilt.{Placed, WellBuilt}
 use Rattle.leaves.proofs.Items.{items-leave}
 use Rattle.leaves.proofs.Marked.{marked-as-built}
+use Rattle.built.specs.Claims.{Unlisted}
 use Rattle.built.proofs.Apart.{Beside}
 use Rattle.built.proofs.Builds.{Readied, Completed, copyOf, markedOf, endOf, afterOf}
 use Rattle.built.proofs.Copies.{entry-below, bytes-in, word-in, entry-out, word-out}
@@ -73,6 +74,8 @@ pub record Setting (registers : Registers) (start size : ℕ) (items : List ℕ)
   pub fits′ : tree .start + 4096 * length marks′ ≤ 2 ^ registers .haw
   pub leaves : (address : ℕ) → address < 2 ^ (12 + 9 * (tree .below + 1))
       → leafOver copy′ tree address ≡ left items (length items / 4) 0 address (leafOver copy tree address)
+  pub places : (address : ℕ) → address < 2 ^ (12 + 9 * (tree .below + 1)) → Unlisted items address
+      → placeOver copy′ tree address ≡ placeOver copy tree address
   pub fine : (i : ℕ) → i < length items / 4 → itemReason registers (tree .below + 1) (itemAt items i) ≡ 0
   pub aligned : start % 4096 ≡ 0
   pub some : 0 < size
@@ -342,6 +345,7 @@ module _ (registers : Registers) (source start size : ℕ) (windows items : List
         shown′ = shown′;
         fits′ = omega (arith, first, region .ends, leaves .well-built .sized, ended-length);
         leaves = leaves .leaves;
+        places = λ address reached off. leaves .kept address reached (λ j from to. off j (omega arith));
         fine =
             λ i few.
             let all : 0 + i ≡ i = omega arith in

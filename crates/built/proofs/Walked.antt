@@ -8,13 +8,14 @@ use lib.ListN.{length, getD}
 use Rattle.image.specs.Bits.{bits, inPlace}
 use Rattle.image.specs.Choice.{if_then_else_}
 use Rattle.image.specs.Memory.{Memory, found, entry}
+use Rattle.image.specs.Place.{Place, entryAt, lastTried}
 use Rattle.image.specs.Rules.{run}
 use Rattle.image.proofs.Same.{one-word}
 use Rattle.dma.specs.Walk.{Step, done, down, onStep, placeIn, walkRules, stepOver}
 use Rattle.dma.proofs.Steps.{index-lt}
-use Rattle.dma.proofs.Walks.{walk-step}
+use Rattle.dma.proofs.Walks.{walk-step, walk-tried}
 use Rattle.tables.specs.Tables.{entryOf, present, mapsPage, tableEntry, tableOf}
-use Rattle.tables.specs.Way.{ends, wayTo}
+use Rattle.tables.specs.Way.{ends, wayTo, way}
 use Rattle.tables.specs.declared.Tree.{Tree}
 use Rattle.tables.specs.declared.way.Stop.{Stop}
 use Rattle.leaves.specs.Leaves.{none, leaf, onLeaf, leafAt, leafOver}
@@ -43,6 +44,9 @@ module _ {S A : Type 0} (address : ℕ) (none-there : S → A) (step : (level pl
     (maps : (below place e : ℕ) → present e ≡ true → mapsPage below e ≡ true → step (suc below) place s e ≡ done (page-by below e)) where
   abbrev walk : (level table : ℕ) → A
   walk level table = run (walkRules address none-there step level table s) m
+
+  abbrev tried : (before : Place) (level table : ℕ) → Place
+  tried before level table = lastTried before (walkRules address none-there step level table s) m
 
   -- what the entry at which the way ends makes of the request
   abbrev answered : (below e : ℕ) → A
@@ -91,11 +95,27 @@ module _ {S A : Type 0} (address : ℕ) (none-there : S → A) (step : (level pl
         walk-step address none-there step m n (tree .start + 4096 * page) s
         ∙ ap (λ (x : Step S A). onStep x (λ a. a) (λ next t. run (walkRules address none-there step n next t) m)) first
 
-  pub walked : (below page : ℕ) → getD marks page 0 ≡ suc below → walk (suc below) (tree .start + 4096 * page) ≡ ended (wayIn below page)
+    begins-at : (before : Place) → tried before (suc n) (tree .start + 4096 * page)
+        ≡ onStep (step (suc n) (tree .start + placeIn address (4096 * page) n) s (entryOf bytes (placeIn address (4096 * page) n)))
+        (λ a. entryAt (tree .start + placeIn address (4096 * page) n))
+        (λ next t. lastTried (entryAt (tree .start + placeIn address (4096 * page) n)) (walkRules address none-there step n next t) m)
+    begins-at before =
+        let there : placeIn address (tree .start + 4096 * page) n ≡ tree .start + placeIn address (4096 * page) n = omega arith in
+        walk-tried address none-there step m before n (tree .start + 4096 * page) s
+        ∙ rw (first, there)
+
+  -- the page that the way ends at answers, and the walk stops at its entry
+  abbrev Walked : (below page level table : ℕ) → Type 0
+  Walked below page level table =
+      (walk level table ≡ ended (wayIn below page))
+      × ((before : Place) → tried before level table ≡ entryAt (tree .start + wayIn below page .at))
+
+  pub walked : (below page : ℕ) → getD marks page 0 ≡ suc below → Walked below page (suc below) (tree .start + 4096 * page)
   unfolding wayTo run walkRules
   walked zero page mark =
       let at = placeIn address (4096 * page) 0 in
-      begins 0 page (marked-inside marks page mark) ∙ rw (ends-there 0 (tree .start + at) (entryOf bytes at) (λ is. refl))
+      let here = ends-there 0 (tree .start + at) (entryOf bytes at) (λ is. refl) in
+      (begins 0 page (marked-inside marks page mark) ∙ rw here, λ before. begins-at 0 page (marked-inside marks page mark) before ∙ rw here)
   walked (suc n) page mark = by (leadsOn (suc n) e) refl (walked n)
     where
       inside : page < length marks
@@ -111,11 +131,12 @@ module _ {S A : Type 0} (address : ℕ) (none-there : S → A) (step : (level pl
       maps-page h is = not-false-and (mapsPage (suc n) e) (rw is at h)
 
       by : (t : Bool) → leadsOn (suc n) e ≡ t
-          → ((next : ℕ) → getD marks next 0 ≡ suc n → walk (suc n) (tree .start + 4096 * next) ≡ ended (wayIn n next))
-          → walk (suc (suc n)) (tree .start + 4096 * page) ≡ ended (wayIn (suc n) page)
+          → ((next : ℕ) → getD marks next 0 ≡ suc n → Walked n next (suc n) (tree .start + 4096 * next))
+          → Walked (suc n) page (suc (suc n)) (tree .start + 4096 * page)
       by false is ih =
           let here : ends 0 (suc n) e ≡ true = stops 0 (suc n) e is in
-          begins (suc n) page inside ∙ rw (here, ends-there (suc n) (tree .start + at) e (maps-page is))
+          let stopped = ends-there (suc n) (tree .start + at) e (maps-page is) in
+          (begins (suc n) page inside ∙ rw (here, stopped), λ before. begins-at (suc n) page inside before ∙ rw (here, stopped))
       by true is ih =
           let on : ends 0 (suc n) e ≡ false = goes-on 0 n e (omega arith) is in
           let there = at-number (suc n) page inside in
@@ -129,12 +150,20 @@ module _ {S A : Type 0} (address : ℕ) (none-there : S → A) (step : (level pl
           ap (tableOf (tree .start)) is-entry ∙ table-back (tree .start) next (well .placed .start-aligned) (omega (arith, fits, next-inside)) in
           let onward : step (suc (suc n)) (tree .start + at) s e ≡ down (tree .start + 4096 * next) s =
           ap (step (suc (suc n)) (tree .start + at) s) is-entry ∙ passes n (tree .start + at) next next-inside in
-          begins (suc n) page inside ∙ rw (onward, on, table) (ih next (led .level))
+          let below = ih next (led .level) in (
+            begins (suc n) page inside ∙ rw (onward, on, table) (below .0),
+            λ before. begins-at (suc n) page inside before ∙ rw (onward, on, table) (below .1 (entryAt (tree .start + at))),
+          )
 
   -- from the top table, by the page over the address
-  pub by-leaf : walk (suc (tree .below)) (tree .start + tree .top) ≡ onLeaf (leafOver bytes tree address) absent page-by
+  pub by-leaf : (walk (suc (tree .below)) (tree .start + tree .top) ≡ onLeaf (leafOver bytes tree address) absent page-by)
+      × ((before : Place) → tried before (suc (tree .below)) (tree .start + tree .top) ≡ entryAt (tree .start + way bytes tree address 0 .at))
   unfolding leafOver
   by-leaf =
       let top : 4096 * (tree .top / 4096) ≡ tree .top = omega (arith, well .placed .top-aligned) in
-      subst (λ (t : ℕ). walk (suc (tree .below)) (tree .start + t) ≡ ended (wayTo bytes (tree .start) address 0 (tree .below) t)) top
+      subst
+      (λ (t : ℕ).
+      (walk (suc (tree .below)) (tree .start + t) ≡ ended (wayTo bytes (tree .start) address 0 (tree .below) t))
+      × ((before : Place) → tried before (suc (tree .below)) (tree .start + t) ≡ entryAt (tree .start + wayTo bytes (tree .start) address 0 (tree .below) t .at)))
+      top
       (walked (tree .below) (tree .top / 4096) (well .top-marked ∙ omega arith))

@@ -20,7 +20,6 @@ use Rattle.dma.specs.Requests.{MemoryOutcome, granted, blocked, refused, walked
 use Rattle.dma.specs.declared.MemoryRequest.{MemoryRequest}
 use Rattle.dma.specs.declared.context.Context.{Context}
 use Rattle.translation.specs.Requests.{TranslationOutcome, translated, requestRules, translationAnswer, translationAnswerPlace}
-use Rattle.translation.specs.Requests as translation
 use Rattle.translation.specs.Rights.{neither}
 use Rattle.translation.specs.declared.TranslationRequest.{TranslationRequest}
 use Rattle.agreement.specs.Claims.{lacking}
@@ -63,18 +62,11 @@ translatedTo item =
     if unmaps item then translated 0 0 neither
     else translated (item .frame) (item .size) (record { read = bit (item .what) 0; write = bit (item .what) 1 })
 
--- Blocked by a page entry that was read: 05h, 06h or 0Ch. After a build that entry may stand elsewhere. 0Ch is no answer of tables that were
--- built here under the same registers.
-abbrev pub atPageEntry : MemoryOutcome → Bool
-atPageEntry (granted address) = false
-atPageEntry (blocked f) = eqb (f .reason) 0x05 || eqb (f .reason) 0x06 || eqb (f .reason) 0x0C
-atPageEntry (refused number) = false
-
-abbrev pub atReserved : TranslationOutcome → Bool
-atReserved (translation.passed address) = false
-atReserved (translated frame size rights) = false
-atReserved (translation.blocked f) = eqb (f .reason) 0x0C
-atReserved (translation.refused number) = false
+-- blocked by 05h or 06h: after a build the entry that lacks the rights may stand elsewhere
+abbrev pub lacksRights : MemoryOutcome → Bool
+lacksRights (granted address) = false
+lacksRights (blocked f) = eqb (f .reason) 0x05 || eqb (f .reason) 0x06
+lacksRights (refused number) = false
 
 module _ (registers : Registers) (source start size : ℕ) (windows items before after : List ℕ) where
   abbrev pub memoryBefore : Memory
@@ -86,20 +78,19 @@ module _ (registers : Registers) (source start size : ℕ) (windows items before
     pub listed : (request : MemoryRequest) (s : SameTables registers memoryBefore source (request .source .id)) (i : ℕ)
         → LastOver items (request .address) i
         → memoryAnswer registers request windows after ≡ leftTo (s .its .fpd) (itemAt items i) request
-    -- at any other address: as before
+    -- at any other address: as before, and the entry concerned too, unless rights are lacking
     pub unlisted : (request : MemoryRequest) → SameTables registers memoryBefore source (request .source .id) → Unlisted items (request .address)
         → (memoryAnswer registers request windows after ≡ memoryAnswer registers request windows before)
-        × (atPageEntry (memoryAnswer registers request windows before) ≡ false
+        × (lacksRights (memoryAnswer registers request windows before) ≡ false
         → memoryAnswerPlace registers request windows after ≡ memoryAnswerPlace registers request windows before)
-    -- so are translation requests; contexts of type 0 have none (0Dh)
+    -- so are translation requests, of which none is blocked for rights; contexts of type 0 have none (0Dh)
     pub translations-listed : (request : TranslationRequest) (s : SameTables registers memoryBefore source (request .source .id)) (i : ℕ)
         → eqb (s .its .«translation_type») 0 ≡ false → LastOver items (request .address) i
         → translationAnswer registers request windows after ≡ translatedTo (itemAt items i)
     pub translations-unlisted : (request : TranslationRequest) → SameTables registers memoryBefore source (request .source .id)
         → Unlisted items (request .address)
         → (translationAnswer registers request windows after ≡ translationAnswer registers request windows before)
-        × (atReserved (translationAnswer registers request windows before) ≡ false
-        → translationAnswerPlace registers request windows after ≡ translationAnswerPlace registers request windows before)
+        × (translationAnswerPlace registers request windows after ≡ translationAnswerPlace registers request windows before)
     -- every request of which no walked entry lies in the region, of any source: as before, the entry concerned too
     pub others : (request : MemoryRequest)
         → ((at : ℕ) → List·Memᴰ at (walked registers request memoryBefore) → InRegion start size at → ⊥)

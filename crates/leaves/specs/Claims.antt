@@ -35,8 +35,8 @@ EmptyPasses =
     → emptyTable bytes (tree .top) ≡ true → markAll bytes tree pages .0 ≡ true
 
 -- where every item was taken, the tables are as built here again, and at every address that their levels reach they map what the list
--- leaves of what they mapped before; the entry of a page that no item's page meets stays where it was; and none but the top one is empty if
--- none was
+-- leaves of what they mapped before; at one in no item's page the entry that maps it stays where it was; and none but the top one is empty
+-- if none was
 pub record Leaves (tree : Tree) (numbers : List ℕ) (n i : ℕ) (before after : Tables) : Type 0 where
   pub well-built : WellBuilt (after .bytes) (after .marks) tree
   pub leaves : (address : ℕ) → address < 2 ^ (12 + 9 * (tree .below + 1))
