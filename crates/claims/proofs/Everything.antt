@@ -61,6 +61,7 @@ use Rattle.cases.proofs.Translations.{translation-cases}
 use Rattle.claims.specs.Everything.{Everything}
 use Rattle.claims.proofs.FirstNamed.{first-named}
 use Rattle.claims.proofs.OneAnswer.{one-memory-answer, one-translation-answer, one-interrupt-answer, one-take-answer, one-reason}
+use Rattle.claims.proofs.OneScalable.{one-scalable-answer}
 use Rattle.claims.proofs.OneWindow.{whole-in-one-window}
 
 pub everything : Everything
@@ -177,6 +178,7 @@ everything =
       named-exactly = named-exactly;
       none-of-its-own = none-of-its-own;
       answers-traced = answers-traced;
+      one-scalable-answer = one-scalable-answer;
       scalable-locality = scalable-locality;
       scalable-access-means-unfetched = scalable-access-means-unfetched;
       at-most-fifty = at-most-fifty;

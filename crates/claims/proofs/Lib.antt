@@ -1,6 +1,7 @@
 pub mod Everything
 pub mod FirstNamed
 pub mod OneAnswer
+pub mod OneScalable
 pub mod OneWindow
 pub mod ScalableAnswers
 pub mod ScalableClaims

@@ -44,7 +44,7 @@ use Rattle.cases.specs.PostsThroughWindows.{PostsThroughWindows}
 use Rattle.cases.specs.Takes.{TakesMet}
 use Rattle.cases.specs.Translations.{TranslationCases}
 use Rattle.claims.specs.FirstNamed.{FirstNamed}
-use Rattle.claims.specs.OneAnswer.{OneMemoryAnswer, OneTranslationAnswer, OneInterruptAnswer, OneTakeAnswer, OneReason}
+use Rattle.claims.specs.OneAnswer.{OneMemoryAnswer, OneTranslationAnswer, OneInterruptAnswer, OneScalableAnswer, OneTakeAnswer, OneReason}
 use Rattle.claims.specs.OneWindow.{WholeInOneWindow}
 
 pub record Everything : Type 0 where
@@ -174,6 +174,7 @@ pub record Everything : Type 0 where
   pub none-of-its-own : NoneOfItsOwn
   pub answers-traced : AnswersTraced
   -- scalable mode
+  pub one-scalable-answer : OneScalableAnswer
   pub scalable-locality : ScalableLocality
   pub scalable-access-means-unfetched : ScalableAccessMeansUnfetched
   pub at-most-fifty : AtMostFifty

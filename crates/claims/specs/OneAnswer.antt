@@ -13,6 +13,9 @@ use Rattle.translation.specs.declared.TranslationAnswer.the-variants as transla
 use Rattle.interrupts.specs.Answers as interrupts
 use Rattle.interrupts.specs.declared.answer.InterruptAnswer.{InterruptAnswer}
 use Rattle.interrupts.specs.declared.answer.InterruptAnswer.the-variants as answer
+use Rattle.scalable.specs.Answers as scalable
+use Rattle.scalable.specs.declared.ScalableAnswer.{ScalableAnswer}
+use Rattle.scalable.specs.declared.ScalableAnswer.the-variants as decided
 use Rattle.takes.specs.Answers.{takeOutcomeOf}
 use Rattle.takes.specs.declared.TakeAnswer.{TakeAnswer}
 
@@ -36,6 +39,11 @@ SizedInterrupt (answer.Posted p) = Unit {0}
 SizedInterrupt (answer.Blocked f at) = f .low < 2 ^ 64
 SizedInterrupt (answer.Refused number) = Unit {0}
 
+abbrev pub SizedScalable : ScalableAnswer → Type 0
+SizedScalable (decided.Granted address) = Unit {0}
+SizedScalable (decided.Blocked f at) = f .low < 2 ^ 64
+SizedScalable (decided.Refused number) = Unit {0}
+
 abbrev pub OneMemoryAnswer : Type 0
 OneMemoryAnswer = (r s : MemoryAnswer) → Sized r → Sized s → memory.outcomeOf r ≡ memory.outcomeOf s → memory.entryOf r ≡ memory.entryOf s → r ≡ s
 
@@ -46,6 +54,10 @@ OneTranslationAnswer = (r s : TranslationAnswer) → SizedTranslation r → Size
 abbrev pub OneInterruptAnswer : Type 0
 OneInterruptAnswer = (r s : InterruptAnswer) → SizedInterrupt r → SizedInterrupt s → interrupts.outcomeOf r ≡ interrupts.outcomeOf s
     → interrupts.entryOf r ≡ interrupts.entryOf s → r ≡ s
+
+abbrev pub OneScalableAnswer : Type 0
+OneScalableAnswer = (r s : ScalableAnswer) → SizedScalable r → SizedScalable s → scalable.outcomeOf r ≡ scalable.outcomeOf s
+    → scalable.entryOf r ≡ scalable.entryOf s → r ≡ s
 
 -- a take's answer has no fault, and so neither record words nor an entry concerned
 abbrev pub OneTakeAnswer : Type 0
