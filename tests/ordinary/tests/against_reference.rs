@@ -1,10 +1,10 @@
 //! The ordinary translator against the reference, over part of each suite.
 
+mod common;
+
 use cases::{Request, Suite, World, SUITES};
-use ordinary::{
-    Fault, InterruptAnswer, Memory, MemoryAnswer, MemoryMut, Registers, TranslationAnswer, Unit,
-    Window,
-};
+use common::{blocked, memory, registers};
+use ordinary::{InterruptAnswer, Memory, MemoryMut, TranslationAnswer, Unit, Window};
 use reference::{
     interrupt_request_in, memory_request_in, translation_request_in, Notice, Outcome, Slip,
     Translation,
@@ -20,47 +20,6 @@ fn part(suite: &Suite) -> usize {
 
 /// Cases at the least.
 const CASES: u64 = 500_000;
-
-fn registers(r: &reference::Registers) -> Registers {
-    let widths = [r.levels3, r.levels4, r.levels5];
-    let numbered = widths.into_iter().zip(1..);
-    Registers {
-        haw: r.haw,
-        mgaw: r.mgaw,
-        widths: numbered.fold(0, |set, (width, n)| set | u8::from(width) << n),
-        pages_2m: r.pages_2m,
-        pages_1g: r.pages_1g,
-        posting: r.posting,
-        root_table: r.root,
-        interrupt_table: r.interrupt_table,
-        s: r.s,
-        te: r.te,
-        ire: r.ire,
-        eime: r.eime,
-        cfis: r.cfis,
-    }
-}
-
-fn blocked(fault: Fault) -> Outcome {
-    let [low, high] = fault.record.map(u64::to_le_bytes);
-    let mut record = [0; 16];
-    record[..8].copy_from_slice(&low);
-    record[8..].copy_from_slice(&high);
-    Outcome::Blocked(reference::Fault {
-        reason: fault.reason,
-        recordable: fault.recordable,
-        record,
-        entry: fault.entry,
-    })
-}
-
-fn memory(answer: MemoryAnswer) -> Outcome {
-    match answer {
-        MemoryAnswer::Granted(address) => Outcome::Granted(address),
-        MemoryAnswer::Blocked(fault) => blocked(fault),
-        MemoryAnswer::Refused(number) => Outcome::Refused(number),
-    }
-}
 
 fn interrupt(answer: InterruptAnswer) -> Outcome {
     match answer {

@@ -1,29 +1,12 @@
 //! The ordinary translator's scalable mode against the reference.
 
+mod common;
+
 use cases::scalable::{any, fixed, Laid};
 use cases::Random;
-use ordinary::{scalable_request, Capabilities, MemoryAnswer, Registers, ScalableRequest, Window};
+use common::{memory, registers};
+use ordinary::{scalable_request, Capabilities, ScalableRequest, Window};
 use reference::Outcome;
-
-fn registers(r: &reference::Registers) -> Registers {
-    let widths = [r.levels3, r.levels4, r.levels5];
-    let numbered = widths.into_iter().zip(1..);
-    Registers {
-        haw: r.haw,
-        mgaw: r.mgaw,
-        widths: numbered.fold(0, |set, (width, n)| set | u8::from(width) << n),
-        pages_2m: r.pages_2m,
-        pages_1g: r.pages_1g,
-        posting: r.posting,
-        root_table: r.root,
-        interrupt_table: r.interrupt_table,
-        s: r.s,
-        te: r.te,
-        ire: r.ire,
-        eime: r.eime,
-        cfis: r.cfis,
-    }
-}
 
 fn capabilities(r: &reference::ScalableRegisters) -> Capabilities {
     Capabilities {
@@ -37,25 +20,6 @@ fn capabilities(r: &reference::ScalableRegisters) -> Capabilities {
         eafs: r.eafs,
         srs: r.srs,
         smpwc: r.smpwc,
-    }
-}
-
-fn outcome(answer: MemoryAnswer) -> Outcome {
-    match answer {
-        MemoryAnswer::Granted(address) => Outcome::Granted(address),
-        MemoryAnswer::Refused(number) => Outcome::Refused(number),
-        MemoryAnswer::Blocked(fault) => {
-            let [low, high] = fault.record.map(u64::to_le_bytes);
-            let mut record = [0; 16];
-            record[..8].copy_from_slice(&low);
-            record[8..].copy_from_slice(&high);
-            Outcome::Blocked(reference::Fault {
-                reason: fault.reason,
-                recordable: fault.recordable,
-                record,
-                entry: fault.entry,
-            })
-        }
     }
 }
 
@@ -80,7 +44,7 @@ fn compare(laid: &mut Laid, number: u64) -> u64 {
             write: request.write,
             pasid: request.pasid,
         };
-        let answer = outcome(scalable_request(&base, &has, &windows, &mut ours, asked));
+        let answer = memory(scalable_request(&base, &has, &windows, &mut ours, asked));
         let expected =
             reference::scalable_request(&laid.registers, &laid.windows, &mut laid.run, request);
         assert_eq!(answer, expected, "case {number}: {request:X?}");
