@@ -564,7 +564,7 @@ impl fmt::Display for Seen {
                     "passed",
                     "remapped",
                     "posted",
-                    "posted with a notice",
+                    "posted with a notification",
                     "a page",
                 ];
                 write!(f, "{}, {}", request(kind), answers[usize::from(answer) - 1])

@@ -46,7 +46,7 @@ pub const ROWS: &[Row] = &[
         make: remapped,
     },
     Row {
-        name: "posted, notice due",
+        name: "posted, notification due",
         passes: 20,
         make: posted_with_notice,
     },
@@ -81,7 +81,7 @@ pub const ROWS: &[Row] = &[
         make: || faults().cut(&FOUR, &[0, 1, 2, 3]),
     },
     Row {
-        name: "posted, notice due, four windows",
+        name: "posted, notification due, four windows",
         passes: 20,
         make: || posted_with_notice().cut(&FOUR, &[0, 1, 2, 3]),
     },
