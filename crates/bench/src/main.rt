@@ -45,24 +45,12 @@ fn first_digit(n: u64, least: usize) -> usize
 
 // At least so many digits, in upper case.
 fn digits(n: u64, least: usize) {
-    let text = [
-        glyph(n >> 60),
-        glyph(n >> 56),
-        glyph(n >> 52),
-        glyph(n >> 48),
-        glyph(n >> 44),
-        glyph(n >> 40),
-        glyph(n >> 36),
-        glyph(n >> 32),
-        glyph(n >> 28),
-        glyph(n >> 24),
-        glyph(n >> 20),
-        glyph(n >> 16),
-        glyph(n >> 12),
-        glyph(n >> 8),
-        glyph(n >> 4),
-        glyph(n),
-    ];
+    let mut text = [0u8; 16];
+    let mut rest = n;
+    for place in 0..16 {
+        text[15 - place] = glyph(rest);
+        rest = rest / 16;
+    }
     let first = first_digit(n, least);
     io::write_all(STDOUT_FILENO, &text[first..]);
 }

@@ -4,7 +4,7 @@ use mathlib.Core.Bool.{true}
 use mathlib.Core.List.{List, [], _∷_, _++_}
 use mathlib.Core.Path.{_≡_, refl, _∙_}
 use lib.Dec.{eqb, lit≤}
-use lib.ListN.{length, take, set, length-set}
+use lib.ListN.{length, take, set, replicate, length-set}
 use Rattle.image.specs.Bits.{bits}
 use Rattle.image.specs.Bytes.{littleEndian, bytesOf}
 use Rattle.image.specs.Choice.{if_then_else_}
@@ -29,13 +29,13 @@ use Rattle.irte.specs.Irte.{reservedIrte, irteCheck}
 use Rattle.interrupts.specs.Post.{setBit}
 use Rattle.interrupts.specs.Request.{requestCheck}
 use Rattle.irte.specs.Source.{sourceAllowed}
-use Rattle.cases.specs.Bench.{layout, benchWords, bench, changed, rows, answers, said, numbers, TwelveCases}
+use Rattle.cases.specs.Bench.{layout, onward, inWords, benchWords, bench, changed, rows, answers, said, numbers, TwelveCases}
 use Rattle.cases.specs.Translations.{byWords}
 use Rattle.cases.proofs.Known.{tried, shown, sized, isAmong, among}
 use Rattle.cases.proofs.Seen.{Seen, seenAs, over, enough, Fit, allOver, allEnough, all-over}
 
 whole : length bench ≡ 32768
-unfolding bench layout bytesOf
+unfolding bench layout onward inWords bytesOf
 whole = refl
 
 -- the words that the rows try, first those of the posts
@@ -69,7 +69,7 @@ words =
 
 -- the bench image; one byte shorter; with some of its bytes changed
 plain-shown : shown (byWords benchWords) words ≡ shown (sized 32768 bench) words
-unfolding shown byWords sized wordAt littleEndian bench layout bytesOf
+unfolding shown byWords sized wordAt littleEndian bench layout onward inWords bytesOf
 plain-shown = refl
 
 abbrev plain : Seen
@@ -82,11 +82,11 @@ unfoldable shortMemory : Memory
 shortMemory at = if eqb at 0x7FF8 then missing else byWords benchWords at
 
 short-length : length (take 32767 bench) ≡ 32767
-unfolding bench layout bytesOf
+unfolding bench layout onward inWords bytesOf
 short-length = refl
 
 short-shown : shown shortMemory shortWords ≡ shown (sized 32767 (take 32767 bench)) shortWords
-unfolding shown shortMemory byWords sized wordAt littleEndian bench layout bytesOf
+unfolding shown shortMemory byWords sized wordAt littleEndian bench layout onward inWords bytesOf
 short-shown = refl
 
 abbrev short : Seen
@@ -106,28 +106,28 @@ edited bytes ws e =
 
 -- as the first post left it; with the entry's URG, and SN or ON set; with SN alone
 again-shown : PostShown ((0x6406, 2) ∷ (0x6420, 1) ∷ []) ((0x6400, 0x0002000000000000) ∷ (0x6420, 0x0000070000F20001) ∷ [])
-unfolding changed shown byWords sized wordAt littleEndian bench layout bytesOf
+unfolding changed shown byWords sized wordAt littleEndian bench layout onward inWords bytesOf
 again-shown = refl
 
 abbrev again : Seen
 again = edited ((0x6406, 2) ∷ (0x6420, 1) ∷ []) ((0x6400, 0x0002000000000000) ∷ (0x6420, 0x0000070000F20001) ∷ []) again-shown
 
 urgent-shown : PostShown ((0x6041, 0xC0) ∷ (0x6420, 2) ∷ []) ((0x6040, 0x000064000031C001) ∷ (0x6420, 0x0000070000F20002) ∷ [])
-unfolding changed shown byWords sized wordAt littleEndian bench layout bytesOf
+unfolding changed shown byWords sized wordAt littleEndian bench layout onward inWords bytesOf
 urgent-shown = refl
 
 abbrev urgent : Seen
 urgent = edited ((0x6041, 0xC0) ∷ (0x6420, 2) ∷ []) ((0x6040, 0x000064000031C001) ∷ (0x6420, 0x0000070000F20002) ∷ []) urgent-shown
 
 outstanding-shown : PostShown ((0x6041, 0xC0) ∷ (0x6420, 1) ∷ []) ((0x6040, 0x000064000031C001) ∷ (0x6420, 0x0000070000F20001) ∷ [])
-unfolding changed shown byWords sized wordAt littleEndian bench layout bytesOf
+unfolding changed shown byWords sized wordAt littleEndian bench layout onward inWords bytesOf
 outstanding-shown = refl
 
 abbrev outstanding : Seen
 outstanding = edited ((0x6041, 0xC0) ∷ (0x6420, 1) ∷ []) ((0x6040, 0x000064000031C001) ∷ (0x6420, 0x0000070000F20001) ∷ []) outstanding-shown
 
 suppressed-shown : PostShown ((0x6420, 2) ∷ []) ((0x6420, 0x0000070000F20002) ∷ [])
-unfolding changed shown byWords sized wordAt littleEndian bench layout bytesOf
+unfolding changed shown byWords sized wordAt littleEndian bench layout onward inWords bytesOf
 suppressed-shown = refl
 
 abbrev suppressed : Seen
@@ -135,27 +135,7 @@ suppressed = edited ((0x6420, 2) ∷ []) ((0x6420, 0x0000070000F20002) ∷ []) s
 
 abbrev seens : List Seen
 seens =
-    plain
-    ∷ plain
-    ∷ plain
-    ∷ plain
-    ∷ plain
-    ∷ plain
-    ∷ plain
-    ∷ short
-    ∷ plain
-    ∷ plain
-    ∷ plain
-    ∷ plain
-    ∷ plain
-    ∷ plain
-    ∷ plain
-    ∷ plain
-    ∷ again
-    ∷ urgent
-    ∷ outstanding
-    ∷ suppressed
-    ∷ []
+    replicate 7 plain ++ (short ∷ (replicate 8 plain ++ (again ∷ urgent ∷ outstanding ∷ suppressed ∷ [])))
 
 fit : Fit seens (rows bench)
 unfolding Fit
@@ -165,11 +145,11 @@ fit = (
 )
 
 tried-known : allEnough seens (rows bench) ≡ true
-unfolding allEnough enough among isAmong tried shortMemory byWords wordsFrom bits entry mapRules admission registersBad contextReserved contextInvalid contextCheck pageReserved pageCheck memoryRules rootReserved rootCheck widthRules contextRules rootRules walkRules descriptorCheck descriptorRules indexRules requestRules interruptRules reservedIrte irteCheck requestCheck sourceAllowed
+unfolding allEnough enough among isAmong tried shortMemory onward inWords byWords wordsFrom bits entry mapRules admission registersBad contextReserved contextInvalid contextCheck pageReserved pageCheck memoryRules rootReserved rootCheck widthRules contextRules rootRules walkRules descriptorCheck descriptorRules indexRules requestRules interruptRules reservedIrte irteCheck requestCheck sourceAllowed
 tried-known = refl
 
 told : allOver seens (rows bench) ≡ said (rows bench)
-unfolding allOver said over shortMemory byWords changed bench layout bytesOf bits spell windowsOf spotIn flat entry run lastTried mapRules admission registersBad silenced memoryRecord fromBit64 memoryFault indexField interruptRecord interruptFault contextReserved contextInvalid contextCheck pageReserved pageCheck memoryRules rootReserved rootCheck widthRules contextRules rootRules walkRules descriptorCheck descriptorRules indexRules requestRules interruptRules reservedIrte irteCheck setBit requestCheck sourceAllowed
+unfolding allOver said over shortMemory byWords changed bench layout onward inWords bytesOf bits spell windowsOf spotIn flat entry run lastTried mapRules admission registersBad silenced memoryRecord fromBit64 memoryFault indexField interruptRecord interruptFault contextReserved contextInvalid contextCheck pageReserved pageCheck memoryRules rootReserved rootCheck widthRules contextRules rootRules walkRules descriptorCheck descriptorRules indexRules requestRules interruptRules reservedIrte irteCheck setBit requestCheck sourceAllowed
 told = refl
 
 answered : answers (rows bench) ≡ said (rows bench)

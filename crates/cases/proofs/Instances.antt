@@ -6,7 +6,7 @@ use mathlib.Core.List.{List, [], _∷_, _++_, List·Memᴰ, List·Memᴰ·head, 
 use mathlib.Core.Logic.{_⊎_, inl, inr, ⊎-elim}
 use native.Mathlib.Omega.{arith}
 use native.Mathlib.Decide.{decLe}
-use borrow.Author.Tests.{le-leb, lt-leb}
+use borrow.Author.Tests.{le-leb, lt-leb, leb-true}
 use lib.Dec.{leb, lit≤}
 use lib.ListN.{length, getD, set, take, drop, take-append-drop, length-set, length-take, length-drop, List·getD-append}
 use lib.Seq.{getD-set-other, take-append-le, drop-append-le}
@@ -47,7 +47,7 @@ use Rattle.irte.specs.Source.{sourceAllowed}
 use Rattle.unit.specs.Isolation.{memoryOver, translationOver, interruptOver}
 use Rattle.unit.specs.Lent.{Lent, memoryOf, placeOf, byteOf, SameWordAt, SameWordsAt, SwitchedAt, ShowsAll}
 use Rattle.unit.proofs.Demand3.{isolation, flat-images}
-use Rattle.cases.specs.Bench.{layout, bench, benchRegisters}
+use Rattle.cases.specs.Bench.{layout, onward, inWords, bench, benchRegisters}
 use Rattle.cases.specs.Instances.{
   Related,
   FlatRelated,
@@ -122,6 +122,15 @@ no-spot : (n size at : ℕ) → n < at + size → spotIn (windowsOf (flat n)) si
 unfolding windowsOf flat spotIn
 no-spot zero size at h = refl
 no-spot (suc n) size at h = rw (past-it (all (suc n)) size at (omega arith))
+
+-- no such window is refused
+flat-related : (image image′ : List ℕ) (R : Lent → Lent → Type 0) → length image ≤ 2 ^ 64 → length image′ ≤ 2 ^ 64
+    → ((good : badWindows (flat (length image)) (length image) ≡ false) (good′ : badWindows (flat (length image′)) (length image′) ≡ false)
+    → R (lent image good) (lent image′ good′)) → FlatRelated image image′ R
+flat-related image image′ R h h′ is =
+    let good = flat-fine (length image) h in
+    let good′ = flat-fine (length image′) h′ in
+    record { good = good; good′ = good′; is = is good good′ }
 
 module _ (image image′ : List ℕ) (good : badWindows (flat (length image)) (length image) ≡ false)
     (good′ : badWindows (flat (length image′)) (length image′) ≡ false) where
@@ -230,189 +239,156 @@ part-word image n at h inside =
           (take-append-le 8 (drop at (take n image)) (drop n image) (rw (length-drop at (take n image)) (omega arith)));
     }
 
+-- words that end within so many bytes, each of them the image's own in its part of that length
+unfoldable endWithin : ℕ → List ℕ → Bool
+endWithin n [] = true
+endWithin n (at ∷ rest) = if leb (at + 8) n then endWithin n rest else false
+
+module _ (image : List ℕ) (n : ℕ) (h : n ≤ length image) where
+  part-words : (words : List ℕ) → endWithin n words ≡ true → SameWords image (take n image) words
+  unfolding endWithin SameWords
+  part-words [] inside = tt
+  part-words (at ∷ rest) inside = by (leb (at + 8) n) refl inside (part-words rest)
+    where
+      by : (b : Bool) → leb (at + 8) n ≡ b → (if b then endWithin n rest else false) ≡ true
+          → (endWithin n rest ≡ true → SameWords image (take n image) rest)
+          → SameWord image (take n image) at × SameWords image (take n image) rest
+      by true e inside ih = (part-word image n at h (leb-true (at + 8) n e), ih inside)
+      by false e inside ih = let z : _≡_ {A = ℕ} 0 1 = cc in absurd (omega arith)
+
 bench-length : length bench ≡ 32768
-unfolding bench layout bytesOf
+unfolding bench layout onward inWords bytesOf
 bench-length = refl
 
 bench-fits : length bench ≤ 2 ^ 64
 bench-fits = rw bench-length (lit≤ tt)
 
--- memory requests
-read-words : named (memoryRules benchRegisters reads) (ofImage bench) ≡ 0x1030 ∷ 0x1038 ∷ 0x2100 ∷ 0x2108 ∷ 0x3008 ∷ 0x4008 ∷ 0x5008 ∷ []
-unfolding bench layout bytesOf littleEndian bits wordAt ofImage named wordsFrom entry mapRules admission registersBad contextReserved contextInvalid contextCheck pageReserved pageCheck memoryRules rootReserved rootCheck widthRules contextRules rootRules walkRules
+-- memory requests: the words of the read, of its root and context entry and of its page entries
+abbrev entryWords : List ℕ
+entryWords = 0x1030 ∷ 0x1038 ∷ 0x2100 ∷ 0x2108 ∷ 0x3008 ∷ 0x4008 ∷ 0x5008 ∷ []
+
+read-words : named (memoryRules benchRegisters reads) (ofImage bench) ≡ entryWords
+unfolding bench layout onward inWords bytesOf littleEndian bits wordAt ofImage named wordsFrom entry mapRules admission registersBad contextReserved contextInvalid contextCheck pageReserved pageCheck memoryRules rootReserved rootCheck widthRules contextRules rootRules walkRules
 read-words = refl
 
 read-answered : answerOver benchRegisters reads (ofImage bench) ≡ granted 0x12345ABC
-unfolding bench layout bytesOf littleEndian bits wordAt ofImage run entry mapRules admission registersBad contextReserved contextInvalid contextCheck pageReserved pageCheck memoryRules rootReserved rootCheck widthRules contextRules rootRules walkRules
+unfolding bench layout onward inWords bytesOf littleEndian bits wordAt ofImage run entry mapRules admission registersBad contextReserved contextInvalid contextCheck pageReserved pageCheck memoryRules rootReserved rootCheck widthRules contextRules rootRules walkRules
 read-answered = refl
 
-read-alike : SameWords bench (take 0x5010 bench) (0x1030 ∷ 0x1038 ∷ 0x2100 ∷ 0x2108 ∷ 0x3008 ∷ 0x4008 ∷ 0x5008 ∷ [])
-unfolding SameWords
-read-alike = (
-  part-word bench 0x5010 0x1030 (rw bench-length (lit≤ tt)) (lit≤ tt),
-  (
-    part-word bench 0x5010 0x1038 (rw bench-length (lit≤ tt)) (lit≤ tt),
-    (
-      part-word bench 0x5010 0x2100 (rw bench-length (lit≤ tt)) (lit≤ tt),
-      (
-        part-word bench 0x5010 0x2108 (rw bench-length (lit≤ tt)) (lit≤ tt),
-        (
-          part-word bench 0x5010 0x3008 (rw bench-length (lit≤ tt)) (lit≤ tt),
-          (
-            part-word bench 0x5010 0x4008 (rw bench-length (lit≤ tt)) (lit≤ tt),
-            (
-              part-word bench 0x5010 0x5008 (rw bench-length (lit≤ tt)) (lit≤ tt),
-              tt,
-            ),
-          ),
-        ),
-      ),
-    ),
-  ),
-)
+read-alike : SameWords bench (take 0x5010 bench) entryWords
+unfolding endWithin
+read-alike = part-words bench 0x5010 (rw bench-length (lit≤ tt)) entryWords refl
 
 memory : FlatRelated bench (take 0x5010 bench) (MemoryPremises benchRegisters reads)
 memory =
-    let good = flat-fine (length bench) bench-fits in
-    let good′ = flat-fine (length (take 0x5010 bench)) (part-fits 0x5010 bench bench-fits) in
+    flat-related bench (take 0x5010 bench) (MemoryPremises benchRegisters reads) bench-fits (part-fits 0x5010 bench bench-fits)
+    (λ good good′.
     record {
-      good = good;
-      good′ = good′;
-      is =
-          record {
-            no-access-fault = ap accessFault (flat-images bench bench-fits .memory benchRegisters reads ∙ read-answered);
-            alike = rw (seen bench, read-words) (same-words bench (take 0x5010 bench) good good′ _ read-alike);
-          };
-    }
+      no-access-fault = ap accessFault (flat-images bench bench-fits .memory benchRegisters reads ∙ read-answered);
+      alike = rw (seen bench, read-words) (same-words bench (take 0x5010 bench) good good′ _ read-alike);
+    })
 
--- over two windows each
-holed-words : named (memoryRules benchRegisters reads) (ofWindows holedWindows holed) ≡ 0x1030 ∷ 0x1038 ∷ 0x2100 ∷ 0x2108 ∷ 0x3008 ∷ 0x4008 ∷ 0x5008 ∷ []
-unfolding holed bench layout bytesOf littleEndian bits windowsOf spotIn entryIn ofWindows named wordsFrom entry mapRules admission registersBad contextReserved contextInvalid contextCheck pageReserved pageCheck memoryRules rootReserved rootCheck widthRules contextRules rootRules walkRules
+-- over two windows each: the words' places are computed, and their bytes
+abbrev AlikeAt : (run run′ : List ℕ) → Spot → Spot → Type 0
+AlikeAt run run′ nowhere s = ⊥
+AlikeAt run run′ (here place left) nowhere = ⊥
+AlikeAt run run′ (here place left) (here place′ left′) = take 8 (drop place run) ≡ take 8 (drop place′ run′)
+
+module _ (l l′ : Lent) where
+  word-at : (at : ℕ) (s s′ : Spot) → placeOf l 8 at ≡ s → placeOf l′ 8 at ≡ s′ → AlikeAt (l .bytes) (l′ .bytes) s s′ → SameWordAt l l′ at
+  word-at at nowhere s′ e e′ h = absurd h
+  word-at at (here place left) nowhere e e′ h = absurd h
+  word-at at (here place left) (here place′ left′) e e′ h =
+      record { place = place; left = left; whole = e; place′ = place′; left′ = left′; whole′ = e′; same = h }
+
+  unfoldable AllAlike : List ℕ → Type 0
+  AllAlike [] = Unit {0}
+  AllAlike (at ∷ rest) = AlikeAt (l .bytes) (l′ .bytes) (placeOf l 8 at) (placeOf l′ 8 at) × AllAlike rest
+
+  words-at : (words : List ℕ) → AllAlike words → SameWordsAt l l′ words
+  unfolding AllAlike SameWordsAt
+  words-at [] h = tt
+  words-at (at ∷ rest) h = (word-at at (placeOf l 8 at) (placeOf l′ 8 at) refl refl (h .0), words-at rest (h .1))
+
+holed-words : named (memoryRules benchRegisters reads) (ofWindows holedWindows holed) ≡ entryWords
+unfolding holed bench layout onward inWords bytesOf littleEndian bits windowsOf spotIn entryIn ofWindows named wordsFrom entry mapRules admission registersBad contextReserved contextInvalid contextCheck pageReserved pageCheck memoryRules rootReserved rootCheck widthRules contextRules rootRules walkRules
 holed-words = refl
 
 holed-answered : memoryAnswer benchRegisters reads holedWindows holed ≡ granted 0x12345ABC
-unfolding holed bench layout bytesOf littleEndian bits badWithAny badList badWindows windowsOf spotIn entryIn ofWindows run entry mapRules admission registersBad contextReserved contextInvalid contextCheck pageReserved pageCheck memoryRules rootReserved rootCheck widthRules contextRules rootRules walkRules
+unfolding holed bench layout onward inWords bytesOf littleEndian bits badWithAny badList badWindows windowsOf spotIn entryIn ofWindows run entry mapRules admission registersBad contextReserved contextInvalid contextCheck pageReserved pageCheck memoryRules rootReserved rootCheck widthRules contextRules rootRules walkRules
 holed-answered = refl
 
 holed-good : badWindows holedWindows (length holed) ≡ false
-unfolding holed bench layout bytesOf windowsOf badWithAny badList badWindows
+unfolding holed bench layout onward inWords bytesOf windowsOf badWithAny badList badWindows
 holed-good = refl
 
 cut-good : badWindows cutWindows (length cut) ≡ false
-unfolding cut bench layout bytesOf windowsOf badWithAny badList badWindows
+unfolding cut bench layout onward inWords bytesOf windowsOf badWithAny badList badWindows
 cut-good = refl
 
-holed-alike : SameWordsAt (record { windows = holedWindows; bytes = holed; good = holed-good }) (record { windows = cutWindows; bytes = cut; good = cut-good })
-    (0x1030 ∷ 0x1038 ∷ 0x2100 ∷ 0x2108 ∷ 0x3008 ∷ 0x4008 ∷ 0x5008 ∷ [])
-unfolding holed cut bench layout bytesOf windowsOf spotIn SameWordsAt
-holed-alike = (
-  record { place = 0x1030; left = 0x2fe0; whole = refl; place′ = 0x30; left′ = 0x2fe0; whole′ = refl; same = refl },
-  (
-    record { place = 0x1038; left = 0x2fd8; whole = refl; place′ = 0x38; left′ = 0x2fd8; whole′ = refl; same = refl },
-    (
-      record { place = 0x2100; left = 0x1f10; whole = refl; place′ = 0x1100; left′ = 0x1f10; whole′ = refl; same = refl },
-      (
-        record { place = 0x2108; left = 0x1f08; whole = refl; place′ = 0x1108; left′ = 0x1f08; whole′ = refl; same = refl },
-        (
-          record { place = 0x3008; left = 0x1008; whole = refl; place′ = 0x2008; left′ = 0x1008; whole′ = refl; same = refl },
-          (
-            record { place = 0x4008; left = 0x8; whole = refl; place′ = 0x3008; left′ = 0x8; whole′ = refl; same = refl },
-            (
-              record { place = 0x8; left = 0xff8; whole = refl; place′ = 0x3018; left′ = 0x8; whole′ = refl; same = refl },
-              tt,
-            ),
-          ),
-        ),
-      ),
-    ),
-  ),
-)
+abbrev holed-lent : Lent
+holed-lent = record { windows = holedWindows; bytes = holed; good = holed-good }
+
+abbrev cut-lent : Lent
+cut-lent = record { windows = cutWindows; bytes = cut; good = cut-good }
+
+holed-alike : AllAlike holed-lent cut-lent entryWords
+unfolding AllAlike holed cut bench layout onward inWords bytesOf windowsOf spotIn
+holed-alike = (refl, (refl, (refl, (refl, (refl, (refl, (refl, tt)))))))
 
 memory-windows : Related holedWindows holed cutWindows cut (MemoryPremises benchRegisters reads)
 memory-windows =
     record {
       good = holed-good;
       good′ = cut-good;
-      is = record { no-access-fault = ap accessFault holed-answered; alike = rw holed-words holed-alike };
+      is = record { no-access-fault = ap accessFault holed-answered; alike = rw holed-words (words-at holed-lent cut-lent entryWords holed-alike) };
     }
 
 -- translation requests
-translation-words : named (translations.requestRules benchRegisters translates) (ofImage type1) ≡ 0x1030 ∷ 0x1038 ∷ 0x2100 ∷ 0x2108 ∷ 0x3008 ∷ 0x4008 ∷ 0x5008 ∷ []
-unfolding type1 bench layout bytesOf littleEndian bits wordAt ofImage named wordsFrom entry mapRules admission registersBad contextReserved contextInvalid contextCheck pageReserved rootReserved rootCheck contextRules rootRules walkRules typeRules translations.requestRules
+translation-words : named (translations.requestRules benchRegisters translates) (ofImage type1) ≡ entryWords
+unfolding type1 bench layout onward inWords bytesOf littleEndian bits wordAt ofImage named wordsFrom entry mapRules admission registersBad contextReserved contextInvalid contextCheck pageReserved rootReserved rootCheck contextRules rootRules walkRules typeRules translations.requestRules
 translation-words = refl
 
 translation-answered : translations.answerOver benchRegisters translates (ofImage type1)
     ≡ translations.translated 0x12345000 0x1000 (record { read = true; write = false })
-unfolding type1 bench layout bytesOf littleEndian bits wordAt ofImage run entry mapRules admission registersBad contextReserved contextInvalid contextCheck pageReserved rootReserved rootCheck contextRules rootRules walkRules typeRules translations.requestRules
+unfolding type1 bench layout onward inWords bytesOf littleEndian bits wordAt ofImage run entry mapRules admission registersBad contextReserved contextInvalid contextCheck pageReserved rootReserved rootCheck contextRules rootRules walkRules typeRules translations.requestRules
 translation-answered = refl
 
 type1-length : length type1 ≡ 32768
 unfolding type1
 type1-length = length-set bench 0x2100 5 ∙ bench-length
 
-translation-alike : SameWords type1 (take 0x5010 type1) (0x1030 ∷ 0x1038 ∷ 0x2100 ∷ 0x2108 ∷ 0x3008 ∷ 0x4008 ∷ 0x5008 ∷ [])
-unfolding SameWords
-translation-alike = (
-  part-word type1 0x5010 0x1030 (rw type1-length (lit≤ tt)) (lit≤ tt),
-  (
-    part-word type1 0x5010 0x1038 (rw type1-length (lit≤ tt)) (lit≤ tt),
-    (
-      part-word type1 0x5010 0x2100 (rw type1-length (lit≤ tt)) (lit≤ tt),
-      (
-        part-word type1 0x5010 0x2108 (rw type1-length (lit≤ tt)) (lit≤ tt),
-        (
-          part-word type1 0x5010 0x3008 (rw type1-length (lit≤ tt)) (lit≤ tt),
-          (
-            part-word type1 0x5010 0x4008 (rw type1-length (lit≤ tt)) (lit≤ tt),
-            (
-              part-word type1 0x5010 0x5008 (rw type1-length (lit≤ tt)) (lit≤ tt),
-              tt,
-            ),
-          ),
-        ),
-      ),
-    ),
-  ),
-)
+translation-alike : SameWords type1 (take 0x5010 type1) entryWords
+unfolding endWithin
+translation-alike = part-words type1 0x5010 (rw type1-length (lit≤ tt)) entryWords refl
 
 type1-fits : length type1 ≤ 2 ^ 64
 type1-fits = rw type1-length (lit≤ tt)
 
 translation-requests : FlatRelated type1 (take 0x5010 type1) (TranslationPremises benchRegisters translates)
 translation-requests =
-    let good = flat-fine (length type1) type1-fits in
-    let good′ = flat-fine (length (take 0x5010 type1)) (part-fits 0x5010 type1 type1-fits) in
+    flat-related type1 (take 0x5010 type1) (TranslationPremises benchRegisters translates) type1-fits (part-fits 0x5010 type1 type1-fits)
+    (λ good good′.
     record {
-      good = good;
-      good′ = good′;
-      is =
-          record {
-            no-access-fault = ap translation.accessFault (flat-images type1 type1-fits .translations benchRegisters translates ∙ translation-answered);
-            alike = rw (seen type1, translation-words) (same-words type1 (take 0x5010 type1) good good′ _ translation-alike);
-          };
-    }
+      no-access-fault = ap translation.accessFault (flat-images type1 type1-fits .translations benchRegisters translates ∙ translation-answered);
+      alike = rw (seen type1, translation-words) (same-words type1 (take 0x5010 type1) good good′ _ translation-alike);
+    })
 
 -- interrupts
 interrupt-words : namedWords benchRegisters remaps (ofImage bench) ≡ 0x6020 ∷ 0x6028 ∷ []
-unfolding bench layout bytesOf littleEndian bits wordAt ofImage entry named wordsFrom mapRules admission registersBad indexRules requestRules interruptRules reservedIrte irteCheck requestCheck sourceAllowed
+unfolding bench layout onward inWords bytesOf littleEndian bits wordAt ofImage entry named wordsFrom mapRules admission registersBad indexRules requestRules interruptRules reservedIrte irteCheck requestCheck sourceAllowed
 interrupt-words = refl
 
 interrupt-alike : SameWords bench (take 0x6030 bench) (0x6020 ∷ 0x6028 ∷ [])
-unfolding SameWords
-interrupt-alike = (
-  part-word bench 0x6030 0x6020 (rw bench-length (lit≤ tt)) (lit≤ tt),
-  (
-    part-word bench 0x6030 0x6028 (rw bench-length (lit≤ tt)) (lit≤ tt),
-    tt,
-  ),
-)
+unfolding endWithin
+interrupt-alike = part-words bench 0x6030 (rw bench-length (lit≤ tt)) (0x6020 ∷ 0x6028 ∷ []) refl
 
 interrupt-answered : AccessFault (outcome benchRegisters remaps (ofImage bench)) → ⊥
-unfolding bench layout bytesOf littleEndian bits wordAt ofImage entry run mapRules admission registersBad indexRules requestRules interruptRules reservedIrte irteCheck requestCheck sourceAllowed
+unfolding bench layout onward inWords bytesOf littleEndian bits wordAt ofImage entry run mapRules admission registersBad indexRules requestRules interruptRules reservedIrte irteCheck requestCheck sourceAllowed
 interrupt-answered fault = fault
 
 post-answered : outcome benchRegisters posts (ofImage (take 0x6440 bench)) ≡ posted 0x6400 0x31 (notification 0xF2 7)
-unfolding bench layout bytesOf littleEndian bits wordAt ofImage entry run mapRules admission registersBad descriptorRules indexRules requestRules interruptRules reservedIrte irteCheck requestCheck sourceAllowed descriptorCheck
+unfolding bench layout onward inWords bytesOf littleEndian bits wordAt ofImage entry run mapRules admission registersBad descriptorRules indexRules requestRules interruptRules reservedIrte irteCheck requestCheck sourceAllowed descriptorCheck
 post-answered = refl
 
 post-alike : SameWords (take 0x6440 bench) bench (namedWords benchRegisters posts (ofImage (take 0x6440 bench)))
@@ -420,34 +396,24 @@ post-alike = rw (take-append-drop 0x6440 bench) at (longer (take 0x6440 bench) (
 
 interrupts : FlatRelated bench (take 0x6030 bench) (InterruptPremises benchRegisters remaps)
 interrupts =
-    let good = flat-fine (length bench) bench-fits in
-    let good′ = flat-fine (length (take 0x6030 bench)) (part-fits 0x6030 bench bench-fits) in
+    flat-related bench (take 0x6030 bench) (InterruptPremises benchRegisters remaps) bench-fits (part-fits 0x6030 bench bench-fits)
+    (λ good good′.
     record {
-      good = good;
-      good′ = good′;
-      is =
-          record {
-            no-access-fault = λ fault. interrupt-answered (subst AccessFault (flat-images bench bench-fits .interrupts benchRegisters remaps) fault);
-            alike = rw (seen bench, interrupt-words) (same-words bench (take 0x6030 bench) good good′ _ interrupt-alike);
-          };
-    }
+      no-access-fault = λ fault. interrupt-answered (subst AccessFault (flat-images bench bench-fits .interrupts benchRegisters remaps) fault);
+      alike = rw (seen bench, interrupt-words) (same-words bench (take 0x6030 bench) good good′ _ interrupt-alike);
+    })
 
 post-told : interruptAnswer benchRegisters posts (flat (length (take 0x6440 bench))) (take 0x6440 bench) ≡ posted 0x6400 0x31 (notification 0xF2 7)
 post-told = flat-images (take 0x6440 bench) (part-fits 0x6440 bench bench-fits) .interrupts benchRegisters posts ∙ post-answered
 
 post : FlatRelated (take 0x6440 bench) bench (InterruptPremises benchRegisters posts)
 post =
-    let good = flat-fine (length (take 0x6440 bench)) (part-fits 0x6440 bench bench-fits) in
-    let good′ = flat-fine (length bench) bench-fits in
+    flat-related (take 0x6440 bench) bench (InterruptPremises benchRegisters posts) (part-fits 0x6440 bench bench-fits) bench-fits
+    (λ good good′.
     record {
-      good = good;
-      good′ = good′;
-      is =
-          record {
-            no-access-fault = λ fault. subst AccessFault post-told fault;
-            alike = rw (seen (take 0x6440 bench)) (same-words (take 0x6440 bench) bench good good′ _ post-alike);
-          };
-    }
+      no-access-fault = λ fault. subst AccessFault post-told fault;
+      alike = rw (seen (take 0x6440 bench)) (same-words (take 0x6440 bench) bench good good′ _ post-alike);
+    })
 
 -- over two windows each
 abbrev post-words : List ℕ
@@ -469,63 +435,39 @@ reordered-good : badWindows reorderedWindows (length reordered) ≡ false
 unfolding reordered bytesOf windowsOf badWithAny badList badWindows
 reordered-good = refl
 
-small-alike : SameWordsAt (record { windows = small.two; bytes = small.run; good = small-good }) (record { windows = reorderedWindows; bytes = reordered; good = reordered-good }) post-words
-unfolding small.run reordered bytesOf windowsOf spotIn SameWordsAt
-small-alike = (
-  record { place = 64; left = 64; whole = refl; place′ = 0; left′ = 16; whole′ = refl; same = refl },
-  (
-    record { place = 72; left = 56; whole = refl; place′ = 8; left′ = 8; whole′ = refl; same = refl },
-    (
-      record { place = 0; left = 64; whole = refl; place′ = 16; left′ = 64; whole′ = refl; same = refl },
-      (
-        record { place = 8; left = 56; whole = refl; place′ = 24; left′ = 56; whole′ = refl; same = refl },
-        (
-          record { place = 16; left = 48; whole = refl; place′ = 32; left′ = 48; whole′ = refl; same = refl },
-          (
-            record { place = 24; left = 40; whole = refl; place′ = 40; left′ = 40; whole′ = refl; same = refl },
-            (
-              record { place = 32; left = 32; whole = refl; place′ = 48; left′ = 32; whole′ = refl; same = refl },
-              (
-                record { place = 40; left = 24; whole = refl; place′ = 56; left′ = 24; whole′ = refl; same = refl },
-                (
-                  record { place = 48; left = 16; whole = refl; place′ = 64; left′ = 16; whole′ = refl; same = refl },
-                  (
-                    record { place = 56; left = 8; whole = refl; place′ = 72; left′ = 8; whole′ = refl; same = refl },
-                    tt,
-                  ),
-                ),
-              ),
-            ),
-          ),
-        ),
-      ),
-    ),
-  ),
-)
+abbrev small-lent : Lent
+small-lent = record { windows = small.two; bytes = small.run; good = small-good }
+
+abbrev reordered-lent : Lent
+reordered-lent = record { windows = reorderedWindows; bytes = reordered; good = reordered-good }
+
+small-alike : AllAlike small-lent reordered-lent post-words
+unfolding AllAlike small.run reordered bytesOf windowsOf spotIn
+small-alike = (refl, (refl, (refl, (refl, (refl, (refl, (refl, (refl, (refl, (refl, tt))))))))))
 
 post-windows : Related small.two small.run reorderedWindows reordered (InterruptPremises small.registers posts31)
 post-windows =
     record {
       good = small-good;
       good′ = reordered-good;
-      is = record { no-access-fault = λ fault. subst AccessFault small-answered fault; alike = rw small-words small-alike };
+      is = record { no-access-fault = λ fault. subst AccessFault small-answered fault; alike = rw small-words (words-at small-lent reordered-lent post-words small-alike) };
     }
 
 -- rights switched on, over the image in which 4018 is only readable
 on-walked : walkedByAny benchRegisters (reads ∷ beyond ∷ []) (ofImage readable) ≡ pages
-unfolding walkedByAny readable bench layout bytesOf littleEndian bits wordAt ofImage entry entriesOf mapRules admission registersBad contextReserved contextInvalid contextCheck pageReserved pageCheck memoryRules rootReserved rootCheck widthRules contextRules rootRules walkRules
+unfolding walkedByAny readable bench layout onward inWords bytesOf littleEndian bits wordAt ofImage entry entriesOf mapRules admission registersBad contextReserved contextInvalid contextCheck pageReserved pageCheck memoryRules rootReserved rootCheck widthRules contextRules rootRules walkRules
 on-walked = refl
 
 on-tables : tableEntries benchRegisters reads (ofImage readable) ≡ tables
-unfolding readable bench layout bytesOf littleEndian bits wordAt ofImage entry entriesOf mapRules admission registersBad contextReserved contextInvalid contextCheck pageReserved pageCheck memoryRules rootReserved rootCheck widthRules contextRules rootRules walkRules
+unfolding readable bench layout onward inWords bytesOf littleEndian bits wordAt ofImage entry entriesOf mapRules admission registersBad contextReserved contextInvalid contextCheck pageReserved pageCheck memoryRules rootReserved rootCheck widthRules contextRules rootRules walkRules
 on-tables = refl
 
 on-granted : answerOver benchRegisters reads (ofImage readable) ≡ granted 0x12345ABC
-unfolding readable bench layout bytesOf littleEndian bits wordAt ofImage entry run mapRules admission registersBad contextReserved contextInvalid contextCheck pageReserved pageCheck memoryRules rootReserved rootCheck widthRules contextRules rootRules walkRules
+unfolding readable bench layout onward inWords bytesOf littleEndian bits wordAt ofImage entry run mapRules admission registersBad contextReserved contextInvalid contextCheck pageReserved pageCheck memoryRules rootReserved rootCheck widthRules contextRules rootRules walkRules
 on-granted = refl
 
 walker-faulted : accessFault (answerOver benchRegisters beyond (ofImage readable)) ≡ true
-unfolding readable memoryFault bench layout bytesOf littleEndian bits wordAt ofImage entry run mapRules admission registersBad contextReserved contextInvalid contextCheck pageReserved pageCheck memoryRules rootReserved rootCheck widthRules contextRules rootRules walkRules
+unfolding readable memoryFault bench layout onward inWords bytesOf littleEndian bits wordAt ofImage entry run mapRules admission registersBad contextReserved contextInvalid contextCheck pageReserved pageCheck memoryRules rootReserved rootCheck widthRules contextRules rootRules walkRules
 walker-faulted = refl
 
 readable-fits : length readable ≤ 2 ^ 64
@@ -538,7 +480,7 @@ twice-fits image b h = rw (length-set (set image 0x5008 b) 0x4018 b, length-set 
 on-switched : (good : badWindows (flat (length readable)) (length readable) ≡ false)
     (good′ : badWindows (flat (length (set (set readable 0x5008 3) 0x4018 3))) (length (set (set readable 0x5008 3) 0x4018 3)) ≡ false)
     → SwitchedAt (λ before after. before ≤ after) pages (lent readable good) (lent (set (set readable 0x5008 3) 0x4018 3) good′)
-unfolding bench layout bytesOf bits windowsOf flat spotIn readable
+unfolding bench layout onward inWords bytesOf bits windowsOf flat spotIn readable
 on-switched good good′ =
     record {
       elsewhere = elsewhere readable 3;
@@ -551,36 +493,31 @@ on-switched good good′ =
 
 rights-on : FlatRelated readable (set (set readable 0x5008 3) 0x4018 3) (OnPremises benchRegisters (reads ∷ beyond ∷ []) reads 0x12345ABC)
 rights-on =
-    let good = flat-fine (length readable) readable-fits in
-    let good′ = flat-fine (length (set (set readable 0x5008 3) 0x4018 3)) (twice-fits readable 3 readable-fits) in
+    flat-related readable (set (set readable 0x5008 3) 0x4018 3) (OnPremises benchRegisters (reads ∷ beyond ∷ []) reads 0x12345ABC) readable-fits (twice-fits readable 3 readable-fits)
+    (λ good good′.
     record {
-      good = good;
-      good′ = good′;
-      is =
-          record {
-            apart = rw (seen readable, on-walked, on-tables) after;
-            switched = rw (seen readable, on-walked) (on-switched good good′);
-            was-granted = flat-images readable readable-fits .memory benchRegisters reads ∙ on-granted;
-          };
-    }
+      apart = rw (seen readable, on-walked, on-tables) after;
+      switched = rw (seen readable, on-walked) (on-switched good good′);
+      was-granted = flat-images readable readable-fits .memory benchRegisters reads ∙ on-granted;
+    })
 
 -- rights switched off, over the bench image
 off-walked : walkedByAny benchRegisters (writes ∷ beyond ∷ []) (ofImage bench) ≡ pages
-unfolding walkedByAny bench layout bytesOf littleEndian bits wordAt ofImage entry entriesOf mapRules admission registersBad contextReserved contextInvalid contextCheck pageReserved pageCheck memoryRules rootReserved rootCheck widthRules contextRules rootRules walkRules
+unfolding walkedByAny bench layout onward inWords bytesOf littleEndian bits wordAt ofImage entry entriesOf mapRules admission registersBad contextReserved contextInvalid contextCheck pageReserved pageCheck memoryRules rootReserved rootCheck widthRules contextRules rootRules walkRules
 off-walked = refl
 
 off-tables : tableEntries benchRegisters writes (ofImage bench) ≡ tables
-unfolding bench layout bytesOf littleEndian bits wordAt ofImage entry entriesOf mapRules admission registersBad contextReserved contextInvalid contextCheck pageReserved pageCheck memoryRules rootReserved rootCheck widthRules contextRules rootRules walkRules
+unfolding bench layout onward inWords bytesOf littleEndian bits wordAt ofImage entry entriesOf mapRules admission registersBad contextReserved contextInvalid contextCheck pageReserved pageCheck memoryRules rootReserved rootCheck widthRules contextRules rootRules walkRules
 off-tables = refl
 
 off-blocked : (host : ℕ) → answerOver benchRegisters writes (ofImage bench) ≡ granted host → ⊥
-unfolding bench layout bytesOf littleEndian bits wordAt ofImage entry run mapRules admission registersBad contextReserved contextInvalid contextCheck pageReserved pageCheck memoryRules rootReserved rootCheck widthRules contextRules rootRules walkRules
+unfolding bench layout onward inWords bytesOf littleEndian bits wordAt ofImage entry run mapRules admission registersBad contextReserved contextInvalid contextCheck pageReserved pageCheck memoryRules rootReserved rootCheck widthRules contextRules rootRules walkRules
 off-blocked host h = let z : _≡_ {A = ℕ} 0 1 = cc in omega arith
 
 off-switched : (good : badWindows (flat (length bench)) (length bench) ≡ false)
     (good′ : badWindows (flat (length (set (set bench 0x5008 0) 0x4018 0))) (length (set (set bench 0x5008 0) 0x4018 0)) ≡ false)
     → SwitchedAt (λ before after. after ≤ before) pages (lent bench good) (lent (set (set bench 0x5008 0) 0x4018 0) good′)
-unfolding bench layout bytesOf bits windowsOf flat spotIn
+unfolding bench layout onward inWords bytesOf bits windowsOf flat spotIn
 off-switched good good′ =
     record {
       elsewhere = elsewhere bench 0;
@@ -593,36 +530,27 @@ off-switched good good′ =
 
 rights-off : FlatRelated bench (set (set bench 0x5008 0) 0x4018 0) (OffPremises benchRegisters (writes ∷ beyond ∷ []) writes)
 rights-off =
-    let good = flat-fine (length bench) bench-fits in
-    let good′ = flat-fine (length (set (set bench 0x5008 0) 0x4018 0)) (twice-fits bench 0 bench-fits) in
+    flat-related bench (set (set bench 0x5008 0) 0x4018 0) (OffPremises benchRegisters (writes ∷ beyond ∷ []) writes) bench-fits (twice-fits bench 0 bench-fits)
+    (λ good good′.
     record {
-      good = good;
-      good′ = good′;
-      is =
-          record {
-            apart = rw (seen bench, off-walked, off-tables) after;
-            switched = rw (seen bench, off-walked) (off-switched good good′);
-            not-granted = λ host h. off-blocked host (sym (flat-images bench bench-fits .memory benchRegisters writes) ∙ h);
-          };
-    }
+      apart = rw (seen bench, off-walked, off-tables) after;
+      switched = rw (seen bench, off-walked) (off-switched good good′);
+      not-granted = λ host h. off-blocked host (sym (flat-images bench bench-fits .memory benchRegisters writes) ∙ h);
+    })
 
 -- a longer image
 short-granted : answerOver benchRegisters reads (ofImage (take 0x5010 bench)) ≡ granted 0x12345ABC
-unfolding bench layout bytesOf littleEndian bits wordAt ofImage run entry mapRules admission registersBad contextReserved contextInvalid contextCheck pageReserved pageCheck memoryRules rootReserved rootCheck widthRules contextRules rootRules walkRules
+unfolding bench layout onward inWords bytesOf littleEndian bits wordAt ofImage run entry mapRules admission registersBad contextReserved contextInvalid contextCheck pageReserved pageCheck memoryRules rootReserved rootCheck widthRules contextRules rootRules walkRules
 short-granted = refl
 
 more-memory : FlatRelated (take 0x5010 bench) bench (MorePremises benchRegisters reads 0x12345ABC)
 more-memory =
-    let short = part-fits 0x5010 bench bench-fits in
+    flat-related (take 0x5010 bench) bench (MorePremises benchRegisters reads 0x12345ABC) (part-fits 0x5010 bench bench-fits) bench-fits
+    (λ good good′.
     record {
-      good = flat-fine (length (take 0x5010 bench)) short;
-      good′ = flat-fine (length bench) bench-fits;
-      is =
-          record {
-            shows = more-shown bench 0x5010;
-            was-granted = flat-images (take 0x5010 bench) short .memory benchRegisters reads ∙ short-granted;
-          };
-    }
+      shows = more-shown bench 0x5010;
+      was-granted = flat-images (take 0x5010 bench) (part-fits 0x5010 bench bench-fits) .memory benchRegisters reads ∙ short-granted;
+    })
 
 pub premises-met : PremisesMet
 premises-met =

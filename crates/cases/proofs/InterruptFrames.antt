@@ -4,7 +4,7 @@ use mathlib.Core.Bool.{true}
 use mathlib.Core.List.{List, [], _∷_}
 use mathlib.Core.Path.{_≡_, refl, _∙_}
 use lib.Dec.{lit≤}
-use lib.ListN.{length}
+use lib.ListN.{length, replicate}
 use Rattle.image.specs.Bits.{bits}
 use Rattle.image.specs.Bytes.{littleEndian, bytesOf}
 use Rattle.image.specs.Entries.{spell}
@@ -21,7 +21,7 @@ use Rattle.dma.specs.Root.{rootReserved, rootCheck}
 use Rattle.dma.specs.Lookup.{contextRules, rootRules}
 use Rattle.dma.specs.Translation.{widthRules}
 use Rattle.dma.specs.Walk.{walkRules}
-use Rattle.cases.specs.Bench.{layout, said}
+use Rattle.cases.specs.Bench.{layout, onward, inWords, said}
 use Rattle.cases.specs.InterruptFrames.{frameWords, frames, frameRows, InterruptFrames}
 use Rattle.cases.specs.Translations.{byWords}
 use Rattle.cases.proofs.Known.{tried, shown, sized, isAmong, among}
@@ -36,30 +36,29 @@ abbrev known : List ℕ
 known = 0x1038 ∷ addresses frameWords
 
 whole : length frames ≡ 0x5020
-unfolding frames layout bytesOf
+unfolding frames layout onward inWords bytesOf
 whole = refl
 
 frames-shown : shown (byWords frameWords) known ≡ shown (sized 0x5020 frames) known
-unfolding addresses shown byWords sized wordAt littleEndian frames layout bytesOf
+unfolding addresses shown byWords sized wordAt littleEndian frames layout onward inWords bytesOf
 frames-shown = refl
 
 abbrev here : Seen
 here = seenAs frames 0x5020 whole (lit≤ tt) known (byWords frameWords) frames-shown
 
 abbrev seens : List Seen
-seens =
-    here ∷ here ∷ here ∷ here ∷ here ∷ here ∷ here ∷ here ∷ here ∷ here ∷ here ∷ here ∷ here ∷ here ∷ here ∷ here ∷ []
+seens = replicate 16 here
 
 fit : Fit seens (frameRows frames)
 unfolding Fit
 fit = (refl, (refl, (refl, (refl, (refl, (refl, (refl, (refl, (refl, (refl, (refl, (refl, (refl, (refl, (refl, (refl, tt))))))))))))))))
 
 tried-known : allEnough seens (frameRows frames) ≡ true
-unfolding addresses allEnough enough among isAmong tried byWords wordsFrom bits entry mapRules admission registersBad contextReserved contextInvalid contextCheck pageReserved pageCheck memoryRules rootReserved rootCheck widthRules contextRules rootRules walkRules
+unfolding addresses onward inWords allEnough enough among isAmong tried byWords wordsFrom bits entry mapRules admission registersBad contextReserved contextInvalid contextCheck pageReserved pageCheck memoryRules rootReserved rootCheck widthRules contextRules rootRules walkRules
 tried-known = refl
 
 told : allOver seens (frameRows frames) ≡ said (frameRows frames)
-unfolding allOver said over byWords bits spell entry run lastTried mapRules admission registersBad silenced memoryRecord fromBit64 memoryFault contextReserved contextInvalid contextCheck pageReserved pageCheck memoryRules rootReserved rootCheck widthRules contextRules rootRules walkRules
+unfolding allOver said over onward inWords byWords bits spell entry run lastTried mapRules admission registersBad silenced memoryRecord fromBit64 memoryFault contextReserved contextInvalid contextCheck pageReserved pageCheck memoryRules rootReserved rootCheck widthRules contextRules rootRules walkRules
 told = refl
 
 pub interrupt-frames : InterruptFrames

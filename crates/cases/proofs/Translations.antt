@@ -15,8 +15,9 @@ use Rattle.dma.specs.Lookup.{contextRules, rootRules}
 use Rattle.dma.specs.Walk.{walkRules}
 use Rattle.translation.specs.Completion.{typeRules}
 use Rattle.translation.specs.Requests.{requestRules}
+use Rattle.cases.specs.Bench.{onward, inWords}
 use Rattle.cases.specs.Translations.{byWords, answersTo, said, TranslationCases}
 
 pub translation-cases : TranslationCases
-unfolding byWords answersTo said bits spell entry run lastTried mapRules admission registersBad silenced memoryRecord translationRecord fromBit64 translationFault contextReserved contextInvalid contextCheck pageReserved rootReserved rootCheck contextRules rootRules walkRules typeRules requestRules
+unfolding onward inWords byWords answersTo said bits spell entry run lastTried mapRules admission registersBad silenced memoryRecord translationRecord fromBit64 translationFault contextReserved contextInvalid contextCheck pageReserved rootReserved rootCheck contextRules rootRules walkRules typeRules requestRules
 translation-cases = refl

@@ -22,25 +22,29 @@ unfoldable pub layout : (from : ℕ) → List (ℕ × ℕ) → (end : ℕ) → L
 layout from [] end = replicate (end - from) 0
 layout from (w ∷ ws) end = replicate (w .0 - from) 0 ++ (bytesOf 8 (w .1) ++ layout (w .0 + 8) ws end)
 
--- its words, as (address, value)
+-- words that stand one behind the other from some addresses on, as (address, value)
+unfoldable pub onward : (at : ℕ) → List ℕ → List (ℕ × ℕ) → List (ℕ × ℕ)
+onward at [] others = others
+onward at (v ∷ vs) others = (at, v) ∷ onward (at + 8) vs others
+
+unfoldable pub inWords : List (ℕ × List ℕ) → List (ℕ × ℕ)
+inWords [] = []
+inWords (t ∷ ts) = onward (t .0) (t .1) (inWords ts)
+
+-- its words, table by table
 abbrev pub benchWords : List (ℕ × ℕ)
 benchWords =
-    (0x1030, 0x2001)
-    ∷ (0x2100, 0x3001)
-    ∷ (0x2108, 0x501)
-    ∷ (0x3008, 0x4003)
-    ∷ (0x4008, 0x5003)
-    ∷ (0x4010, 0x40600083)
-    ∷ (0x4018, 0x9003)
-    ∷ (0x4020, 0x8000000003)
-    ∷ (0x4028, 0x7003)
-    ∷ (0x5008, 0x12345001)
-    ∷ (0x6020, 0x0000070000410001)
-    ∷ (0x6028, 0x40310)
-    ∷ (0x6040, 0x0000640000318001)
-    ∷ (0x6420, 0x0000070000F20000)
-    ∷ (0x7FF8, 0x23456003)
-    ∷ []
+    inWords
+    ((0x1030, 0x2001 ∷ [])
+    ∷ (0x2100, 0x3001 ∷ 0x501 ∷ [])
+    ∷ (0x3008, 0x4003 ∷ [])
+    ∷ (0x4008, 0x5003 ∷ 0x40600083 ∷ 0x9003 ∷ 0x8000000003 ∷ 0x7003 ∷ [])
+    ∷ (0x5008, 0x12345001 ∷ [])
+    ∷ (0x6020, 0x0000070000410001 ∷ 0x40310 ∷ [])
+    ∷ (0x6040, 0x0000640000318001 ∷ [])
+    ∷ (0x6420, 0x0000070000F20000 ∷ [])
+    ∷ (0x7FF8, 0x23456003 ∷ [])
+    ∷ [])
 
 unfoldable pub bench : List ℕ
 bench = layout 0 benchWords 32768

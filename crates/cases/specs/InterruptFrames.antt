@@ -2,32 +2,21 @@
 use Prim.Native.Nat.{ℕ}
 use mathlib.Core.List.{List, [], _∷_}
 use mathlib.Core.Path.{_≡_}
-use Rattle.cases.specs.Bench.{Row, read, write, host, fault, refusal, row, layout, answers, said}
+use Rattle.cases.specs.Bench.{Row, read, write, host, fault, refusal, row, layout, inWords, answers, said}
 
 -- source 0310h walks three levels, source 0311h passes through
 abbrev pub frameWords : List (ℕ × ℕ)
 frameWords =
-    (0x1030, 0x2001)
-    ∷ (0x2100, 0x3001)
-    ∷ (0x2108, 0x501)
-    ∷ (0x2110, 0x9)
-    ∷ (0x2118, 0x501)
-    ∷ (0x3000, 0x4003)
-    -- pages of 1 GiB
-    ∷ (0x3008, 0xC0000083)
-    ∷ (0x3010, 0x80000083)
-    ∷ (0x3018, 0x100000083)
-    ∷ (0x4000, 0x5003)
+    inWords
+    ((0x1030, 0x2001 ∷ [])
+    ∷ (0x2100, 0x3001 ∷ 0x501 ∷ 0x9 ∷ 0x501 ∷ [])
+    -- behind a table: pages of 1 GiB
+    ∷ (0x3000, 0x4003 ∷ 0xC0000083 ∷ 0x80000083 ∷ 0x100000083 ∷ [])
     -- of 2 MiB
-    ∷ (0x4008, 0xFEE00083)
-    ∷ (0x4010, 0xFEC00083)
-    ∷ (0x4018, 0xFF000083)
+    ∷ (0x4000, 0x5003 ∷ 0xFEE00083 ∷ 0xFEC00083 ∷ 0xFF000083 ∷ [])
     -- of 4 KiB, the first without the right to write
-    ∷ (0x5000, 0xFEE00001)
-    ∷ (0x5008, 0xFEEFF003)
-    ∷ (0x5010, 0xFEDFF003)
-    ∷ (0x5018, 0xFEF00003)
-    ∷ []
+    ∷ (0x5000, 0xFEE00001 ∷ 0xFEEFF003 ∷ 0xFEDFF003 ∷ 0xFEF00003 ∷ [])
+    ∷ [])
 
 unfoldable pub frames : List ℕ
 frames = layout 0 frameWords 0x5020

@@ -1,68 +1,49 @@
--- Each way out is a line of the definition.
-use mathlib.Core.Path.{sym, _∙_}
+-- Each way out is a line of the definition, behind lines that don't decide.
+use Prim.Native.Nat.{ℕ}
+use mathlib.Core.List.{List}
+use mathlib.Core.Path.{_≡_, refl, sym, _∙_}
 use denote.Ref.{now}
 use borrow.Author.Needs.{needs}
-use Rattle.refused.proofs.Lines.{window-0, window-1, window-2, window-3, window-4, no-window}
+use Rattle.refused.specs.FirstBad.{firstBadWindow}
+use Rattle.refused.proofs.Lines.{passed, decided, secondOn, thirdOn, fourthOn, fifthOn}
 use Rattle.refused.proofs.first_bad_window.Statement.{statement}
 use Rattle.refused.proofs.first_bad_window.Tie as tie
 
+-- what is left of the definition at a place
+abbrev Left : tie.Start → (List ℕ → ℕ → ℕ) → Type 0
+Left s rest = rest (now (s .args .windows)) (s .args .run) ≡ firstBadWindow (now (s .args .windows)) (s .args .run)
+
+past-1 : (c : tie.Else1) → Left (c .before .before .before) secondOn
+unfolding firstBadWindow
+past-1 c = passed 8 (sym (c .before .bad-first .ensures) ∙ c .if1 .left) refl
+
+past-2 : (c : tie.Else2) → Left (c .before .before .before .before .before) thirdOn
+past-2 c = passed 9 (sym (c .before .bad-first2 .ensures) ∙ c .if2 .left) (past-1 (c .before .before))
+
+past-3 : (c : tie.Else3) → Left (c .before .before .before .before .before .before .before) fourthOn
+past-3 c = passed 10 (sym (c .before .bad-first3 .ensures) ∙ c .if3 .left) (past-2 (c .before .before))
+
+past-4 : (c : tie.Else4) → Left (c .before .before .before .before .before .before .before .before .before) fifthOn
+past-4 c = passed 11 (sym (c .before .bad-first4 .ensures) ∙ c .if4 .left) (past-3 (c .before .before))
+
 returns : tie.Need-returns
-returns c =
-    let s = c .before .before .before in
-    window-0 (now (s .args .windows)) (s .args .run) (sym (c .before .bad-first .ensures) ∙ c .if1 .taken)
+unfolding firstBadWindow
+returns c = decided _ (sym (c .before .bad-first .ensures) ∙ c .if1 .taken) refl
 
 returns-2 : tie.Need-returns-2
-returns-2 c =
-    let first = c .before .before in
-    let s = first .before .before .before in
-    window-1 (now (s .args .windows)) (s .args .run) (sym (first .before .bad-first .ensures) ∙ first .if1 .left)
-    (sym (c .before .bad-first2 .ensures) ∙ c .if2 .taken)
+returns-2 c = decided _ (sym (c .before .bad-first2 .ensures) ∙ c .if2 .taken) (past-1 (c .before .before))
 
 returns-3 : tie.Need-returns-3
-returns-3 c =
-    let second = c .before .before in
-    let first = second .before .before in
-    let s = first .before .before .before in
-    window-2 (now (s .args .windows)) (s .args .run) (sym (first .before .bad-first .ensures) ∙ first .if1 .left)
-    (sym (second .before .bad-first2 .ensures) ∙ second .if2 .left)
-    (sym (c .before .bad-first3 .ensures) ∙ c .if3 .taken)
+returns-3 c = decided _ (sym (c .before .bad-first3 .ensures) ∙ c .if3 .taken) (past-2 (c .before .before))
 
 returns-4 : tie.Need-returns-4
-returns-4 c =
-    let third = c .before .before in
-    let second = third .before .before in
-    let first = second .before .before in
-    let s = first .before .before .before in
-    window-3 (now (s .args .windows)) (s .args .run) (sym (first .before .bad-first .ensures) ∙ first .if1 .left)
-    (sym (second .before .bad-first2 .ensures) ∙ second .if2 .left)
-    (sym (third .before .bad-first3 .ensures) ∙ third .if3 .left)
-    (sym (c .before .bad-first4 .ensures) ∙ c .if4 .taken)
+returns-4 c = decided _ (sym (c .before .bad-first4 .ensures) ∙ c .if4 .taken) (past-3 (c .before .before))
 
 returns-5 : tie.Need-returns-5
-returns-5 c =
-    let fourth = c .before .before in
-    let third = fourth .before .before in
-    let second = third .before .before in
-    let first = second .before .before in
-    let s = first .before .before .before in
-    window-4 (now (s .args .windows)) (s .args .run) (sym (first .before .bad-first .ensures) ∙ first .if1 .left)
-    (sym (second .before .bad-first2 .ensures) ∙ second .if2 .left)
-    (sym (third .before .bad-first3 .ensures) ∙ third .if3 .left)
-    (sym (fourth .before .bad-first4 .ensures) ∙ fourth .if4 .left)
-    (sym (c .before .bad-windows .ensures) ∙ c .if5 .taken)
+returns-5 c = decided _ (sym (c .before .bad-windows .ensures) ∙ c .if5 .taken) (past-4 (c .before .before))
 
 returns-6 : tie.Need-returns-6
-returns-6 c =
-    let fourth = c .before .before in
-    let third = fourth .before .before in
-    let second = third .before .before in
-    let first = second .before .before in
-    let s = first .before .before .before in
-    no-window (now (s .args .windows)) (s .args .run) (sym (first .before .bad-first .ensures) ∙ first .if1 .left)
-    (sym (second .before .bad-first2 .ensures) ∙ second .if2 .left)
-    (sym (third .before .bad-first3 .ensures) ∙ third .if3 .left)
-    (sym (fourth .before .bad-first4 .ensures) ∙ fourth .if4 .left)
-    (sym (c .before .bad-windows .ensures) ∙ c .if5 .left)
+returns-6 c = passed 12 (sym (c .before .bad-windows .ensures) ∙ c .if5 .left) (past-4 (c .before .before))
 
 pub first-bad-window-spec : {M : Type 1} → statement M
 first-bad-window-spec =
