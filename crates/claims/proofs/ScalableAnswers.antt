@@ -151,13 +151,13 @@ module _ (r : ScalableRegisters) where
     second-step wanted n place s e =
         step-if SaysWalked n (not (readable s e || writable s e)) (done (noPage 0x79 (p .fpd))) _ refl
         (step-if SaysWalked n (pageReserved (r .base) (suc n) e) (done (noPage 0x7A (p .fpd))) _ refl
-        (step-if SaysWalked n (flagsNotSnooped r p (wanted .dirty) (suc n) e) (done (noPage 0x7C (p .fpd))) _ refl
+        (step-if SaysWalked n (flagsNotSnooped r p (wanted .write) (suc n) e) (done (noPage 0x7C (p .fpd))) _ refl
         (step-if SaysWalked n (wanted .write && not (bit e 1)) (done (noPage 0x85 (p .fpd))) _ refl
         (step-if SaysWalked n (wanted .read && not (bit e 0)) (done (noPage 0x86 (p .fpd))) _ refl (last (leafAt (suc n) e) refl)))))
       where
         last : (leaf : Bool) → leafAt (suc n) e ≡ leaf
             → StepSays SaysWalked n
-            (if leaf then done (page (inPlace e 51 12) (suc n) (writable s e) (s .flags ++ secondFlags p (wanted .dirty) place))
+            (if leaf then done (page (inPlace e 51 12) (suc n) (writable s e) (s .flags ++ secondFlags p (wanted .write) place))
             else down (inPlace e 51 12) (handedOn s e (secondFlags p false place)))
         last true h = tt
         last false h = more-levels n e h

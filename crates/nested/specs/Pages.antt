@@ -48,11 +48,11 @@ unfetched p s = fault (unfetchable (s .top)) (p .fpd)
 
 -- through the second level an entry is read, and with SLADE it counts as written, whether or not a flag of it has to be set
 abbrev pub wantedOfEntry : PasidEntry → Wanted
-wantedOfEntry p = record { read = true; write = p .slade; dirty = p .slade }
+wantedOfEntry p = record { read = true; write = p .slade }
 
 -- of a page the right that the request asks for: R for a read, W for a write
 abbrev pub wantedOfPage : (write : Bool) → Wanted
-wantedOfPage write = record { read = not write; write = write; dirty = write }
+wantedOfPage write = record { read = not write; write = write }
 
 -- what the second level says of an entry's address, and of a page's
 abbrev pub toEntry : (top : Bool) (place : ℕ) → Walked → Located Handed Pages

@@ -59,7 +59,6 @@ fn final_page(
     let wanted = Wanted {
         read: !write,
         write,
-        dirty: write,
     };
     match intermediate(
         windows,

@@ -11,6 +11,7 @@ ghost use Rattle.nested.specs.Pages.{intermediateRules, locate as locate
 ghost use Rattle.second.specs.Answers.{walkedOf, Names, Grown};
 ghost use Rattle.second.specs.Second.{Reachable};
 use dma::overflows;
+use image::first_span;
 use pasid::PasidEntry;
 use pasid::ScalableReason;
 use pasid::ScalableRegisters;
@@ -47,7 +48,9 @@ pub(crate) fn intermediate(
     if overflows(registers.base, entry.second_levels, address) {
         return Walked::Fault(ScalableReason::IntermediateOverflow, entry.fpd, last);
     }
+    let first = first_span(windows);
     second_walk(
+        first,
         windows,
         image,
         registers,
@@ -82,7 +85,6 @@ pub(crate) fn locate(
     let wanted = Wanted {
         read: true,
         write: entry.slade,
-        dirty: entry.slade,
     };
     match intermediate(
         windows,

@@ -69,8 +69,8 @@ module _ (r : ScalableRegisters) (haw : 2 ≤ r .base .haw) (p : PasidEntry) whe
       tested (not (readable s e || writable s e)) (not (readable s′ e′ || writable s′ e′)) 0x79 0x79 (p .fpd) (p .fpd) _ _
       (goes-or (readable s e) (readable s′ e′) (writable s e) (writable s′ e′) read write)
       (tested (pageReserved (r .base) level e) (pageReserved (r .base) level e′) 0x7A 0x7A (p .fpd) (p .fpd) _ _ (λ h. same-reserved up level ∙ h)
-      (tested (flagsNotSnooped r p (wanted .dirty) level e) (flagsNotSnooped r p (wanted .dirty) level e′) 0x7C 0x7C (p .fpd) (p .fpd) _ _
-      (λ h. same-snooped up (wanted .dirty) level ∙ h)
+      (tested (flagsNotSnooped r p (wanted .write) level e) (flagsNotSnooped r p (wanted .write) level e′) 0x7C 0x7C (p .fpd) (p .fpd) _ _
+      (λ h. same-snooped up (wanted .write) level ∙ h)
       (tested (wanted .write && not (bit e 1)) (wanted .write && not (bit e′ 1)) 0x85 0x85 (p .fpd) (p .fpd) _ _
       (lacking (wanted .write) (bit e 1) (bit e′ 1) (goes-write up))
       (tested (wanted .read && not (bit e 0)) (wanted .read && not (bit e′ 0)) 0x86 0x86 (p .fpd) (p .fpd) _ _
@@ -82,11 +82,11 @@ module _ (r : ScalableRegisters) (haw : 2 ≤ r .base .haw) (p : PasidEntry) whe
 
       by : (leaf : Bool) → Goes (readable s e) (readable s′ e′) → Goes (writable s e) (writable s′ e′)
           → Stepped
-          (if leaf then done (page (inPlace e 51 12) level (writable s e) (s .flags ++ secondFlags p (wanted .dirty) place))
+          (if leaf then done (page (inPlace e 51 12) level (writable s e) (s .flags ++ secondFlags p (wanted .write) place))
           else down (inPlace e 51 12) (handedOn s e (secondFlags p false place)))
-          (if leaf then done (page (inPlace e′ 51 12) level (writable s′ e′) (s′ .flags ++ secondFlags p (wanted .dirty) place))
+          (if leaf then done (page (inPlace e′ 51 12) level (writable s′ e′) (s′ .flags ++ secondFlags p (wanted .write) place))
           else down (inPlace e′ 51 12) (handedOn s′ e′ (secondFlags p false place)))
-      by true read write = (frames, refl, write, ap (λ (l : List ℕ). l ++ secondFlags p (wanted .dirty) place) (held .2), omega arith)
+      by true read write = (frames, refl, write, ap (λ (l : List ℕ). l ++ secondFlags p (wanted .write) place) (held .2), omega arith)
       by false read write = (frames, omega arith, (read, write, ap (λ (l : List ℕ). l ++ secondFlags p false place) (held .2)))
 
   pub second-kept : (wanted : Wanted) (address level table : ℕ) (flags flags′ : List ℕ) → table % 8 ≡ 0 → flags ≡ flags′

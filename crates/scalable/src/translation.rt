@@ -15,6 +15,7 @@ use crate::lookup::PasidLookup;
 use crate::lookup::find_pasid_entry;
 use dma::overflows;
 use first::not_canonical;
+use image::first_span;
 use nested::Asked;
 use nested::Pages;
 use nested::walk_pages;
@@ -57,9 +58,10 @@ fn second_pages(
     let wanted = Wanted {
         read: !write,
         write,
-        dirty: write,
     };
+    let first = first_span(windows);
     let walked = second_walk(
+        first,
         windows,
         image,
         registers,

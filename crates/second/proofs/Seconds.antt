@@ -56,10 +56,10 @@ module _ (r : ScalableRegisters) (p : PasidEntry) (wanted : Wanted) where
   leads level place above e {next} {t} h =
       let h1 = past (not (readable above e || writable above e)) (fault 0x79 (p .fpd)) _ h in
       let h2 = past (pageReserved (r .base) level e) (fault 0x7A (p .fpd)) _ (h1 .1) in
-      let h3 = past (flagsNotSnooped r p (wanted .dirty) level e) (fault 0x7C (p .fpd)) _ (h2 .1) in
+      let h3 = past (flagsNotSnooped r p (wanted .write) level e) (fault 0x7C (p .fpd)) _ (h2 .1) in
       let h4 = past (wanted .write && not (bit e 1)) (fault 0x85 (p .fpd)) _ (h3 .1) in
       let h5 = past (wanted .read && not (bit e 0)) (fault 0x86 (p .fpd)) _ (h4 .1) in
-      let h6 = past (leafAt level e) (page (inPlace e 51 12) level (writable above e) (above .flags ++ secondFlags p (wanted .dirty) place)) _ (h5 .1) in
+      let h6 = past (leafAt level e) (page (inPlace e 51 12) level (writable above e) (above .flags ++ secondFlags p (wanted .write) place)) _ (h5 .1) in
       let same : down next t ≡ down (inPlace e 51 12) (handedOn above e (secondFlags p false place)) = h6 .1 in
       (cc, h6 .0)
 

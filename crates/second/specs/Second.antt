@@ -63,10 +63,10 @@ module _ (r : ScalableRegisters) (p : PasidEntry) (wanted : Wanted) where
   secondStep level place above e =
       if not (readable above e || writable above e) then done (fault 0x79 (p .fpd))
       else if pageReserved (r .base) level e then done (fault 0x7A (p .fpd))
-      else if flagsNotSnooped r p (wanted .dirty) level e then done (fault 0x7C (p .fpd))
+      else if flagsNotSnooped r p (wanted .write) level e then done (fault 0x7C (p .fpd))
       else if wanted .write && not (bit e 1) then done (fault 0x85 (p .fpd))
       else if wanted .read && not (bit e 0) then done (fault 0x86 (p .fpd))
-      else if leafAt level e then done (page (inPlace e 51 12) level (writable above e) (above .flags ++ secondFlags p (wanted .dirty) place))
+      else if leafAt level e then done (page (inPlace e 51 12) level (writable above e) (above .flags ++ secondFlags p (wanted .write) place))
       else down (inPlace e 51 12) (handedOn above e (secondFlags p false place))
 
   -- an entry that can't be fetched: 7Bh the top one, 78h any other

@@ -24,7 +24,7 @@ use pasid::ScalableReason;
 use pasid::ScalableRegisters;
 use registers::Page4K;
 
-// What an entry is handed by those above it: whether there are any, their joined rights, and how many flags are collected.
+// What an entry is handed by those above it: whether there are none, their joined rights, and how many flags are collected.
 pub struct Above {
     pub top: bool,
     pub read: bool,
@@ -32,11 +32,10 @@ pub struct Above {
     pub count: usize,
 }
 
-// What a walk is for: which rights it needs, and whether its page is to be written.
+// The rights that a walk needs. Where it needs W, its page is to be written.
 pub struct Wanted {
     pub read: bool,
     pub write: bool,
-    pub dirty: bool,
 }
 
 pub enum SecondStep {
@@ -117,7 +116,7 @@ fn second_step(
     if page_reserved(registers.base, level, e) {
         return SecondStep::Fault(ScalableReason::SecondLevelReserved, entry.fpd, at);
     }
-    if flags_not_snooped(registers, entry, wanted.dirty, level, e) {
+    if flags_not_snooped(registers, entry, wanted.write, level, e) {
         return SecondStep::Fault(ScalableReason::FlagsNotSnooped, entry.fpd, at);
     }
     if wanted.write & !writable {
@@ -128,7 +127,7 @@ fn second_step(
     }
     let frame = in_place(e, 51, 12);
     if is_leaf(level, e) {
-        let n = collect(entry, wanted.dirty, at, flags, above.count);
+        let n = collect(entry, wanted.write, at, flags, above.count);
         return SecondStep::Page(frame, level, write, n);
     }
     let n = collect(entry, false, at, flags, above.count);

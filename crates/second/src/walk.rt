@@ -1,18 +1,18 @@
 // The second-level walk, from the top level down.
-ghost use mathlib.Core.Bool.{false};
 ghost use mathlib.Core.Path.{_≡_};
 ghost use lib.ListN.{length, take};
 ghost use Prim.Native.Nat.{_+_, _%_, _^_, _<_, _≤_};
 ghost use Rattle.image.specs.Place.{Place, lastTried};
 ghost use Rattle.image.specs.Rules.{run};
-ghost use Rattle.image.specs.Windows.{ofWindows, badWindows};
+ghost use Rattle.image.specs.Spans.{Opened};
+ghost use Rattle.image.specs.Windows.{ofWindows};
 ghost use Rattle.second.specs.Answers.{walkedOf, Names, Grown};
 ghost use Rattle.second.specs.Second.{Reachable, atTop, secondRules};
 use crate::step::Above;
 use crate::step::SecondStep;
 use crate::step::Wanted;
 use crate::step::second_entry;
-use image::first_span;
+use image::Span;
 use pasid::PasidEntry;
 use pasid::ScalableReason;
 use pasid::ScalableRegisters;
@@ -26,6 +26,7 @@ pub enum Walked {
 
 // The flags are collected behind those that the buffer has already.
 pub fn second_walk(
+    first: Span,
     windows: &[u64],
     image: &[u8],
     registers: ScalableRegisters,
@@ -35,15 +36,14 @@ pub fn second_walk(
     flags: &mut [u64],
     count: usize,
 ) -> Walked
-    requires { ⌜ (badWindows (now windows) (length (now image)) ≡ false) × (0 < entry .«second_levels») × (entry .«second_levels» ≤ 5) × (entry .«second_top» % 4096 ≡ 0) × (entry .«second_top» < 2 ^ 52) × (count + entry .«second_levels» + 1 ≤ length (now flags)) ⌝ }
+    requires { ⌜ Opened first (now windows) (length (now image)) × (0 < entry .«second_levels») × (entry .«second_levels» ≤ 5) × (entry .«second_top» % 4096 ≡ 0) × (entry .«second_top» < 2 ^ 52) × (count + entry .«second_levels» + 1 ≤ length (now flags)) ⌝ }
     ensures { λ r. ⌜ walkedOf r (now (flags .exit)) ≡ run (secondRules registers entry wanted address (entry .«second_levels») (entry .«second_top») (atTop (take count (now (flags .entry))))) (ofWindows (now (windows .entry)) (now (image .entry))) ⌝ }
     ensures { λ r. ⌜ ((before : Place) → Names r (lastTried before (secondRules registers entry wanted address (entry .«second_levels») (entry .«second_top») (atTop (take count (now (flags .entry))))) (ofWindows (now (windows .entry)) (now (image .entry))))) ⌝ }
     ensures { λ r. ⌜ Reachable (walkedOf r (now (flags .exit))) ⌝ }
     ensures { λ r. ⌜ Grown r count (count + entry .«second_levels» + 1) ⌝ }
 {
-    let first = first_span(windows);
     let mut level = entry.second_levels;
-    let mut at = entry.second_top;
+    let mut table = entry.second_top;
     let mut top = true;
     let mut read = true;
     let mut write = true;
@@ -64,7 +64,7 @@ pub fn second_walk(
             wanted,
             address,
             level - 1,
-            at,
+            table,
             above,
             flags,
         );
@@ -72,7 +72,7 @@ pub fn second_walk(
             SecondStep::Page(frame, of, writable, n) => return Walked::Page(frame, of, writable, n),
             SecondStep::Fault(reason, fpd, place) => return Walked::Fault(reason, fpd, place),
             SecondStep::Down(next, r, w, n) => {
-                at = next;
+                table = next;
                 top = false;
                 read = r;
                 write = w;
@@ -82,5 +82,5 @@ pub fn second_walk(
         }
     }
     // No step leads below level 1.
-    Walked::Fault(ScalableReason::SecondLevelAccess, entry.fpd, at)
+    Walked::Fault(ScalableReason::SecondLevelAccess, entry.fpd, table)
 }

@@ -2,11 +2,12 @@ use Prim.Native.Nat.{ℕ, _+_, _%_, _^_, _<_, _≤_}
 use mathlib.Core.List.{List, []}
 use mathlib.Core.Path.{_≡_, refl, ap, sym, _∙_, subst}
 use native.Mathlib.Omega.{arith}
-use lib.ListN.{take}
+use lib.ListN.{length, take}
 use Rattle.image.specs.Memory.{Memory}
 use Rattle.image.specs.Place.{entryAt, lastTried}
 use Rattle.image.specs.Rules.{Rules, run}
 use Rattle.image.specs.Windows.{ofWindows}
+use Rattle.image.proofs.GoodWindows.{three-each}
 use Rattle.image.proofs.Places.{tried-map}
 use Rattle.image.proofs.Trees.{run-map}
 use Rattle.second.specs.Answers.{walkedOf, Names, Grown}
@@ -27,7 +28,7 @@ walk s =
 
 -- the buffer after the walk
 abbrev after : tie.After-second-walk → List ℕ
-after k = k .second-walk .last .1 .1 .1 .1 .1 .1 .0
+after k = k .second-walk .last .1 .1 .1 .1 .1 .1 .1 .0
 
 overflows-requires : tie.Need-overflows-requires
 overflows-requires c κs = c .before .before .before .pre .1 .1
@@ -36,11 +37,16 @@ returns : tie.Need-returns
 unfolding secondPages run lastTried
 returns c = (rw (← c .before .overflows .ensures, c .if1 .taken), (rw (← c .before .overflows .ensures, c .if1 .taken), (tt, tt)))
 
+first-span-requires : tie.Need-first-span-requires
+first-span-requires c κs =
+    let s = c .before .before .before .before .before in
+    three-each (s .args .windows .now) (length (s .args .image .now)) (s .pre .0) .1
+
 second-walk-requires : tie.Need-second-walk-requires
 second-walk-requires c κs =
-    let s = c .before .before .before .before .before .before in
+    let s = c .before .before .before .before .before .before .before in
     let w = s .pre .1 in
-    (s .pre .0, w .0, w .1, w .2, w .3, omega (arith, w .1, s .pre .2))
+    ((s .pre .0, c .before .first-span .ensures), w .0, w .1, w .2, w .3, omega (arith, w .1, s .pre .2))
 
 reach : (c : tie.After-known-told) → let n = c .before .walked .given .0 in
     (n .0 < 2 ^ 52) × (0 < n .1 .0) × (n .1 .0 ≤ 3) × (n .0 % 4096 ≡ 0)
@@ -56,7 +62,7 @@ unfolding secondPages
 returns-2 c =
     let w = c .before .before in
     let k = w .before .before .before .before in
-    let e = k .before .before in
+    let e = k .before .before .before in
     let s = e .before .before .before .before .before in
     let n = w .walked .given .0 in
     let told = sym (ap (λ r. walkedOf r (after k)) (w .walked .given .1)) ∙ k .second-walk .ensures .0 in
@@ -75,7 +81,7 @@ unfolding secondPages
 returns-3 c =
     let w = c .before in
     let k = w .before .before .before .before in
-    let e = k .before .before in
+    let e = k .before .before .before in
     let s = e .before .before .before .before .before in
     let told = sym (ap (λ r. walkedOf r (after k)) (w .walked2 .given .1)) ∙ k .second-walk .ensures .0 in
     let there = subst (λ r. Names r (lastTried (entryAt (s .args .at)) (walk s) (memory s))) (w .walked2 .given .1) (k .second-walk .ensures .1 .0 (entryAt (s .args .at))) in (
@@ -94,6 +100,7 @@ second-pages-spec =
     (tie.spec
     overflows-requires
     returns
+    first-span-requires
     second-walk-requires
     (λ c. search needs)
     host-address-requires

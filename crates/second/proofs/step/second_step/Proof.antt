@@ -40,7 +40,7 @@ returns-6 c =
                 (sym (t .before .is-leaf .ensures) ∙ t .if6 .taken),
             rw (t .before .before .in-place .ensures) (omega arith),
           ),
-          (k .1 .0, at-most-two (a .above .count) _ (a .wanted .dirty) (k .1 .1)),
+          (k .1 .0, at-most-two (a .above .count) _ (a .wanted .write) (k .1 .1)),
         ),
       ),
     )

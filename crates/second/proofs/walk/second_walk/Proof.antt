@@ -8,7 +8,6 @@ use Rattle.image.specs.Memory.{Memory}
 use Rattle.image.specs.Place.{Place, entryAt, lastTried}
 use Rattle.image.specs.Rules.{run}
 use Rattle.image.specs.Windows.{ofWindows}
-use Rattle.image.proofs.GoodWindows.{three-each}
 use Rattle.dma.specs.Walk.{placeIn}
 use Rattle.second.specs.Answers.{stepPlace, StepReachable, StepGrown}
 use Rattle.second.specs.Second.{Handed, atTop, secondRules}
@@ -18,34 +17,29 @@ use Rattle.second.proofs.walk.second_walk.Statement.{statement}
 use Rattle.second.proofs.walk.second_walk.Tie as tie
 
 abbrev Inv-loop : tie.InvT-loop
-Inv-loop windows image registers entry wanted address flags₀ count₀ first level₀ at₀ top₀ read₀ write₀ n₀ flags level at top read write n =
+Inv-loop first windows image registers entry wanted address flags₀ count₀ level₀ table₀ top₀ read₀ write₀ n₀ flags level table top read write n =
     (0 < level)
     × (level ≤ 5)
-    × (at % 4096 ≡ 0)
-    × (at < 2 ^ 52)
+    × (table % 4096 ≡ 0)
+    × (table < 2 ^ 52)
     × (count₀ ≤ n)
     × (n + level ≤ count₀ + entry .«second_levels»)
     × (length flags ≡ length flags₀)
-    × (run (secondRules registers entry wanted address level at (record { top = top; read = read; write = write; flags = take n flags })) (ofWindows windows image)
+    × (run (secondRules registers entry wanted address level table (record { top = top; read = read; write = write; flags = take n flags })) (ofWindows windows image)
     ≡ run (secondRules registers entry wanted address (entry .«second_levels») (entry .«second_top») (atTop (take count₀ flags₀))) (ofWindows windows image))
     × ((before before′ : Place)
-    → lastTried before (secondRules registers entry wanted address level at (record { top = top; read = read; write = write; flags = take n flags })) (ofWindows windows image)
+    → lastTried before (secondRules registers entry wanted address level table (record { top = top; read = read; write = write; flags = take n flags })) (ofWindows windows image)
     ≡ lastTried before′ (secondRules registers entry wanted address (entry .«second_levels») (entry .«second_top») (atTop (take count₀ flags₀))) (ofWindows windows image))
 
 abbrev μ-loop : tie.MeasureT-loop
-μ-loop windows image registers entry wanted address flags₀ count₀ first level₀ at₀ top₀ read₀ write₀ n₀ flags level at top read write n = level
+μ-loop first windows image registers entry wanted address flags₀ count₀ level₀ table₀ top₀ read₀ write₀ n₀ flags level table top read write n = level
 
 abbrev memory : tie.Start Inv-loop μ-loop → Memory
 memory s = ofWindows (s .args .windows .now) (s .args .image .now)
 
-first-span-requires : tie.Need-first-span-requires Inv-loop μ-loop
-first-span-requires c κs =
-    let s = c .before .before .before in
-    three-each (s .args .windows .now) (length (s .args .image .now)) (s .pre .0) .1
-
 loop-holds : tie.Need-loop-holds Inv-loop μ-loop
 loop-holds c =
-    let s = c .before .before .before .before in
+    let s = c .before .before .before in
     let a = s .args in
     let p = s .pre in (
       p .1,
@@ -62,9 +56,8 @@ loop-holds c =
 second-entry-requires : tie.Need-second-entry-requires Inv-loop μ-loop
 second-entry-requires c κs =
     let l = c .before .before .loop in
-    let f = c .before .before .before in
-    let p = f .before .before .before .before .pre in
-    ((p .0, f .first-span .ensures), omega (arith, l .inv .1), l .inv .2, l .inv .3, omega (arith, l .inv .0, l .inv .5, l .inv .6, p .5))
+    let p = c .before .before .before .before .before .before .pre in
+    (p .0, omega (arith, l .inv .1), l .inv .2, l .inv .3, omega (arith, l .inv .0, l .inv .5, l .inv .6, p .5))
 
 -- the buffer after a turn
 abbrev after : tie.After-second-entry Inv-loop μ-loop → List ℕ
@@ -73,7 +66,7 @@ after k = k .second-entry .last .1 .1 .1 .1 .1 .1 .1 .1 .1 .1 .0
 -- a turn of the loop
 module _ (i : tie.In-loop Inv-loop μ-loop) where
   abbrev s : tie.Start Inv-loop μ-loop
-  s = i .before .before .before .before .before .before
+  s = i .before .before .before .before .before
 
   abbrev handed : Handed
   handed =
@@ -88,7 +81,7 @@ returns c =
     let a = s i .args in
     let is = told (after k) (c .before .step .given .1) (k .second-entry .ensures .0) in
     let grown = subst (λ r. StepGrown r (l .count)) (c .before .step .given .1) (k .second-entry .ensures .1 .1 .1) in (
-      ended (a .registers) (a .entry) (a .wanted) (a .address) (memory (s i)) (l .level) (l .at) (handed i) (l .inv .0) is ∙ l .inv .7,
+      ended (a .registers) (a .entry) (a .wanted) (a .address) (memory (s i)) (l .level) (l .table) (handed i) (l .inv .0) is ∙ l .inv .7,
       (λ before. refl, (subst StepReachable (c .before .step .given .1) (k .second-entry .ensures .1 .1 .0), (omega (arith, grown .0, l .inv .4), omega (arith, grown .1, l .inv .5, l .inv .0)))),
     )
 
@@ -99,11 +92,11 @@ returns-2 c =
     let l = i .before .loop in
     let a = s i .args in
     let is = told (after k) (c .before .step2 .given .1) (k .second-entry .ensures .0) in
-    let there = sym (ap (λ r. stepPlace r (entryAt (placeIn (a .address) (l .at) (l .level - 1)))) (c .before .step2 .given .1)) ∙ k .second-entry .ensures .1 .0 in (
-      ended (a .registers) (a .entry) (a .wanted) (a .address) (memory (s i)) (l .level) (l .at) (handed i) (l .inv .0) is ∙ l .inv .7,
+    let there = sym (ap (λ r. stepPlace r (entryAt (placeIn (a .address) (l .table) (l .level - 1)))) (c .before .step2 .given .1)) ∙ k .second-entry .ensures .1 .0 in (
+      ended (a .registers) (a .entry) (a .wanted) (a .address) (memory (s i)) (l .level) (l .table) (handed i) (l .inv .0) is ∙ l .inv .7,
       (
         λ before.
-            there ∙ sym (ended-at (a .registers) (a .entry) (a .wanted) (a .address) (memory (s i)) (l .level) (l .at) (handed i) (l .inv .0) before is)
+            there ∙ sym (ended-at (a .registers) (a .entry) (a .wanted) (a .address) (memory (s i)) (l .level) (l .table) (handed i) (l .inv .0) before is)
             ∙ l .inv .8 before before,
         (tt, tt),
       ),
@@ -117,7 +110,7 @@ loop-again c =
     let a = s i .args in
     let is = told (after k) (c .before .step3 .given .1) (k .second-entry .ensures .0) in
     let grown = subst (λ r. StepGrown r (l .count)) (c .before .step3 .given .1) (k .second-entry .ensures .1 .1 .1) in
-    let next = down-to (a .registers) (a .entry) (a .wanted) (a .address) (memory (s i)) (l .level - 1) (l .at) (handed i) is in (
+    let next = down-to (a .registers) (a .entry) (a .wanted) (a .address) (memory (s i)) (l .level - 1) (l .table) (handed i) is in (
       next .2,
       omega (arith, l .inv .1),
       next .0,
@@ -125,10 +118,10 @@ loop-again c =
       omega (arith, grown .0, l .inv .4),
       omega (arith, grown .1, l .inv .5, l .inv .0),
       c .before .before .before .before .flags .given ∙ l .inv .6,
-      led (a .registers) (a .entry) (a .wanted) (a .address) (memory (s i)) (l .level) (l .at) (handed i) (l .inv .0) is ∙ l .inv .7,
+      led (a .registers) (a .entry) (a .wanted) (a .address) (memory (s i)) (l .level) (l .table) (handed i) (l .inv .0) is ∙ l .inv .7,
       λ before before′.
           anew (a .registers) (a .entry) (a .wanted) (a .address) (memory (s i)) (l .level - 1) _ _ (next .2) before _
-          ∙ sym (led-at (a .registers) (a .entry) (a .wanted) (a .address) (memory (s i)) (l .level) (l .at) (handed i) (l .inv .0) before is)
+          ∙ sym (led-at (a .registers) (a .entry) (a .wanted) (a .address) (memory (s i)) (l .level) (l .table) (handed i) (l .inv .0) before is)
           ∙ l .inv .8 before before′,
     )
 
@@ -168,7 +161,6 @@ second-walk-spec =
     (tie.spec
     Inv-loop
     μ-loop
-    first-span-requires
     loop-holds
     sub-second-entry
     second-entry-requires
