@@ -2,7 +2,7 @@
 use mathlib.Core.Path.{_≡_, refl, sym, _∙_, ap, subst}
 use Prim.Native.Nat.{ℕ, suc, _+_, _*_, _<_, _^_}
 use native.Mathlib.Nat.{lt-irrefl}
-use mathlib.Core.Bool.{Bool, true, false, cond, _&&_}
+use mathlib.Core.Bool.{Bool, true, false, cond, _&&_, and-true}
 use mathlib.Core.List.{List, [], _∷_}
 use lib.ListN.{length, getD, set}
 use lib.Dec.{ltb, eqb, lt→ltb, ltb→lt, lit<}
@@ -75,10 +75,6 @@ use Rattle.meter.proofs.row.tick_row as it
 use Rattle.meter.proofs.row.tick_row.Statement as stated
 use Rattle.meter.proofs.row.tick_row.Code as code
 use Rattle.meter.proofs.row.tick_row.Code.Mir as Mir
-
-and-true : (t : Bool) → (t && true) ≡ t
-and-true true = refl
-and-true false = refl
 
 abbrev stayed : Stays (it.ended .signature .params) (it.ended .kept)
 stayed = (stay-slice (0 ∷ []) tt (plain (λ _. T.the-row)), (stay-none-slice (1 ∷ []) tt (plain (λ _. u32)) yes, (stay-slice (2 ∷ []) tt (plain (λ _. u8)), tt)))
@@ -242,6 +238,11 @@ module _ {M : Type 1} (𝓤 : URA M) (H : Heap 𝓤) (A : Atoms 𝓤) (W : Given
     abbrev Returned : Out → SProp 𝓤
     Returned = afterBlock 𝓤 H (afterSeq 𝓤 H (Wp 𝓤 H C Λ En Mir.t-11 (atReturn 𝓤 H En Post)) (atReturn 𝓤 H En Post))
 
+    -- a row's offsets, and the next place
+    sums : (i : ℕ) → (i < length ms) × (i < length cs) × (i < length bs) → (i * 32 < 2 ^ 64) × (i * 4 < 2 ^ 64) × (i + 1 < 2 ^ 64)
+    sums i places =
+        (scaled-32 i (length ms) (places .0) (g₀ .1), scaled-4 i (length cs) (places .1) (g₁ .1), next-fits i (length ms) (places .0) (g₀ .0))
+
     ticks-one : (i : ℕ) (X : SProp 𝓤) → i < end ms cs bs → ent 𝓤 (⋆ 𝓤 H A (Ticking (suc i))) X → ent 𝓤 (⋆ 𝓤 H A (Ticking i)) (Wp 𝓤 H C Λ En Mir.turn-2 (afterTurn 𝓤 H X Returned))
     unfolding afterTurn
     ticks-one i X small k =
@@ -249,13 +250,13 @@ module _ {M : Type 1} (𝓤 : URA M) (H : Heap 𝓤) (A : Atoms 𝓤) (W : Given
         assigns ! (bin ! (load ! (from ! (stop !)) (look ! 4 refl)) (load ! (from ! (stop !)) (look ! 5 refl)) tt) (from ! (stop !)) (init ! 21 refl (tt, tt)) $
         rewrite ! 21 (λ (t : Bool). ‵ (fat fullShare tyBool l₁₈ 0 (vbool t))) (is-true (ltb i (end ms cs bs)) (lt→ltb i (end ms cs bs) small)) refl $
         stays ! (load ! (from ! (stop !)) (look ! 21 refl)) $
-        assigns ! (bin ! (load ! (from ! (stop !)) (look ! 4 refl)) (lit ! tt) (record { fits = times-32 })) (from ! (stop !)) (init ! 22 refl (tt, record { fits = times-32 })) $
+        assigns ! (bin ! (load ! (from ! (stop !)) (look ! 4 refl)) (lit ! tt) (record { fits = sums i places .0 })) (from ! (stop !)) (init ! 22 refl (tt, record { fits = sums i places .0 })) $
         assigns ! (bin ! (load ! (from ! (fld ! refl (stop !))) (look-in ! 6 (sub ! 0 refl (whole !)))) (load ! (from ! (stop !)) (look ! 22 refl)) tt) (from ! (stop !)) (init ! 23 refl (tt, tt)) $
         rewrite ! 23 (λ (p : ℕ). ‵ (fat fullShare tyPtr l₂₀ 0 (vptr b₀ p))) (sym (place-is 32 o₀ i)) refl $
         elem-out ! T.the-row (Is T.the-row) (shows 𝓤 H A T.the-row) t-vals (LL.tells T.the-type T′.the-laws) fullShare xs i none b₀ o₀ within (λ was.
         assigns ! (of-opd ! (load ! (from ! (hop ! (look ! 25 refl) (stop !))) (look-raw ! 0 refl))) (from ! (stop !)) (init ! 26 refl (LL.lawful T.the-type T′.the-laws 𝓤 H A W .typed (getD xs i none) _ was .0)) $
         elem-back ! T.the-row fullShare xs i none (t-vals (getD xs i none)) b₀ o₀ within $
-        assigns ! (bin ! (load ! (from ! (stop !)) (look ! 4 refl)) (lit ! tt) (record { fits = times-4 })) (from ! (stop !)) (init ! 25 refl (tt, record { fits = times-4 })) $
+        assigns ! (bin ! (load ! (from ! (stop !)) (look ! 4 refl)) (lit ! tt) (record { fits = sums i places .1 })) (from ! (stop !)) (init ! 25 refl (tt, record { fits = sums i places .1 })) $
         assigns ! (bin ! (load ! (from ! (fld ! refl (stop !))) (look-in ! 7 (sub ! 0 refl (whole !)))) (load ! (from ! (stop !)) (look ! 25 refl)) tt) (from ! (stop !)) (init ! 26 refl (tt, tt)) $
         rewrite ! 26 (λ (p : ℕ). ‵ (fat fullShare tyPtr l₂₃ 0 (vptr b₁ p))) (sym (place-is 4 o₁ i)) refl $ move ! (1 ∷ []) $
         elem-out ! u32 (Is u32) (shows 𝓤 H A u32) (uint-vals w32) (uint-tells w32) q′ cs i 0 b₁ o₁ (places .1) (λ few.
@@ -268,7 +269,7 @@ module _ {M : Type 1} (𝓤 : URA M) (H : Heap 𝓤) (A : Atoms 𝓤) (W : Given
         land ! (from ! (stop !)) (init ! 11 refl (LL.lawful T.the-type T′.the-laws 𝓤 H A W .typed r _ is .0)) $
         rewrite ! 11 (λ (u : Val). ‵ (fat fullShare T′.mir l₈ 0 u)) (ap only (LL.tells T.the-type T′.the-laws r _ is)) refl $
         -- and put back
-        assigns ! (bin ! (load ! (from ! (stop !)) (look ! 4 refl)) (lit ! tt) (record { fits = times-32 })) (from ! (stop !)) (store ! 22 refl (tt, record { fits = times-32 })) $
+        assigns ! (bin ! (load ! (from ! (stop !)) (look ! 4 refl)) (lit ! tt) (record { fits = sums i places .0 })) (from ! (stop !)) (store ! 22 refl (tt, record { fits = sums i places .0 })) $
         assigns ! (bin ! (load ! (from ! (fld ! refl (stop !))) (look-in ! 6 (sub ! 0 refl (whole !)))) (load ! (from ! (stop !)) (look ! 22 refl)) tt) (from ! (stop !)) (init ! 28 refl (tt, tt)) $
         rewrite ! 28 (λ (p : ℕ). ‵ (fat fullShare tyPtr l₂₅ 0 (vptr b₀ p))) (sym (place-is 32 o₀ i)) refl $
         elem-out ! T.the-row (Is T.the-row) (shows 𝓤 H A T.the-row) t-vals (LL.tells T.the-type T′.the-laws) fullShare xs i none b₀ o₀ within (λ _.
@@ -287,7 +288,7 @@ module _ {M : Type 1} (𝓤 : URA M) (H : Heap 𝓤) (A : Atoms 𝓤) (W : Given
         assigns ! (of-opd ! (load ! (from ! (stop !)) (look ! 31 refl))) (from ! (hop ! (look ! 32 refl) (stop !))) (store ! 0 refl (tt, record { fits = at-n .1 })) $
         move ! (1 ∷ []) $ drop ! $ owned ! u8 (Is u8) (uint-makes 𝓤 H A W w8) n _ (refl, at-n .1) $ move ! (1 ∷ 0 ∷ []) $
         elem-put ! u8 fullShare ys i n (vint w8 n ∷ []) b₂ o₂ marked-within $ move ! (1 ∷ 2 ∷ []) $
-        assigns-last ! (bin ! (load ! (from ! (stop !)) (look ! 4 refl)) (lit ! tt) (record { fits = one-fits })) (from ! (stop !)) (store ! 4 refl (tt, record { fits = one-fits })) $
+        assigns-last ! (bin ! (load ! (from ! (stop !)) (look ! 4 refl)) (lit ! tt) (record { fits = sums i places .2 })) (from ! (stop !)) (store ! 4 refl (tt, record { fits = sums i places .2 })) $
         forget ! 11 refl $ forget ! 21 refl $ forget ! 22 refl $ forget ! 23 refl $ forget ! 24 refl $ forget ! 25 refl $ forget ! 26 refl $ forget ! 27 refl $ forget ! 28 refl $ forget ! 29 refl $ forget ! 30 refl $
         rewrite ! 4 (λ (j : ℕ). ‵ (fat fullShare word l₇ 0 (vint w64 j))) (one-more i) refl $
         rewrite ! 0 (λ (zs : List Meter). ‵ (row T.the-row fullShare zs b₀ o₀)) (ap (set xs i) e ∙ steps-next i ms cs none (places .0) (places .1)) refl $
@@ -304,15 +305,6 @@ module _ {M : Type 1} (𝓤 : URA M) (H : Heap 𝓤) (A : Atoms 𝓤) (W : Given
 
         places : (i < length ms) × (i < length cs) × (i < length bs)
         places = inside ms cs bs (fine ms cs bs) i small (λ e. both-true (even ms cs bs) _ e .0)
-
-        times-32 : i * 32 < 2 ^ 64
-        times-32 = scaled-32 i (length ms) (places .0) (g₀ .1)
-
-        times-4 : i * 4 < 2 ^ 64
-        times-4 = scaled-4 i (length cs) (places .1) (g₁ .1)
-
-        one-fits : i + 1 < 2 ^ 64
-        one-fits = next-fits i (length ms) (places .0) (g₀ .0)
 
         within : i < length xs
         within = subst (λ (j : ℕ). i < j) (sym (steps-length i ms cs)) (places .0)
@@ -359,13 +351,13 @@ module _ {M : Type 1} (𝓤 : URA M) (H : Heap 𝓤) (A : Atoms 𝓤) (W : Given
         assigns ! (bin ! (load ! (from ! (stop !)) (look ! 4 refl)) (load ! (from ! (stop !)) (look ! 5 refl)) tt) (from ! (stop !)) (init ! 14 refl (tt, tt)) $
         rewrite ! 14 (λ (t : Bool). ‵ (fat fullShare tyBool l₁₁ 0 (vbool t))) (is-true (ltb i (span ms cs bs)) (lt→ltb i (span ms cs bs) small)) refl $
         stays ! (load ! (from ! (stop !)) (look ! 14 refl)) $
-        assigns ! (bin ! (load ! (from ! (stop !)) (look ! 4 refl)) (lit ! tt) (record { fits = times-32 })) (from ! (stop !)) (init ! 15 refl (tt, record { fits = times-32 })) $
+        assigns ! (bin ! (load ! (from ! (stop !)) (look ! 4 refl)) (lit ! tt) (record { fits = sums i places .0 })) (from ! (stop !)) (init ! 15 refl (tt, record { fits = sums i places .0 })) $
         assigns ! (bin ! (load ! (from ! (fld ! refl (stop !))) (look-in ! 6 (sub ! 0 refl (whole !)))) (load ! (from ! (stop !)) (look ! 15 refl)) tt) (from ! (stop !)) (init ! 16 refl (tt, tt)) $
         rewrite ! 16 (λ (p : ℕ). ‵ (fat fullShare tyPtr l₁₃ 0 (vptr b₀ p))) (sym (place-is 32 o₀ i)) refl $
         elem-out ! T.the-row (Is T.the-row) (shows 𝓤 H A T.the-row) t-vals (LL.tells T.the-type T′.the-laws) fullShare ms i none b₀ o₀ (places .0) (λ was.
         assigns ! (of-opd ! (load ! (from ! (hop ! (look ! 18 refl) (stop !))) (look-raw ! 0 refl))) (from ! (stop !)) (init ! 19 refl (LL.lawful T.the-type T′.the-laws 𝓤 H A W .typed (getD ms i none) _ was .0)) $
         elem-back ! T.the-row fullShare ms i none (t-vals (getD ms i none)) b₀ o₀ (places .0) $
-        assigns ! (bin ! (load ! (from ! (stop !)) (look ! 4 refl)) (lit ! tt) (record { fits = times-4 })) (from ! (stop !)) (init ! 18 refl (tt, record { fits = times-4 })) $
+        assigns ! (bin ! (load ! (from ! (stop !)) (look ! 4 refl)) (lit ! tt) (record { fits = sums i places .1 })) (from ! (stop !)) (init ! 18 refl (tt, record { fits = sums i places .1 })) $
         assigns ! (bin ! (load ! (from ! (fld ! refl (stop !))) (look-in ! 7 (sub ! 0 refl (whole !)))) (load ! (from ! (stop !)) (look ! 18 refl)) tt) (from ! (stop !)) (init ! 19 refl (tt, tt)) $
         rewrite ! 19 (λ (p : ℕ). ‵ (fat fullShare tyPtr l₁₆ 0 (vptr b₁ p))) (sym (place-is 4 o₁ i)) refl $ move ! (1 ∷ []) $
         elem-out ! u32 (Is u32) (shows 𝓤 H A u32) (uint-vals w32) (uint-tells w32) q′ cs i 0 b₁ o₁ (places .1) (λ few.
@@ -377,7 +369,7 @@ module _ {M : Type 1} (𝓤 : URA M) (H : Heap 𝓤) (A : Atoms 𝓤) (W : Given
         land ! (from ! (stop !)) (store ! 14 refl (bool-lawful 𝓤 H A W .typed r _ is .0)) $
         rewrite ! 14 (λ (u : Val). ‵ (fat fullShare tyBool l₁₁ 0 u)) (ap only (bool-tells r _ is)) refl $
         assigns ! (bin ! (load ! (from ! (stop !)) (look ! 3 refl)) (load ! (from ! (stop !)) (look ! 14 refl)) tt) (from ! (stop !)) (store ! 3 refl (tt, tt)) $
-        assigns-last ! (bin ! (load ! (from ! (stop !)) (look ! 4 refl)) (lit ! tt) (record { fits = one-fits })) (from ! (stop !)) (store ! 4 refl (tt, record { fits = one-fits })) $
+        assigns-last ! (bin ! (load ! (from ! (stop !)) (look ! 4 refl)) (lit ! tt) (record { fits = sums i places .2 })) (from ! (stop !)) (store ! 4 refl (tt, record { fits = sums i places .2 })) $
         forget ! 14 refl $ forget ! 15 refl $ forget ! 16 refl $ forget ! 17 refl $ forget ! 18 refl $ forget ! 19 refl $ forget ! 20 refl $
         rewrite ! 4 (λ (j : ℕ). ‵ (fat fullShare word l₇ 0 (vint w64 j))) (one-more i) refl $
         rewrite ! 3 (λ (t : Bool). ‵ (fat fullShare tyBool l₅ 0 (vbool t))) (ap (λ (t : Bool). good i && t) e ∙ good-next (even ms cs bs) i ms cs none (places .0) (places .1)) refl $ by ! k))))
@@ -387,15 +379,6 @@ module _ {M : Type 1} (𝓤 : URA M) (H : Heap 𝓤) (A : Atoms 𝓤) (W : Given
 
         places : (i < length ms) × (i < length cs) × (i < length bs)
         places = inside ms cs bs (even ms cs bs) i small (λ e. e)
-
-        times-32 : i * 32 < 2 ^ 64
-        times-32 = scaled-32 i (length ms) (places .0) (g₀ .1)
-
-        times-4 : i * 4 < 2 ^ 64
-        times-4 = scaled-4 i (length cs) (places .1) (g₁ .1)
-
-        one-fits : i + 1 < 2 ^ 64
-        one-fits = next-fits i (length ms) (places .0) (g₀ .0)
 
     looks-end : (X : SProp 𝓤) → ent 𝓤 (⋆ 𝓤 H A (Looking (span ms cs bs))) (Wp 𝓤 H C Λ En Mir.turn-1 (afterTurn 𝓤 H X Looked))
     unfolding afterTurn steps marks
