@@ -1,5 +1,4 @@
 // What stands at an address of a source's pages: a page, a fault or nothing, with its span. A listing is made of these.
-mod entry;
 mod known;
 mod walk;
 

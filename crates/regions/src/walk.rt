@@ -11,14 +11,15 @@ ghost use Rattle.regions.specs.Outside.{tableOutside};
 ghost use Rattle.regions.specs.Region.{ended, regionStep, regionIn};
 use crate::Region;
 use crate::What;
-use crate::entry::Step;
-use crate::entry::entry_step;
 use dma::meets_interrupt_range;
 use faults::Reason;
 use image::Held;
 use image::find_window;
+use image::first_span;
 use registers::Registers;
 use translation::Rights;
+use translation::Step;
+use translation::entry_step;
 
 // What one level makes of the walk.
 pub enum Onward {
@@ -77,7 +78,20 @@ pub fn table_step(
             rights: above,
         });
     }
-    let step = entry_step(windows, image, registers, address, level - 1, table, above);
+    let first = first_span(windows);
+    let below = level - 1;
+    // FPD plays no part in a listing.
+    let step = entry_step(
+        first,
+        windows,
+        image,
+        registers,
+        address,
+        false,
+        below,
+        table,
+        above,
+    );
     match step {
         Step::Page(frame, of, read, write) => {
             Onward::Ended(page_region(frame, of, Rights { read, write }))
@@ -90,7 +104,7 @@ pub fn table_step(
                 write: false,
             },
         }),
-        Step::Fault(reason) => Onward::Ended(Region {
+        Step::Fault(reason, _, _) => Onward::Ended(Region {
             level,
             what: What::Fault(reason),
             rights: above,

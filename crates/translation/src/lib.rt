@@ -27,6 +27,8 @@ use registers::Registers;
 use registers::SourceId;
 use registers::admit;
 use registers::in_interrupt_range;
+pub use step::Step;
+pub use step::entry_step;
 
 pub struct TranslationRequest {
     pub source: SourceId,

@@ -56,7 +56,7 @@ fn joined_step(registers: Registers, above: Rights, fpd: bool, level: u32, at: u
 }
 
 // One level of the walk: below is how many levels come after it.
-pub(crate) fn entry_step(
+pub fn entry_step(
     first: Span,
     windows: &[u64],
     image: &[u8],
