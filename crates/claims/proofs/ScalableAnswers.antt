@@ -157,8 +157,8 @@ module _ (r : ScalableRegisters) where
       where
         last : (leaf : Bool) → leafAt (suc n) e ≡ leaf
             → StepSays SaysWalked n
-            (if leaf then done (page (inPlace e 51 12) (suc n) (writable s e) (s .flags ++ secondFlags p (wanted .write) place))
-            else down (inPlace e 51 12) (handedOn s e (secondFlags p false place)))
+            (if leaf then done (page (inPlace e 51 12) (suc n) (writable s e) (s .flags ++ secondFlags p (wanted .write) place e))
+            else down (inPlace e 51 12) (handedOn s e (secondFlags p false place e)))
         last true h = tt
         last false h = more-levels n e h
 

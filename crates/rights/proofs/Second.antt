@@ -3,7 +3,7 @@
 use Prim.Native.Nat.{ℕ, _+_, _*_, _%_, _≤_}
 use mathlib.Core.Bool.{Bool, true, false, not, _&&_, _||_}
 use mathlib.Core.List.{List, _++_}
-use mathlib.Core.Path.{_≡_, refl, ap, sym, _∙_}
+use mathlib.Core.Path.{_≡_, refl, ap, ap₂, sym, _∙_}
 use native.Mathlib.Omega.{arith}
 use Rattle.image.specs.Bits.{bits, bit, inPlace}
 use Rattle.image.specs.Choice.{if_then_else_}
@@ -61,6 +61,11 @@ module _ (r : ScalableRegisters) (haw : 2 ≤ r .base .haw) (p : PasidEntry) whe
         let same = same-field e e′ (raised .other-bits) in
         rw (same 8 8 (omega arith), same 9 9 (omega arith), same 7 7 (omega arith))
 
+    same-flags : (dirty : Bool) (place : ℕ) → secondFlags p dirty place e ≡ secondFlags p dirty place e′
+    same-flags dirty place =
+        let same = same-field e e′ (raised .other-bits) in
+        rw (same 8 8 (omega arith), same 9 9 (omega arith))
+
   second-step : (wanted : Wanted) (level place : ℕ) (s s′ : Handed) (e e′ : ℕ) → HandedKept s s′ → Raised e e′
       → Stepped (secondStep r p wanted level place s e) (secondStep r p wanted level place s′ e′)
   second-step wanted level place s s′ e e′ held up =
@@ -80,14 +85,17 @@ module _ (r : ScalableRegisters) (haw : 2 ≤ r .base .haw) (p : PasidEntry) whe
       frames : inPlace e 51 12 ≡ inPlace e′ 51 12
       frames = ap (λ (n : ℕ). n * 4096) (sym (same-field e e′ (up .other-bits) 51 12 (omega arith)))
 
+      joined : (dirty : Bool) → s .flags ++ secondFlags p dirty place e ≡ s′ .flags ++ secondFlags p dirty place e′
+      joined dirty = ap₂ _++_ (held .2) (same-flags up dirty place)
+
       by : (leaf : Bool) → Goes (readable s e) (readable s′ e′) → Goes (writable s e) (writable s′ e′)
           → Stepped
-          (if leaf then done (page (inPlace e 51 12) level (writable s e) (s .flags ++ secondFlags p (wanted .write) place))
-          else down (inPlace e 51 12) (handedOn s e (secondFlags p false place)))
-          (if leaf then done (page (inPlace e′ 51 12) level (writable s′ e′) (s′ .flags ++ secondFlags p (wanted .write) place))
-          else down (inPlace e′ 51 12) (handedOn s′ e′ (secondFlags p false place)))
-      by true read write = (frames, refl, write, ap (λ (l : List ℕ). l ++ secondFlags p (wanted .write) place) (held .2), omega arith)
-      by false read write = (frames, omega arith, (read, write, ap (λ (l : List ℕ). l ++ secondFlags p false place) (held .2)))
+          (if leaf then done (page (inPlace e 51 12) level (writable s e) (s .flags ++ secondFlags p (wanted .write) place e))
+          else down (inPlace e 51 12) (handedOn s e (secondFlags p false place e)))
+          (if leaf then done (page (inPlace e′ 51 12) level (writable s′ e′) (s′ .flags ++ secondFlags p (wanted .write) place e′))
+          else down (inPlace e′ 51 12) (handedOn s′ e′ (secondFlags p false place e′)))
+      by true read write = (frames, refl, write, joined (wanted .write), omega arith)
+      by false read write = (frames, omega arith, (read, write, joined false))
 
   pub second-kept : (wanted : Wanted) (address level table : ℕ) (flags flags′ : List ℕ) → table % 8 ≡ 0 → flags ≡ flags′
       → Keeps Raised WalkedKept WalkedDead (secondRules r p wanted address level table (atTop flags))

@@ -59,8 +59,8 @@ module _ (r : ScalableRegisters) (p : PasidEntry) (wanted : Wanted) where
       let h3 = past (flagsNotSnooped r p (wanted .write) level e) (fault 0x7C (p .fpd)) _ (h2 .1) in
       let h4 = past (wanted .write && not (bit e 1)) (fault 0x85 (p .fpd)) _ (h3 .1) in
       let h5 = past (wanted .read && not (bit e 0)) (fault 0x86 (p .fpd)) _ (h4 .1) in
-      let h6 = past (leafAt level e) (page (inPlace e 51 12) level (writable above e) (above .flags ++ secondFlags p (wanted .write) place)) _ (h5 .1) in
-      let same : down next t ≡ down (inPlace e 51 12) (handedOn above e (secondFlags p false place)) = h6 .1 in
+      let h6 = past (leafAt level e) (page (inPlace e 51 12) level (writable above e) (above .flags ++ secondFlags p (wanted .write) place e)) _ (h5 .1) in
+      let same : down next t ≡ down (inPlace e 51 12) (handedOn above e (secondFlags p false place e)) = h6 .1 in
       (cc, h6 .0)
 
   module _ (address : ℕ) (m : Memory) (n table : ℕ) (above : Handed) where

@@ -47,14 +47,17 @@ writable above e = above .write && bit e 1
 abbrev pub handedOn : Handed → (e : ℕ) → (own : List ℕ) → Handed
 handedOn above e own = record { top = false; read = readable above e; write = writable above e; flags = above .flags ++ own }
 
--- the flags of an entry that is used, where SLADE is set: A, and where it is that of a page to be written D
-abbrev pub secondFlags : PasidEntry → (dirty : Bool) (place : ℕ) → List ℕ
-secondFlags p dirty place = if p .slade then flag place 8 ∷ (if dirty then flag place 9 ∷ [] else []) else []
+-- a flag that a granted request sets is still clear: A, D in the entry of a page that is written
+abbrev pub flagClear : (dirty : Bool) (e : ℕ) → Bool
+flagClear dirty e = not (bit e 8) || dirty && not (bit e 9)
 
--- a flag would have to be set, A or where the page is to be written D, and the walk isn't snooped (SMPWC or PWSNP clear)
+-- the flags of an entry that is used, where SLADE is set and one of them is still clear: setting those that are set changes nothing
+abbrev pub secondFlags : PasidEntry → (dirty : Bool) (place e : ℕ) → List ℕ
+secondFlags p dirty place e = if p .slade && flagClear dirty e then flag place 8 ∷ (if dirty then flag place 9 ∷ [] else []) else []
+
+-- a flag has to be set, and the walk isn't snooped (SMPWC or PWSNP clear)
 abbrev pub flagsNotSnooped : ScalableRegisters → PasidEntry → (dirty : Bool) (level e : ℕ) → Bool
-flagsNotSnooped r p dirty level e =
-    p .slade && not (r .smpwc && p .pwsnp) && (not (bit e 8) || leafAt level e && dirty && not (bit e 9))
+flagsNotSnooped r p dirty level e = p .slade && not (r .smpwc && p .pwsnp) && flagClear (leafAt level e && dirty) e
 
 module _ (r : ScalableRegisters) (p : PasidEntry) (wanted : Wanted) where
   -- 79h where no joined right is left, 7Ah, 7Ch, then 85h and 86h where a right that is wanted lacks, in this order. Else a page ends
@@ -66,8 +69,8 @@ module _ (r : ScalableRegisters) (p : PasidEntry) (wanted : Wanted) where
       else if flagsNotSnooped r p (wanted .write) level e then done (fault 0x7C (p .fpd))
       else if wanted .write && not (bit e 1) then done (fault 0x85 (p .fpd))
       else if wanted .read && not (bit e 0) then done (fault 0x86 (p .fpd))
-      else if leafAt level e then done (page (inPlace e 51 12) level (writable above e) (above .flags ++ secondFlags p (wanted .write) place))
-      else down (inPlace e 51 12) (handedOn above e (secondFlags p false place))
+      else if leafAt level e then done (page (inPlace e 51 12) level (writable above e) (above .flags ++ secondFlags p (wanted .write) place e))
+      else down (inPlace e 51 12) (handedOn above e (secondFlags p false place e))
 
   -- an entry that can't be fetched: 7Bh the top one, 78h any other
   abbrev pub unfetchable : Handed → Walked

@@ -10,7 +10,7 @@ ghost use Rattle.image.specs.Windows.{ofWindows};
 ghost use Rattle.dma.specs.Walk.{placeIn};
 ghost use Rattle.pasid.specs.Reason.{numberOf};
 ghost use Rattle.second.specs.Answers.{handedBy, stepOf, StepNames, StepReachable, StepGrown};
-ghost use Rattle.second.specs.Second.{flagsNotSnooped, secondFlags, secondStep, secondOver};
+ghost use Rattle.second.specs.Second.{flagClear, flagsNotSnooped, secondFlags, secondStep, secondOver};
 use dma::is_leaf;
 use dma::page_reserved;
 use flags::push;
@@ -47,6 +47,15 @@ pub enum SecondStep {
     Fault(ScalableReason, bool, u64),
 }
 
+// A flag that a granted request sets is still clear: A, D in the entry of a page that is written.
+fn flag_clear(dirty: bool, e: u64) -> bool
+    ensures { λ r. ⌜ r ≡ flagClear dirty e ⌝ }
+{
+    let accessed = field(e, 8, 8) == 1;
+    let written = field(e, 9, 9) == 1;
+    !accessed | (dirty & !written)
+}
+
 fn flags_not_snooped(
     registers: ScalableRegisters,
     entry: PasidEntry,
@@ -60,10 +69,7 @@ fn flags_not_snooped(
     if !(entry.slade & !(registers.smpwc & entry.pwsnp)) {
         return false;
     }
-    let accessed = field(e, 8, 8) == 1;
-    let written = field(e, 9, 9) == 1;
-    let leaf = is_leaf(level, e);
-    !accessed | (leaf & dirty & !written)
+    flag_clear(is_leaf(level, e) & dirty, e)
 }
 
 fn unfetchable(top: bool) -> ScalableReason
@@ -76,12 +82,19 @@ fn unfetchable(top: bool) -> ScalableReason
 }
 
 // The flags of an entry that is used.
-fn collect(entry: PasidEntry, dirty: bool, at: u64, flags: &mut [u64], count: usize) -> usize
+fn collect(
+    entry: PasidEntry,
+    dirty: bool,
+    at: u64,
+    e: u64,
+    flags: &mut [u64],
+    count: usize,
+) -> usize
     requires { ⌜ (at < 2 ^ 60) × (count + 2 ≤ length (now flags)) ⌝ }
-    ensures { λ r. ⌜ take r (now (flags .exit)) ≡ take count (now (flags .entry)) ++ secondFlags entry dirty at ⌝ }
+    ensures { λ r. ⌜ take r (now (flags .exit)) ≡ take count (now (flags .entry)) ++ secondFlags entry dirty at e ⌝ }
     ensures { λ r. ⌜ (count ≤ r) × (r ≤ count + (if dirty then 2 else 1)) ⌝ }
 {
-    if !entry.slade {
+    if !(entry.slade & flag_clear(dirty, e)) {
         return count;
     }
     let n = push(flags, count, at, 8);
@@ -127,10 +140,10 @@ fn second_step(
     }
     let frame = in_place(e, 51, 12);
     if is_leaf(level, e) {
-        let n = collect(entry, wanted.write, at, flags, above.count);
+        let n = collect(entry, wanted.write, at, e, flags, above.count);
         return SecondStep::Page(frame, level, write, n);
     }
-    let n = collect(entry, false, at, flags, above.count);
+    let n = collect(entry, false, at, e, flags, above.count);
     SecondStep::Down(frame, read, write, n)
 }
 

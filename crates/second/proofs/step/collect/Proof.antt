@@ -1,4 +1,5 @@
 use Prim.Native.Nat.{ℕ, _+_}
+use mathlib.Core.Bool.{_&&_}
 use mathlib.Core.List.{List, [], _∷_, _++_, append-nil}
 use mathlib.Core.Path.{_≡_, refl, ap, sym, _∙_}
 use native.Mathlib.Omega.{arith}
@@ -12,11 +13,11 @@ use Rattle.second.proofs.step.collect.Tie as tie
 
 returns : tie.Need-returns
 returns c =
-    let a = c .before .before .before .args in
-    (rw (is-clear (a .entry .slade) (c .if1 .taken)) (sym (append-nil (take (a .count) (a .flags .now)))), (omega arith, none-more (a .count) (a .dirty)))
+    let a = c .before .before .before .before .args in
+    (rw (← c .before .before .flag-clear .ensures, is-clear (a .entry .slade && c .before .before .flag-clear .result) (c .if1 .taken)) (sym (append-nil (take (a .count) (a .flags .now)))), (omega arith, none-more (a .count) (a .dirty)))
 
 -- A, bit 8
-accessed : (c : tie.After-push) → let a = c .before .before .before .before .before .args in
+accessed : (c : tie.After-push) → let a = c .before .before .before .before .before .before .args in
     take (c .push .result) (c .push .last .0) ≡ take (a .count) (a .flags .now) ++ (flag (a .at) 8 ∷ [])
 accessed c = ap (λ (n : ℕ). take n (c .push .last .0)) (c .push .ensures .0) ∙ c .push .ensures .1
 
@@ -26,8 +27,8 @@ returns-2 c =
     let t = c .before .before .before .before in
     let f = t .before .before .before in
     let e = f .before .before in
-    let a = e .before .before .before .args in (
-      rw (is-set (a .entry .slade) (e .if1 .left), t .if2 .taken)
+    let a = e .before .before .before .before .args in (
+      rw (← e .before .before .flag-clear .ensures, is-set (a .entry .slade && e .before .before .flag-clear .result) (e .if1 .left), t .if2 .taken)
           (ap (λ (n : ℕ). take n (c .before .before .push2 .last .0)) (second .0)
           ∙ second .1
           ∙ ap (λ (l : List ℕ). l ++ (flag (a .at) 9 ∷ [])) (accessed f)
@@ -39,8 +40,8 @@ returns-3 : tie.Need-returns-3
 returns-3 c =
     let f = c .before .before .before in
     let e = f .before .before in
-    let a = e .before .before .before .args in (
-      rw (is-set (a .entry .slade) (e .if1 .left), c .if2 .left) (accessed f),
+    let a = e .before .before .before .before .args in (
+      rw (← e .before .before .flag-clear .ensures, is-set (a .entry .slade && e .before .before .flag-clear .result) (e .if1 .left), c .if2 .left) (accessed f),
       rw (c .if2 .left) (omega (arith, f .push .ensures .0), omega (arith, f .push .ensures .0)),
     )
 
@@ -60,6 +61,7 @@ pub collect-spec : {M : Type 1} → statement M
 collect-spec =
     tie.close
     (tie.spec
+    (λ c κs. search needs)
     returns
     push-requires
     push-requires-2

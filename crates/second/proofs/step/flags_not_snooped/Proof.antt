@@ -25,11 +25,10 @@ returns c =
 
 returns-2 : tie.Need-returns-2
 returns-2 c =
-    let l = c .before .before in
-    let s = l .before .before .before .before .before in
-    let a = s .args in
-    rw (l .field .ensures, c .before .field2 .ensures, c .is-leaf .ensures) (by-entry (a .entry .slade) (a .registers .smpwc && a .entry .pwsnp) _ (l .before .if1 .left))
+    let e = c .before .before in
+    let a = e .before .before .before .before .args in
+    rw (c .flag-clear .ensures, c .before .is-leaf .ensures) (by-entry (a .entry .slade) (a .registers .smpwc && a .entry .pwsnp) _ (e .if1 .left))
 
 pub flags-not-snooped-spec : {M : Type 1} → statement M
 flags-not-snooped-spec =
-    tie.close (tie.spec returns (λ c κs. search needs) (λ c κs. search needs) (λ c κs. search needs) returns-2)
+    tie.close (tie.spec returns (λ c κs. search needs) (λ c κs. search needs) returns-2)
