@@ -9,7 +9,7 @@ use native.Mathlib.Decide.{decLe}
 use borrow.Author.Tests.{le-leb, lt-leb, leb-true}
 use lib.Dec.{leb, lit≤}
 use lib.ListN.{length, getD, set, take, drop, take-append-drop, length-set, length-take, length-drop, List·getD-append}
-use lib.Seq.{getD-set-other, take-append-le, drop-append-le}
+use lib.Seq.{getD-set-same, getD-set-other, take-append-le, drop-append-le}
 use Rattle.image.specs.Alike.{SameWord, SameWords}
 use Rattle.image.specs.Bits.{bits}
 use Rattle.image.specs.Bytes.{littleEndian, bytesOf}
@@ -453,6 +453,47 @@ post-windows =
       is = record { no-access-fault = λ fault. subst AccessFault small-answered fault; alike = rw small-words (words-at small-lent reordered-lent post-words small-alike) };
     }
 
+-- The low bytes of the four page entries, and an image of the bench's length in which those of 5008 and 4018 are set to one number.
+low-3008 : getD bench 0x3008 0 ≡ 3
+unfolding bench layout onward inWords bytesOf
+low-3008 = refl
+
+low-4008 : getD bench 0x4008 0 ≡ 3
+unfolding bench layout onward inWords bytesOf
+low-4008 = refl
+
+low-5008 : getD bench 0x5008 0 ≡ 1
+unfolding bench layout onward inWords bytesOf
+low-5008 = refl
+
+low-4018 : getD bench 0x4018 0 ≡ 3
+unfolding bench layout onward inWords bytesOf
+low-4018 = refl
+
+both-switched : (turned : ℕ → ℕ → Type 0) (image : List ℕ) (b e : ℕ) → length image ≡ 32768
+    → getD image 0x3008 0 ≡ 3 → getD image 0x4008 0 ≡ 3 → getD image 0x5008 0 ≡ 1 → getD image 0x4018 0 ≡ e
+    → SwitchedEntry turned 3 3 → SwitchedEntry turned 1 b → SwitchedEntry turned e b
+    → (page : ℕ) → List·Memᴰ page pages
+    → BothFetched (SwitchedEntry turned) (flat-byte image page) (flat-byte (set (set image 0x5008 b) 0x4018 b) page)
+both-switched turned image b e l b3008 b4008 b5008 b4018 kept leaf beyond =
+    each (λ n. BothFetched (SwitchedEntry turned) (flat-byte image n) (flat-byte image′ n))
+    (at 0x3008 3 3 (lit≤ tt) b3008 (other 0x3008 (λ e. omega arith) (λ e. omega arith) ∙ b3008) kept)
+    (at 0x4008 3 3 (lit≤ tt) b4008 (other 0x4008 (λ e. omega arith) (λ e. omega arith) ∙ b4008) kept)
+    (at 0x5008 1 b (lit≤ tt) b5008
+    (getD-set-other (set image 0x5008 b) 0x4018 0x5008 b 0 (λ e. omega arith) ∙ getD-set-same image 0x5008 b 0 (rw l (lit≤ tt))) leaf)
+    (at 0x4018 e b (lit≤ tt) b4018 (getD-set-same (set image 0x5008 b) 0x4018 b 0 (rw (length-set image 0x5008 b, l) (lit≤ tt))) beyond)
+  where
+    image′ : List ℕ
+    image′ = set (set image 0x5008 b) 0x4018 b
+
+    other : (n : ℕ) → (n ≡ 0x4018 → ⊥) → (n ≡ 0x5008 → ⊥) → getD image′ n 0 ≡ getD image n 0
+    other n a c = getD-set-other (set image 0x5008 b) 0x4018 n b 0 a ∙ getD-set-other image 0x5008 n b 0 c
+
+    at : (n x y : ℕ) → n < 32768 → getD image n 0 ≡ x → getD image′ n 0 ≡ y → SwitchedEntry turned x y
+        → BothFetched (SwitchedEntry turned) (flat-byte image n) (flat-byte image′ n)
+    at n x y h is is′ s =
+        rw (byte-in image n (rw l h), byte-in image′ n (rw (length-set (set image 0x5008 b) 0x4018 b, length-set image 0x5008 b, l) h), is, is′) s
+
 -- rights switched on, over the image in which 4018 is only readable
 on-walked : walkedByAny benchRegisters (reads ∷ beyond ∷ []) (ofImage readable) ≡ pages
 unfolding walkedByAny readable bench layout onward inWords bytesOf littleEndian bits wordAt ofImage entry entriesOf mapRules admission registersBad contextReserved contextInvalid contextCheck pageReserved pageCheck memoryRules rootReserved rootCheck widthRules contextRules rootRules walkRules
@@ -480,12 +521,15 @@ twice-fits image b h = rw (length-set (set image 0x5008 b) 0x4018 b, length-set 
 on-switched : (good : badWindows (flat (length readable)) (length readable) ≡ false)
     (good′ : badWindows (flat (length (set (set readable 0x5008 3) 0x4018 3))) (length (set (set readable 0x5008 3) 0x4018 3)) ≡ false)
     → SwitchedAt (λ before after. before ≤ after) pages (lent readable good) (lent (set (set readable 0x5008 3) 0x4018 3) good′)
-unfolding bench layout onward inWords bytesOf bits windowsOf flat spotIn readable
+unfolding bits readable
 on-switched good good′ =
     record {
       elsewhere = elsewhere readable 3;
-      switched = each (λ n. BothFetched (SwitchedEntry (λ before after. before ≤ after)) (flat-byte readable n) (flat-byte (set (set readable 0x5008 3) 0x4018 3) n))
-          (record { other-bits = refl; read = lit≤ tt; write = lit≤ tt })
+      switched = both-switched (λ before after. before ≤ after) readable 3 1 (length-set bench 0x4018 1 ∙ bench-length)
+          (getD-set-other bench 0x4018 0x3008 1 0 (λ e. omega arith) ∙ low-3008)
+          (getD-set-other bench 0x4018 0x4008 1 0 (λ e. omega arith) ∙ low-4008)
+          (getD-set-other bench 0x4018 0x5008 1 0 (λ e. omega arith) ∙ low-5008)
+          (getD-set-same bench 0x4018 1 0 (rw bench-length (lit≤ tt)))
           (record { other-bits = refl; read = lit≤ tt; write = lit≤ tt })
           (record { other-bits = refl; read = lit≤ tt; write = lit≤ tt })
           (record { other-bits = refl; read = lit≤ tt; write = lit≤ tt });
@@ -517,12 +561,11 @@ off-blocked host h = let z : _≡_ {A = ℕ} 0 1 = cc in omega arith
 off-switched : (good : badWindows (flat (length bench)) (length bench) ≡ false)
     (good′ : badWindows (flat (length (set (set bench 0x5008 0) 0x4018 0))) (length (set (set bench 0x5008 0) 0x4018 0)) ≡ false)
     → SwitchedAt (λ before after. after ≤ before) pages (lent bench good) (lent (set (set bench 0x5008 0) 0x4018 0) good′)
-unfolding bench layout onward inWords bytesOf bits windowsOf flat spotIn
+unfolding bits
 off-switched good good′ =
     record {
       elsewhere = elsewhere bench 0;
-      switched = each (λ n. BothFetched (SwitchedEntry (λ before after. after ≤ before)) (flat-byte bench n) (flat-byte (set (set bench 0x5008 0) 0x4018 0) n))
-          (record { other-bits = refl; read = lit≤ tt; write = lit≤ tt })
+      switched = both-switched (λ before after. after ≤ before) bench 0 3 bench-length low-3008 low-4008 low-5008 low-4018
           (record { other-bits = refl; read = lit≤ tt; write = lit≤ tt })
           (record { other-bits = refl; read = lit≤ tt; write = lit≤ tt })
           (record { other-bits = refl; read = lit≤ tt; write = lit≤ tt });
