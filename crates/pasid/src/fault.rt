@@ -25,7 +25,7 @@ fn lies_within(low: u8, high: u8, n: u8) -> bool
     (low <= n) & (n <= high)
 }
 
-// Never root and access faults of the tables.
+// FPD silences neither faults of the root entry nor access faults of the tables.
 fn may_record(fpd: bool, number: u8) -> bool
     ensures { λ r. ⌜ r ≡ recordable fpd number ⌝ }
 {

@@ -25,34 +25,19 @@ pub enum TableCheck {
 fn type_supported(registers: ScalableRegisters, pgtt: u64) -> bool
     ensures { λ r. ⌜ r ≡ typeSupported registers pgtt ⌝ }
 {
-    if pgtt == 1 {
-        return registers.flts;
-    }
-    if pgtt == 2 {
-        return registers.slts;
-    }
-    if pgtt == 3 {
-        return registers.nest;
-    }
-    if pgtt == 4 {
-        return registers.pt;
-    }
-    false
+    // All are read: a load chosen by PGTT would keep the registers in memory.
+    ((pgtt == 1) & registers.flts)
+        | ((pgtt == 2) & registers.slts)
+        | ((pgtt == 3) & registers.nest)
+        | ((pgtt == 4) & registers.pt)
 }
 
 fn width_supported(registers: Registers, aw: u64) -> bool
     ensures { λ r. ⌜ r ≡ widthSupported registers aw ⌝ }
 {
-    if aw == 1 {
-        return registers.levels3;
-    }
-    if aw == 2 {
-        return registers.levels4;
-    }
-    if aw == 3 {
-        return registers.levels5;
-    }
-    false
+    ((aw == 1) & registers.levels3)
+        | ((aw == 2) & registers.levels4)
+        | ((aw == 3) & registers.levels5)
 }
 
 fn mode_supported(registers: ScalableRegisters, flpm: u64) -> bool

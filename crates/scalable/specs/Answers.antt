@@ -19,13 +19,13 @@ use Rattle.scalable.specs.declared.lookup.PasidLookup.{PasidLookup}
 use Rattle.scalable.specs.declared.lookup.PasidLookup.the-variants as lookup
 
 abbrev pub lookupOf : PasidLookup → Lookup
-lookupOf (lookup.Found p at) = pasidEntry p
-lookupOf (lookup.Fault reason fpd at) = noPasidEntry (numberOf reason) fpd
+lookupOf (lookup.Found at p) = pasidEntry p
+lookupOf (lookup.Fault at reason fpd) = noPasidEntry (numberOf reason) fpd
 
 -- the last entry tried, as a lookup names it
 abbrev pub lookupPlace : PasidLookup → Place
-lookupPlace (lookup.Found p at) = entryAt at
-lookupPlace (lookup.Fault reason fpd at) = entryAt at
+lookupPlace (lookup.Found at p) = entryAt at
+lookupPlace (lookup.Fault at reason fpd) = entryAt at
 
 -- the flags are the buffer's first
 abbrev pub translationOf : TranslationCode → (flags : List ℕ) → Translation

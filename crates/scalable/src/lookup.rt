@@ -34,11 +34,11 @@ use pasid::root_check;
 use pasid::table_check;
 use registers::SourceId;
 
-// What a lookup finds, with the host address of the last entry that was tried.
+// What a lookup finds, behind the host address of the last entry that was tried: in this order no word of the two holds parts of two fields.
 pub enum PasidLookup {
-    Found(PasidEntry, u64),
+    Found(u64, PasidEntry),
     // Why there is none, and FPD as it was read by then.
-    Fault(ScalableReason, bool, u64),
+    Fault(u64, ScalableReason, bool),
 }
 
 // The table entry, which stands at an address; fpd: of the entries before it.
@@ -53,8 +53,8 @@ fn checked_table(
     ensures { λ r. ⌜ lookupPlace r ≡ entryAt at ⌝ }
 {
     match table_check(registers, privileged, fpd, e) {
-        TableCheck::Stop(reason) => PasidLookup::Fault(reason, fpd | bit64(e, 1), at),
-        TableCheck::Go(entry) => PasidLookup::Found(entry, at),
+        TableCheck::Stop(reason) => PasidLookup::Fault(at, reason, fpd | bit64(e, 1)),
+        TableCheck::Go(entry) => PasidLookup::Found(at, entry),
     }
 }
 
@@ -72,7 +72,7 @@ fn table_in(
 {
     let at = table + 64 * (context.pasid % 64) as u64;
     let Found64::Entry(e) = fetch64(windows, image, at) else {
-        return PasidLookup::Fault(ScalableReason::TableAccess, fpd, at);
+        return PasidLookup::Fault(at, ScalableReason::TableAccess, fpd);
     };
     checked_table(registers, context.privileged, fpd, at, e)
 }
@@ -93,11 +93,11 @@ fn directory_in(
     let offset = 8 * (index % 512);
     let at = page + offset;
     let Found8::Entry(e) = page_entry8(windows, image, page, offset) else {
-        return PasidLookup::Fault(ScalableReason::DirectoryAccess, context.fpd, at);
+        return PasidLookup::Fault(at, ScalableReason::DirectoryAccess, context.fpd);
     };
     let fpd = context.fpd | (field(e, 1, 1) == 1);
     match directory_check(registers.base.haw, e) {
-        TableAddress::Stop(reason) => PasidLookup::Fault(reason, fpd, at),
+        TableAddress::Stop(reason) => PasidLookup::Fault(at, reason, fpd),
         TableAddress::Go(table) => table_in(windows, image, registers, context, fpd, table),
     }
 }
@@ -117,10 +117,10 @@ fn context_in(
     let offset = 32 * (source.id % 128) as u64;
     let at = table + offset;
     let Found64::Entry(e) = page_entry32(windows, image, table, offset) else {
-        return PasidLookup::Fault(ScalableReason::ContextAccess, false, at);
+        return PasidLookup::Fault(at, ScalableReason::ContextAccess, false);
     };
     match context_check(registers.base.haw, pasid, e) {
-        ContextCheck::Stop(reason) => PasidLookup::Fault(reason, bit64(e, 1), at),
+        ContextCheck::Stop(reason) => PasidLookup::Fault(at, reason, bit64(e, 1)),
         ContextCheck::Go(context) => directory_in(windows, image, registers, context),
     }
 }
@@ -140,11 +140,11 @@ pub(crate) fn find_pasid_entry(
     let offset = 16 * bus as u64;
     let at = registers.base.root_table + offset;
     let Found16::Entry(e) = page_entry16(windows, image, registers.base.root_table, offset) else {
-        return PasidLookup::Fault(ScalableReason::RootAccess, false, at);
+        return PasidLookup::Fault(at, ScalableReason::RootAccess, false);
     };
     let upper = field(source.id as u64, 7, 7) == 1;
     match root_check(registers.base.haw, upper, e) {
-        TableAddress::Stop(reason) => PasidLookup::Fault(reason, false, at),
+        TableAddress::Stop(reason) => PasidLookup::Fault(at, reason, false),
         TableAddress::Go(table) => context_in(windows, image, registers, source, pasid, table),
     }
 }

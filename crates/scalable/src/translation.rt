@@ -149,9 +149,9 @@ pub(crate) fn translate(
         write: request.write,
     };
     match find_pasid_entry(windows, image, registers, request.source, request.pasid) {
-        PasidLookup::Found(entry, at) => {
+        PasidLookup::Found(at, entry) => {
             translate_in(windows, image, registers, entry, at, asked, flags)
         }
-        PasidLookup::Fault(reason, fpd, at) => Translation::Fault(reason, fpd, at),
+        PasidLookup::Fault(at, reason, fpd) => Translation::Fault(reason, fpd, at),
     }
 }

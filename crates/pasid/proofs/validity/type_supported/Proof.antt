@@ -1,21 +1,11 @@
-use borrow.Author.Tests.{eq-eqb, ne-eqb}
+use Rattle.pasid.proofs.Supported.{of-four}
 use Rattle.pasid.proofs.validity.type_supported.Statement.{statement}
 use Rattle.pasid.proofs.validity.type_supported.Tie as tie
 
 returns : tie.Need-returns
-returns c = rw (eq-eqb _ _ (c .if1 .taken))
-
-returns-2 : tie.Need-returns-2
-returns-2 c = rw (ne-eqb _ _ (c .before .if1 .left), eq-eqb _ _ (c .if2 .taken))
-
-returns-3 : tie.Need-returns-3
-returns-3 c = rw (ne-eqb _ _ (c .before .before .if1 .left), ne-eqb _ _ (c .before .if2 .left), eq-eqb _ _ (c .if3 .taken))
-
-returns-4 : tie.Need-returns-4
-returns-4 c = rw (ne-eqb _ _ (c .before .before .before .if1 .left), ne-eqb _ _ (c .before .before .if2 .left), ne-eqb _ _ (c .before .if3 .left), eq-eqb _ _ (c .if4 .taken))
-
-returns-5 : tie.Need-returns-5
-returns-5 c = rw (ne-eqb _ _ (c .before .before .before .if1 .left), ne-eqb _ _ (c .before .before .if2 .left), ne-eqb _ _ (c .before .if3 .left), ne-eqb _ _ (c .if4 .left))
+returns c =
+    let s = c .before .before .before .before in
+    of-four (s .args .pgtt) (s .args .registers .flts) (s .args .registers .slts) (s .args .registers .nest) (s .args .registers .pt)
 
 pub type-supported-spec : {M : Type 1} → statement M
-type-supported-spec = tie.close (tie.spec returns returns-2 returns-3 returns-4 returns-5)
+type-supported-spec = tie.close (tie.spec returns)

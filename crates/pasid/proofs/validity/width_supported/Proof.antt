@@ -1,18 +1,11 @@
-use borrow.Author.Tests.{eq-eqb, ne-eqb}
+use Rattle.pasid.proofs.Supported.{of-three}
 use Rattle.pasid.proofs.validity.width_supported.Statement.{statement}
 use Rattle.pasid.proofs.validity.width_supported.Tie as tie
 
 returns : tie.Need-returns
-returns c = rw (eq-eqb _ _ (c .if1 .taken))
-
-returns-2 : tie.Need-returns-2
-returns-2 c = rw (ne-eqb _ _ (c .before .if1 .left), eq-eqb _ _ (c .if2 .taken))
-
-returns-3 : tie.Need-returns-3
-returns-3 c = rw (ne-eqb _ _ (c .before .before .if1 .left), ne-eqb _ _ (c .before .if2 .left), eq-eqb _ _ (c .if3 .taken))
-
-returns-4 : tie.Need-returns-4
-returns-4 c = rw (ne-eqb _ _ (c .before .before .if1 .left), ne-eqb _ _ (c .before .if2 .left), ne-eqb _ _ (c .if3 .left))
+returns c =
+    let s = c .before .before .before in
+    of-three (s .args .aw) (s .args .registers .levels3) (s .args .registers .levels4) (s .args .registers .levels5)
 
 pub width-supported-spec : {M : Type 1} → statement M
-width-supported-spec = tie.close (tie.spec returns returns-2 returns-3 returns-4)
+width-supported-spec = tie.close (tie.spec returns)

@@ -43,7 +43,7 @@ translate-in-requires c κs =
     let e = c .before .before in
     let f = e .before .before in
     let s = f .before .before .before .before in
-    let told = sym (ap lookupOf (e .entry .given .1)) ∙ f .find-pasid-entry .ensures .0 in
+    let told = sym (ap lookupOf (e .at .given .1)) ∙ f .find-pasid-entry .ensures .0 in
     let good = Finds (s .args .registers) (s .pre .2) in
     (s .pre .0, subst good (sym told) (finds (s .args .registers) (s .pre .2) (s .args .request .pasid) (s .args .request .source .id) (memory s)), s .pre .3)
 
@@ -53,8 +53,8 @@ returns c =
     let e = k .before .before .before in
     let f = e .before .before in
     let s = f .before .before .before .before in
-    let told = sym (ap lookupOf (e .entry .given .1)) ∙ f .find-pasid-entry .ensures .0 in
-    let there = sym (ap lookupPlace (e .entry .given .1)) ∙ f .find-pasid-entry .ensures .1 noEntry in (
+    let told = sym (ap lookupOf (e .at .given .1)) ∙ f .find-pasid-entry .ensures .0 in
+    let there = sym (ap lookupPlace (e .at .given .1)) ∙ f .find-pasid-entry .ensures .1 noEntry in (
       k .translate-in .ensures .0 ∙ ran s told,
       (subst (λ (place : Place). TranslationNames (k .translate-in .result) place) (stopped s told there) (k .translate-in .ensures .1 .0), k .translate-in .ensures .1 .1),
     )
@@ -65,8 +65,8 @@ returns-2 c =
     let e = c .before in
     let f = e .before .before in
     let s = f .before .before .before .before in
-    let told = sym (ap lookupOf (e .reason .given .1)) ∙ f .find-pasid-entry .ensures .0 in
-    let there = sym (ap lookupPlace (e .reason .given .1)) ∙ f .find-pasid-entry .ensures .1 noEntry in
+    let told = sym (ap lookupOf (e .at2 .given .1)) ∙ f .find-pasid-entry .ensures .0 in
+    let there = sym (ap lookupPlace (e .at2 .given .1)) ∙ f .find-pasid-entry .ensures .1 noEntry in
     (ran s told, (stopped s told there, tt))
 
 pub translate-spec : {M : Type 1} → statement M
