@@ -1,5 +1,4 @@
 pub mod Admitted
-pub mod Examples
 pub mod Fetches
 pub mod Fifty
 pub mod Forks

@@ -2,7 +2,9 @@
 use mathlib.Core.List.{_++_}
 use mathlib.Core.Path.{refl}
 use Rattle.image.specs.Bits.{bits}
+use Rattle.image.specs.Entries.{spell}
 use Rattle.image.specs.Memory.{entry}
+use Rattle.image.specs.Place.{lastTried}
 use Rattle.image.specs.Rules.{run, mapRules}
 use Rattle.registers.specs.Admission.{admission}
 use Rattle.registers.specs.Registers.{registersBad}
@@ -23,5 +25,5 @@ use Rattle.scalable.specs.Requests.{secondPages, pagedRules, typeRules, scalabl
 use Rattle.scalable_cases.specs.Rows.{placed, answers, said, ScalableRows}
 
 pub scalable-rows : ScalableRows
-unfolding answers said placed scalableRules typeRules pagedRules secondPages thenRules lookupRules contextRules directoryRules tableRules run mapRules walkRules wayRules intermediateRules locate pageRules entry bits admission registersBad rootCheck rootReserved contextCheck contextReserved contextInvalid directoryCheck directoryReserved tableCheck tableReserved pointersReserved featureReserved tableInvalid pageReserved notCanonical firstReserved firstStep scalableFault scalableRecord memoryRecord fromBit64 pasidWord silenced
+unfolding answers said placed scalableRules typeRules pagedRules secondPages thenRules lookupRules contextRules directoryRules tableRules run lastTried mapRules walkRules wayRules intermediateRules locate pageRules entry spell bits admission registersBad rootCheck rootReserved contextCheck contextReserved contextInvalid directoryCheck directoryReserved tableCheck tableReserved pointersReserved featureReserved tableInvalid pageReserved notCanonical firstReserved firstStep scalableFault scalableRecord memoryRecord fromBit64 pasidWord silenced
 scalable-rows = refl
