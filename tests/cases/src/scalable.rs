@@ -444,6 +444,8 @@ fn at_hand(kind: u64, random: &mut Random) -> Laid {
     };
     let mut laid = empty(registers);
     lay(&mut laid, &plan, random);
+    // The root entry's upper half, which isn't in use, for its bits.
+    laid.set(PAGE + 16 * u64::from(plan.source >> 8) + 8, 0);
     laid.words.sort_unstable();
     laid.words.dedup();
     let request = |write, pasid| ScalableRequest {
