@@ -1,3 +1,4 @@
+pub mod ArgumentLines
 pub mod Arrays
 pub mod FourWords
 pub mod Registers

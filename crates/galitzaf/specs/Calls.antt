@@ -19,6 +19,14 @@ use Rattle.galitzaf.specs.Status.{ok, badRegisters, badWindowCount, badA
 abbrev pub malformedWindows : List ℕ → Bool
 malformedWindows windows = not (eqb (length windows % 3) 0)
 
+-- what a call of a request answers, in this order, where its registers, its windows or its buffer for the answer aren't laid out well
+abbrev pub argumentStatus : (registers windows : List ℕ) (answer : ℕ) → ℕ
+argumentStatus registers windows answer =
+    if malformedRegisters registers then badRegisters
+    else if malformedWindows windows then badWindowCount
+    else if not (eqb answer 32) then badAnswer
+    else ok
+
 -- write is 1 for a write, 0 for a read
 abbrev pub memoryRequest : (source address write : ℕ) → MemoryRequest
 memoryRequest source address write =

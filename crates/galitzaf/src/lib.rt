@@ -1,5 +1,6 @@
 // The C interface that include/galitzaf.h fixes: arguments are unpacked, the unit is asked, and its answer is packed.
 mod answer;
+mod arguments;
 mod buffer;
 mod first_bad;
 mod meters;
@@ -22,6 +23,7 @@ pub use answer::pack_memory;
 pub use answer::pack_refusal;
 pub use answer::short;
 pub use answer::store;
+pub use arguments::bad_arguments;
 pub use first_bad::galitzaf_first_bad;
 pub use meters::galitzaf_reset_meters;
 pub use meters::galitzaf_tick_meters;

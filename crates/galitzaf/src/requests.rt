@@ -4,12 +4,9 @@ ghost use Rattle.galitzaf.specs.Calls.{memoryCall, interruptCall};
 use crate::answer::pack_interrupt;
 use crate::answer::pack_memory;
 use crate::answer::store;
-use crate::status::BAD_ANSWER;
+use crate::arguments::bad_arguments;
 use crate::status::BAD_KIND;
-use crate::status::BAD_REGISTERS;
-use crate::status::BAD_WINDOWS;
 use crate::status::OK;
-use crate::unpacking::malformed;
 use crate::unpacking::unpack;
 use registers::SourceId;
 use unit::InterruptRequest;
@@ -29,14 +26,9 @@ pub extern "C" fn galitzaf_memory_request(
 ) -> u32
     ensures { λ r. ⌜ (r, now (answer .exit)) ≡ memoryCall (now (registers .entry)) (now (windows .entry)) (now (image .entry)) source address write (now (answer .entry)) ⌝ }
 {
-    if malformed(registers) {
-        return BAD_REGISTERS;
-    }
-    if windows.len() % 3 != 0 {
-        return BAD_WINDOWS;
-    }
-    if answer.len() != 32 {
-        return BAD_ANSWER;
+    let status = bad_arguments(registers, windows, answer.len());
+    if status != OK {
+        return status;
     }
     if 1 < write {
         return BAD_KIND;
@@ -63,14 +55,9 @@ pub extern "C" fn galitzaf_interrupt_request(
 ) -> u32
     ensures { λ r. ⌜ (r, now (image .exit), now (answer .exit)) ≡ interruptCall (now (registers .entry)) (now (windows .entry)) (now (image .entry)) source address «data» (now (answer .entry)) ⌝ }
 {
-    if malformed(registers) {
-        return BAD_REGISTERS;
-    }
-    if windows.len() % 3 != 0 {
-        return BAD_WINDOWS;
-    }
-    if answer.len() != 32 {
-        return BAD_ANSWER;
+    let status = bad_arguments(registers, windows, answer.len());
+    if status != OK {
+        return status;
     }
     let request = InterruptRequest {
         source: SourceId::from_number(source),

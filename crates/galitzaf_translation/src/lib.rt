@@ -6,15 +6,12 @@ ghost use Rattle.translation.specs.Answers.{sizeOf, outcomeOf, entryOf};
 ghost use Rattle.translation.specs.Requests.{translated};
 ghost use Rattle.galitzaf.specs.Answer.{bytesOfPacked};
 ghost use Rattle.galitzaf.specs.Translations.{translationBytes, translationCall};
-use galitzaf::BAD_ANSWER;
-use galitzaf::BAD_REGISTERS;
-use galitzaf::BAD_WINDOWS;
 use galitzaf::OK;
 use galitzaf::PASSED;
 use galitzaf::Packed;
+use galitzaf::bad_arguments;
 use galitzaf::flag;
 use galitzaf::head;
-use galitzaf::malformed;
 use galitzaf::pack_fault;
 use galitzaf::pack_refusal;
 use galitzaf::short;
@@ -72,14 +69,9 @@ pub extern "C" fn galitzaf_translation_request(
 ) -> u32
     ensures { λ r. ⌜ (r, now (answer .exit)) ≡ translationCall (now (registers .entry)) (now (windows .entry)) (now (image .entry)) source address (now (answer .entry)) ⌝ }
 {
-    if malformed(registers) {
-        return BAD_REGISTERS;
-    }
-    if windows.len() % 3 != 0 {
-        return BAD_WINDOWS;
-    }
-    if answer.len() != 32 {
-        return BAD_ANSWER;
+    let status = bad_arguments(registers, windows, answer.len());
+    if status != OK {
+        return status;
     }
     let request = TranslationRequest {
         source: SourceId::from_number(source),
