@@ -172,7 +172,11 @@ impl fmt::Display for Met {
                 sn,
                 on,
             } => {
-                let notice = if notice { "notification" } else { "no notification" };
+                let notice = if notice {
+                    "notification"
+                } else {
+                    "no notification"
+                };
                 let [urg, sn, on] = [urg, sn, on].map(u8::from);
                 write!(
                     f,
