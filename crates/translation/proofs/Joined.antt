@@ -5,6 +5,7 @@ use mathlib.Core.Path.{_≡_}
 use borrow.Author.Tests.{eq-eqb, ne-eqb}
 use lib.Dec.{eqb}
 use Rattle.image.specs.Bits.{bits, inPlace}
+use Rattle.image.specs.Choice.{if_then_else_}
 use Rattle.registers.specs.declared.Registers.{Registers}
 use Rattle.dma.specs.Page.{leafAt, pageReserved}
 use Rattle.dma.specs.Walk.{done, down}
@@ -27,10 +28,8 @@ module _ (registers : Registers) (fpd : Bool) (level place : ℕ) (above : Right
 
       module _ (left : not (above .read && eqb r 1 || above .write && eqb w 1) ≡ false) {leaf : Bool} (leaf-is : leaf ≡ leafAt level e)
           {frame : ℕ} (frame-is : frame ≡ inPlace e 51 12) where
-        pub at-page : leaf ≡ true
-            → done (page frame level (record { read = above .read && eqb r 1; write = above .write && eqb w 1 })) ≡ entryStep registers fpd level place above e
-        at-page ends = rw (← own-is, ne-eqb own 0 some, ← reserved-is, free, ← r-is, ← w-is, left, ← leaf-is, ends, ← frame-is)
-
-        pub at-table : leaf ≡ false
-            → down frame (record { read = above .read && eqb r 1; write = above .write && eqb w 1 }) ≡ entryStep registers fpd level place above e
-        at-table goes-on = rw (← own-is, ne-eqb own 0 some, ← reserved-is, free, ← r-is, ← w-is, left, ← leaf-is, goes-on, ← frame-is)
+        -- a page, or the next table
+        pub at-end : (if leaf then done (page frame level (record { read = above .read && eqb r 1; write = above .write && eqb w 1 }))
+            else down frame (record { read = above .read && eqb r 1; write = above .write && eqb w 1 }))
+            ≡ entryStep registers fpd level place above e
+        at-end = rw (← own-is, ne-eqb own 0 some, ← reserved-is, free, ← r-is, ← w-is, left, ← leaf-is, ← frame-is)

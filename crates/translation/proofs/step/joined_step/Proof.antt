@@ -1,5 +1,11 @@
-use mathlib.Core.Path.{refl}
-use Rattle.translation.proofs.Joined.{no-right, reserved-set, none-left, at-page, at-table}
+use mathlib.Core.Bool.{_&&_}
+use mathlib.Core.Path.{_≡_, refl}
+use lib.Dec.{eqb}
+use Rattle.image.specs.Choice.{if_then_else_}
+use Rattle.dma.specs.Walk.{done, down}
+use Rattle.translation.specs.Completion.{page, entryStep}
+use Rattle.translation.specs.declared.Rights.{Rights}
+use Rattle.translation.proofs.Joined.{no-right, reserved-set, none-left, at-end}
 use borrow.Author.Needs.{needs}
 use Rattle.translation.proofs.step.joined_step.Statement.{statement}
 use Rattle.translation.proofs.step.joined_step.Tie as tie
@@ -45,27 +51,26 @@ in-place-requires c κs = search needs
 is-leaf-requires : tie.Need-is-leaf-requires
 is-leaf-requires c κs = search needs
 
-returns-4 : tie.Need-returns-4
-returns-4 c =
-    let s = c .before .before .before in
+-- past all tests
+ended : (c : tie.After-is-leaf)
+    → let s = c .before .before in
+    let a = s .before .before .before .before .before .before .before .before .before .args in
+    let joined : Rights = record { read = a .above .read && eqb (s .before .before .before .before .field2 .result) 1; write = a .above .write && eqb (s .before .before .field3 .result) 1 } in
+    (if c .is-leaf .result then done (page (c .before .in-place .result) (a .level) joined) else down (c .before .in-place .result) joined)
+    ≡ entryStep (a .registers) (a .fpd) (a .level) (a .at) (a .above) (a .e)
+ended c =
+    let s = c .before .before in
     let t = s .before .before .before .before .before in
-    let a = t .before .before .before .before .args in (
-      at-page (a .registers) (a .fpd) (a .level) (a .at) (a .above) (a .e) (t .before .before .before .field .ensures)
-          (t .before .before .if1 .left) (t .before .page-reserved .ensures) (t .if2 .left) (s .before .before .before .before .field2 .ensures)
-          (s .before .before .field3 .ensures) (s .if3 .left) (c .before .is-leaf .ensures) (c .before .before .in-place .ensures) (c .if4 .taken),
-      refl,
-    )
+    let a = t .before .before .before .before .args in
+    at-end (a .registers) (a .fpd) (a .level) (a .at) (a .above) (a .e) (t .before .before .before .field .ensures)
+    (t .before .before .if1 .left) (t .before .page-reserved .ensures) (t .if2 .left) (s .before .before .before .before .field2 .ensures)
+    (s .before .before .field3 .ensures) (s .if3 .left) (c .is-leaf .ensures) (c .before .in-place .ensures)
+
+returns-4 : tie.Need-returns-4
+returns-4 c = (rw (c .if4 .taken) at (ended (c .before)), refl)
 
 returns-5 : tie.Need-returns-5
-returns-5 c =
-    let s = c .before .before .before in
-    let t = s .before .before .before .before .before in
-    let a = t .before .before .before .before .args in (
-      at-table (a .registers) (a .fpd) (a .level) (a .at) (a .above) (a .e) (t .before .before .before .field .ensures)
-          (t .before .before .if1 .left) (t .before .page-reserved .ensures) (t .if2 .left) (s .before .before .before .before .field2 .ensures)
-          (s .before .before .field3 .ensures) (s .if3 .left) (c .before .is-leaf .ensures) (c .before .before .in-place .ensures) (c .if4 .left),
-      refl,
-    )
+returns-5 c = (rw (c .if4 .left) at (ended (c .before)), refl)
 
 pub joined-step-spec : {M : Type 1} → statement M
 joined-step-spec =
