@@ -454,21 +454,9 @@ post-windows =
     }
 
 -- The low bytes of the four page entries, and an image of the bench's length in which those of 5008 and 4018 are set to one number.
-low-3008 : getD bench 0x3008 0 ≡ 3
+lows : (getD bench 0x3008 0 ≡ 3) × (getD bench 0x4008 0 ≡ 3) × (getD bench 0x5008 0 ≡ 1) × (getD bench 0x4018 0 ≡ 3)
 unfolding bench layout onward inWords bytesOf
-low-3008 = refl
-
-low-4008 : getD bench 0x4008 0 ≡ 3
-unfolding bench layout onward inWords bytesOf
-low-4008 = refl
-
-low-5008 : getD bench 0x5008 0 ≡ 1
-unfolding bench layout onward inWords bytesOf
-low-5008 = refl
-
-low-4018 : getD bench 0x4018 0 ≡ 3
-unfolding bench layout onward inWords bytesOf
-low-4018 = refl
+lows = (refl, refl, refl, refl)
 
 both-switched : (turned : ℕ → ℕ → Type 0) (image : List ℕ) (b e : ℕ) → length image ≡ 32768
     → getD image 0x3008 0 ≡ 3 → getD image 0x4008 0 ≡ 3 → getD image 0x5008 0 ≡ 1 → getD image 0x4018 0 ≡ e
@@ -526,9 +514,9 @@ on-switched good good′ =
     record {
       elsewhere = elsewhere readable 3;
       switched = both-switched (λ before after. before ≤ after) readable 3 1 (length-set bench 0x4018 1 ∙ bench-length)
-          (getD-set-other bench 0x4018 0x3008 1 0 (λ e. omega arith) ∙ low-3008)
-          (getD-set-other bench 0x4018 0x4008 1 0 (λ e. omega arith) ∙ low-4008)
-          (getD-set-other bench 0x4018 0x5008 1 0 (λ e. omega arith) ∙ low-5008)
+          (getD-set-other bench 0x4018 0x3008 1 0 (λ e. omega arith) ∙ lows .0)
+          (getD-set-other bench 0x4018 0x4008 1 0 (λ e. omega arith) ∙ lows .1)
+          (getD-set-other bench 0x4018 0x5008 1 0 (λ e. omega arith) ∙ lows .2)
           (getD-set-same bench 0x4018 1 0 (rw bench-length (lit≤ tt)))
           (record { other-bits = refl; read = lit≤ tt; write = lit≤ tt })
           (record { other-bits = refl; read = lit≤ tt; write = lit≤ tt })
@@ -565,7 +553,7 @@ unfolding bits
 off-switched good good′ =
     record {
       elsewhere = elsewhere bench 0;
-      switched = both-switched (λ before after. after ≤ before) bench 0 3 bench-length low-3008 low-4008 low-5008 low-4018
+      switched = both-switched (λ before after. after ≤ before) bench 0 3 bench-length (lows .0) (lows .1) (lows .2) (lows .3)
           (record { other-bits = refl; read = lit≤ tt; write = lit≤ tt })
           (record { other-bits = refl; read = lit≤ tt; write = lit≤ tt })
           (record { other-bits = refl; read = lit≤ tt; write = lit≤ tt });
