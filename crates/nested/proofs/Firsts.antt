@@ -2,11 +2,11 @@
 use Prim.Native.Nat.{ℕ, suc, _+_, _-_, _*_, _<_, _≤_}
 use mathlib.Core.Bool.{Bool, true, false, not, _&&_}
 use mathlib.Core.List.{List, [], _∷_, _++_, map}
-use mathlib.Core.Path.{_≡_, refl, ap, sym, _∙_}
+use mathlib.Core.Path.{_≡_, refl, ap, sym, _∙_, subst}
 use native.Mathlib.Omega.{arith}
-use Rattle.image.specs.Bits.{bits, bit}
+use Rattle.image.specs.Bits.{bit}
 use Rattle.image.specs.Choice.{if_then_else_}
-use Rattle.image.specs.Memory.{Memory, missing, found, entry}
+use Rattle.image.specs.Memory.{Memory}
 use Rattle.image.specs.Place.{Place, entryAt, lastTried}
 use Rattle.image.specs.Rules.{Rules, run}
 use Rattle.dma.specs.Page.{hostAddress, leafAt}
@@ -16,14 +16,14 @@ use Rattle.pasid.specs.declared.ScalableRegisters.{ScalableRegisters}
 use Rattle.pasid.specs.declared.table.PasidEntry.{PasidEntry}
 use Rattle.flags.specs.Flags.{flag}
 use Rattle.first.specs.First.{FirstStep, down as downTo, page, fault as stop, onFirst, firstReserved, flagClear, notSnooped, userDenied, writeDenied, firstFrame, firstStep}
-use Rattle.nested.specs.Pages.{Pages, reached, fault, Handed, handed, entryFlags, unfetched, locate, walkStep, firstRules, levelOver, levelTried}
+use Rattle.nested.specs.Pages.{Pages, reached, fault, Handed, handed, entryFlags, unfetched, locate, walkStep, firstRules, entryOver}
 use Rattle.nested.specs.Way.{Located, located, lost}
 use Rattle.image.specs.EntryKind.{firstLevelEntry}
 use Rattle.nested.specs.Answers.{LevelGrows}
 use Rattle.nested.specs.declared.level.Level.{Level}
 use Rattle.nested.specs.declared.level.Level.the-variants as level
 use Rattle.nested.proofs.Nested.{no-entry}
-use Rattle.nested.proofs.Ways.{leads-by, lost-over, lost-tried, missed-over, fetched-over, found-tried, ended-way, onward-way, ended-way-at, onward-way-at}
+use Rattle.nested.proofs.Ways.{wayOver, triedOver, leads-by, lost-over, lost-tried, fetched-over, found-tried, ended-way, onward-way, ended-way-at, onward-way-at}
 
 -- the flags of an entry, one by one
 pub one-by-one : (p : PasidEntry) (dirty : Bool) (place : ℕ) (l : List ℕ)
@@ -87,6 +87,22 @@ leads r p write writable level e {table} h =
     let h5 = past (writeDenied p write writable clear e) (stop 0x85 (p .fpd)) _ (λ x. let z : _≡_ {A = ℕ} 0 1 = cc in omega arith) (h4 .1) in
     past (leafAt level e) (page (firstFrame level e) level) _ (λ x. let z : _≡_ {A = ℕ} 0 1 = cc in omega arith) (h5 .1) .0
 
+-- and an entry of level 1 is a page's
+pub above-one : (r : ScalableRegisters) (p : PasidEntry) (write writable : Bool) (level e : ℕ) {table : ℕ} → 0 < level
+    → downTo table ≡ firstStep r p write writable level e → 1 < level
+above-one r p write writable level e some h =
+    let this : level ≡ suc (level - 1) = omega arith in
+    let below = more-levels (level - 1) e (subst (λ (l : ℕ). leafAt l e ≡ false) this (leads r p write writable level e h)) in
+    omega (arith, below)
+
+-- a level of the first level over a memory, and the last entry that it tries
+module _ (r : ScalableRegisters) (p : PasidEntry) (address : ℕ) (write : Bool) where
+  abbrev pub levelOver : Memory → (below table : ℕ) → Handed → Step Handed Pages
+  levelOver = wayOver firstLevelEntry address (locate r p) (unfetched p) (walkStep r p address write)
+
+  abbrev pub levelTried : (before : Place) → Memory → (below table : ℕ) → Handed → Place
+  levelTried = triedOver firstLevelEntry address (locate r p) (unfetched p) (walkStep r p address write)
+
 module _ (r : ScalableRegisters) (p : PasidEntry) (address : ℕ) (write : Bool) (m : Memory) (n table : ℕ) (s : Handed) where
   step-leads : (place : ℕ) (t : Handed) (e next : ℕ) (u : Handed) → down next u ≡ walkStep r p address write (suc n) place t e → 0 < n
   step-leads place t e next u = by (firstStep r p write (t .writable) (suc n) e) refl
@@ -106,33 +122,25 @@ module _ (r : ScalableRegisters) (p : PasidEntry) (address : ℕ) (write : Bool)
   not-last =
       leads-by firstLevelEntry address (locate r p) (unfetched p) (walkStep r p address write) m n table s (λ next. 0 < n) step-leads
 
--- one level, by what the code's way to the entry and its fetch say: i is the entry's place in its table
-module _ (r : ScalableRegisters) (p : PasidEntry) (address : ℕ) (write : Bool) (m : Memory) (n table : ℕ) (s : Handed) {i : ℕ}
-    (index : i ≡ bits address (20 + 9 * n) (12 + 9 * n)) where
+-- one level, by what the way to its entry says
+module _ (r : ScalableRegisters) (p : PasidEntry) (address : ℕ) (write : Bool) (m : Memory) (n table : ℕ) (s : Handed) where
   abbrev way : Rules (Located Handed Pages)
-  way = locate r p s (table + 8 * i)
-
-  on : {x : Located Handed Pages} → x ≡ run way m → x ≡ run (locate r p s (placeIn address table n)) m
-  on h = h ∙ ap (λ (j : ℕ). run (locate r p s (table + 8 * j)) m) index
+  way = locate r p s (placeIn address table n)
 
   pub stopped : {a : Pages} → lost a ≡ run way m → done a ≡ levelOver r p address write m n table s
-  stopped h = lost-over firstLevelEntry address (locate r p) (unfetched p) (walkStep r p address write) m n table s (on h)
+  stopped = lost-over firstLevelEntry address (locate r p) (unfetched p) (walkStep r p address write) m n table s
 
   pub stopped-at : (before : Place) {here : Place} {a : Pages} → lost a ≡ run way m → here ≡ lastTried before way m
       → here ≡ levelTried r p address write before m n table s
   stopped-at before h there =
-      there ∙ ap (λ (j : ℕ). lastTried before (locate r p s (table + 8 * j)) m) index
-      ∙ lost-tried firstLevelEntry address (locate r p) (unfetched p) (walkStep r p address write) m n table s before (on h)
+      there ∙ lost-tried firstLevelEntry address (locate r p) (unfetched p) (walkStep r p address write) m n table s before h
 
   module _ {place : ℕ} {t : Handed} (h : located place t ≡ run way m) where
-    pub missed : missing ≡ entry 1 m place → done (unfetched p t) ≡ levelOver r p address write m n table s
-    missed = missed-over firstLevelEntry address (locate r p) (unfetched p) (walkStep r p address write) m n table s (on h)
+    pub entered : entryOver r p address write m (suc n) place t ≡ levelOver r p address write m n table s
+    entered = fetched-over firstLevelEntry address (locate r p) (unfetched p) (walkStep r p address write) m n table s h
 
-    pub stepped : {e : ℕ} → found e ≡ entry 1 m place → walkStep r p address write (suc n) place t e ≡ levelOver r p address write m n table s
-    stepped = fetched-over firstLevelEntry address (locate r p) (unfetched p) (walkStep r p address write) m n table s (on h)
-
-    pub there-at : (before : Place) → entryAt place ≡ levelTried r p address write before m n table s
-    there-at = found-tried firstLevelEntry address (locate r p) (unfetched p) (walkStep r p address write) m n table s (on h)
+    pub entered-at : (before : Place) → entryAt place ≡ levelTried r p address write before m n table s
+    entered-at = found-tried firstLevelEntry address (locate r p) (unfetched p) (walkStep r p address write) m n table s h
 
 -- the laws of every walk with a way to its entries, at this one
 module _ (r : ScalableRegisters) (p : PasidEntry) (address : ℕ) (write : Bool) (m : Memory) (level table : ℕ) (s : Handed) (more : 0 < level) where

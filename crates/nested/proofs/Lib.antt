@@ -1,5 +1,7 @@
 pub mod Few
 pub mod Firsts
 pub mod Nested
+pub mod Rests
 pub mod Thens
+pub mod Turns
 pub mod Ways

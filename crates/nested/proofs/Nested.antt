@@ -28,7 +28,7 @@ use Rattle.second.specs.declared.walk.Walked.the-variants as walked
 use Rattle.nested.specs.Pages.{Pages, reached, fault, Handed, handed, unfetched, wantedOfEntry, wantedOfPage, toEntry, toPage, intermediateRules, locate, pageRules, walkStep, firstRules, pagesRules}
 use Rattle.nested.specs.Then.{thenRules}
 use Rattle.nested.specs.Way.{Located, located, lost}
-use Rattle.nested.proofs.Thens.{Ends, run-then, tried-then, outside-then}
+use Rattle.nested.proofs.Thens.{outside-then}
 use Rattle.nested.proofs.Ways.{IsLost, outside-way, outside-walk}
 
 -- the number of flags by a larger bound
@@ -78,25 +78,6 @@ module _ (r : ScalableRegisters) (p : PasidEntry) (s : Handed) (place : ℕ) (m 
   unfolding locate
   through-at before = rw (eq-eqb (p .kind) 3 is) (sym (tried-map (toEntry (s .top) place) before way m))
 
--- the page at the end, likewise
-module _ (r : ScalableRegisters) (p : PasidEntry) (write : Bool) (frame level host : ℕ) (flags : List ℕ) (m : Memory) where
-  abbrev found : Pages
-  found = reached frame level host flags
-
-  pub page-itself : (p .kind ≡ 3 → ⊥) → found ≡ run (pageRules r p write found) m
-  unfolding pageRules run
-  page-itself h = rw (ne-eqb (p .kind) 3 h)
-
-  module _ (is : p .kind ≡ 3) where
-    pub page-through : toPage host (run (intermediateRules r p (wantedOfPage write) host flags) m) ≡ run (pageRules r p write found) m
-    unfolding pageRules
-    page-through = rw (eq-eqb (p .kind) 3 is) (sym (run-map (toPage host) (intermediateRules r p (wantedOfPage write) host flags) m))
-
-    pub page-through-at : (before : Place)
-        → lastTried before (intermediateRules r p (wantedOfPage write) host flags) m ≡ lastTried before (pageRules r p write found) m
-    unfolding pageRules
-    page-through-at before = rw (eq-eqb (p .kind) 3 is) (sym (tried-map (toPage host) before (intermediateRules r p (wantedOfPage write) host flags) m))
-
 -- an entry in a page of the second level is at a multiple of 8
 pub host-aligned : (level frame place : ℕ) → 0 < level → level ≤ 3 → frame < 2 ^ 52 → frame % 4096 ≡ 0 → place % 8 ≡ 0
     → (hostAddress level frame place % 8 ≡ 0) × (hostAddress level frame place < 2 ^ 60)
@@ -141,23 +122,3 @@ module _ (r : ScalableRegisters) (p : PasidEntry) where
             (outside-map (toPage host) Kind (intermediateRules r p (wantedOfPage write) host flags)
             (outside-intermediate r p (wantedOfPage write) host flags (λ w. Kind (toPage host w)) second)) tt
         ends (fault reason fpd) = tt
-
-    abbrev whole : Rules Pages
-    whole = firstRules r p address write (p .«first_levels») (p .«first_top») (handed true [])
-
-    -- a fault of the first level is followed by nothing
-    faults : Outside (Ends (λ w. w) (pageRules r p write)) whole
-    unfolding pageRules
-    faults = outside-first (Ends (λ w. w) (pageRules r p write)) (λ top. refl) (λ top. refl) (p .«first_levels») (p .«first_top») (handed true [])
-
-    module _ (m : Memory) where
-      pub by-page : {x : Pages} → x ≡ run whole m → run (pageRules r p write x) m ≡ run (pagesRules r p address write) m
-      by-page h =
-          ap (λ (x : Pages). run (pageRules r p write x) m) h ∙ sym (run-then (λ w. w) (pageRules r p write) whole m faults)
-
-      pub by-page-at : (before : Place) {x : Pages} {here : Place} → x ≡ run whole m → here ≡ lastTried before whole m
-          → lastTried here (pageRules r p write x) m ≡ lastTried before (pagesRules r p address write) m
-      by-page-at before {x} h there =
-          ap (λ (place : Place). lastTried place (pageRules r p write x) m) there
-          ∙ ap (λ (y : Pages). lastTried (lastTried before whole m) (pageRules r p write y) m) h
-          ∙ sym (tried-then (λ w. w) (pageRules r p write) before whole m faults)

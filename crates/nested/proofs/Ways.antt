@@ -8,7 +8,7 @@ use Rattle.image.specs.Place.{Place, entryAt, lastTried}
 use Rattle.image.specs.Rules.{Rules, answer, fetch, run, Outside}
 use Rattle.dma.specs.Walk.{Step, done, down, onStep, placeIn, walkRules}
 use Rattle.nested.specs.Then.{thenRules}
-use Rattle.nested.specs.Way.{Located, located, lost, onLocated, entryRules, ended, wayRules, wayOver, triedOver}
+use Rattle.nested.specs.Way.{Located, located, lost, onLocated, entryRules, ended, wayRules}
 use Rattle.nested.proofs.Thens.{Ends, run-then, tried-then, outside-then}
 
 -- rules that find no entry
@@ -27,6 +27,18 @@ module _ {S A : Type 0} (kind : EntryKind) (address : ℕ) (locate : S → (plac
   abbrev end : Located S A → A
   end = ended kind address locate none step
 
+  -- the level n + 1 alone, over a memory
+  unfoldable pub wayOver : Memory → (n table : ℕ) → S → Step S A
+  wayOver m n table s =
+      onLocated (run (locate s (placeIn address table n)) m) done
+      (λ place t. onFetch (entry (wordsOf kind) m place) (done (none t)) (step (suc n) place t))
+
+  -- and the last entry that it tries
+  unfoldable pub triedOver : (before : Place) → Memory → (n table : ℕ) → S → Place
+  triedOver before m n table s =
+      onLocated (run (locate s (placeIn address table n)) m) (λ a. lastTried before (locate s (placeIn address table n)) m)
+      (λ place t. entryAt place)
+
   -- a way on which an entry can't be fetched leads to no entry
   module _ (ends : (s : S) (place : ℕ) → Outside IsLost (locate s place)) where
     over : (n : ℕ) (q : Rules (Located S A)) → Outside IsLost q → Outside (Ends end (next n)) q
@@ -41,7 +53,7 @@ module _ {S A : Type 0} (kind : EntryKind) (address : ℕ) (locate : S → (plac
     module _ (m : Memory) (n table : ℕ) (s : S) where
       -- a walk is its first level, then the walk of what that leads to
       pub way-step : run (walk (suc n) table s) m
-          ≡ onStep (wayOver kind address locate none step m n table s) (λ a. a) (λ next t. run (walk n next t) m)
+          ≡ onStep (wayOver m n table s) (λ a. a) (λ next t. run (walk n next t) m)
       unfolding wayRules wayOver run
       way-step =
           run-then end (next n) (locate s (placeIn address table n)) m (over n _ (ends s (placeIn address table n)))
@@ -66,8 +78,8 @@ module _ {S A : Type 0} (kind : EntryKind) (address : ℕ) (locate : S → (plac
 
       -- and it stops at the last entry that its first level tries, or where the walk of what that leads to stops
       pub way-tried : (before : Place) → lastTried before (walk (suc n) table s) m
-          ≡ onStep (wayOver kind address locate none step m n table s) (λ a. triedOver kind address locate none step before m n table s)
-          (λ next t. lastTried (triedOver kind address locate none step before m n table s) (walk n next t) m)
+          ≡ onStep (wayOver m n table s) (λ a. triedOver before m n table s)
+          (λ next t. lastTried (triedOver before m n table s) (walk n next t) m)
       unfolding wayRules wayOver triedOver lastTried
       way-tried before =
           tried-then end (next n) before (locate s (placeIn address table n)) m (over n _ (ends s (placeIn address table n)))
@@ -101,32 +113,27 @@ module _ {S A : Type 0} (kind : EntryKind) (address : ℕ) (locate : S → (plac
     abbrev way : Located S A
     way = run (locate s (placeIn address table n)) m
 
-    pub lost-over : {a : A} → lost a ≡ way → done a ≡ wayOver kind address locate none step m n table s
+    pub lost-over : {a : A} → lost a ≡ way → done a ≡ wayOver m n table s
     unfolding wayOver
     lost-over h = rw (← h)
 
     pub lost-tried : (before : Place) {a : A} → lost a ≡ way
-        → lastTried before (locate s (placeIn address table n)) m ≡ triedOver kind address locate none step before m n table s
+        → lastTried before (locate s (placeIn address table n)) m ≡ triedOver before m n table s
     unfolding triedOver
     lost-tried before h = rw (← h)
 
     module _ {place : ℕ} {t : S} (h : located place t ≡ way) where
-      pub missed-over : missing ≡ entry (wordsOf kind) m place → done (none t) ≡ wayOver kind address locate none step m n table s
+      pub fetched-over : onFetch (entry (wordsOf kind) m place) (done (none t)) (step (suc n) place t) ≡ wayOver m n table s
       unfolding wayOver
-      missed-over f = rw (← h, ← f)
+      fetched-over = rw (← h)
 
-      pub fetched-over : {e : ℕ} → found e ≡ entry (wordsOf kind) m place
-          → step (suc n) place t e ≡ wayOver kind address locate none step m n table s
-      unfolding wayOver
-      fetched-over f = rw (← h, ← f)
-
-      pub found-tried : (before : Place) → entryAt place ≡ triedOver kind address locate none step before m n table s
+      pub found-tried : (before : Place) → entryAt place ≡ triedOver before m n table s
       unfolding triedOver
       found-tried before = rw (← h)
 
     -- a level that leads down has an entry whose step does
     pub leads-by : (P : ℕ → Type 0) → ((place : ℕ) (t : S) (e next : ℕ) (u : S) → down next u ≡ step (suc n) place t e → P next)
-        → {next : ℕ} {u : S} → down next u ≡ wayOver kind address locate none step m n table s → P next
+        → {next : ℕ} {u : S} → down next u ≡ wayOver m n table s → P next
     unfolding wayOver
     leads-by P steps {next} {u} = on way
       where
@@ -142,10 +149,10 @@ module _ {S A : Type 0} (kind : EntryKind) (address : ℕ) (locate : S → (plac
   -- a walk by what its first level does: for the code's loop
   module _ (ends : (s : S) (place : ℕ) → Outside IsLost (locate s place)) (m : Memory) (level table : ℕ) (s : S) (more : 0 < level) where
     abbrev level-over : Step S A
-    level-over = wayOver kind address locate none step m (level - 1) table s
+    level-over = wayOver m (level - 1) table s
 
     abbrev level-tried : Place → Place
-    level-tried before = triedOver kind address locate none step before m (level - 1) table s
+    level-tried before = triedOver before m (level - 1) table s
 
     first : run (walk level table s) m ≡ onStep level-over (λ a. a) (λ next t. run (walk (level - 1) next t) m)
     first =

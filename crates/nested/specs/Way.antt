@@ -1,11 +1,9 @@
 -- The walk by levels with a way to its entries: an entry's address may be one that has to be translated itself before the entry is fetched.
 -- Where it stands is found by rules of their own, which are a parameter, as is the format of the entries.
 use Prim.Native.Nat.{ℕ, zero, suc}
-use Rattle.image.specs.EntryKind.{EntryKind, wordsOf}
-use Rattle.image.specs.Memory.{Memory, entry, onFetch}
-use Rattle.image.specs.Place.{Place, entryAt, lastTried}
-use Rattle.image.specs.Rules.{Rules, answer, fetch, run}
-use Rattle.dma.specs.Walk.{Step, done, down, onStep, placeIn}
+use Rattle.image.specs.EntryKind.{EntryKind}
+use Rattle.image.specs.Rules.{Rules, answer, fetch}
+use Rattle.dma.specs.Walk.{Step, onStep, placeIn}
 use Rattle.nested.specs.Then.{thenRules}
 
 -- an entry's host address, and what is handed on to it; or the walk ends on the way
@@ -32,15 +30,3 @@ module _ {S A : Type 0} (kind : EntryKind) (address : ℕ) (locate : S → (plac
   wayRules zero table s = answer (missing s)
   wayRules (suc n) table s =
       thenRules ended (λ l. onLocated l answer (entryRules (suc n) (wayRules n))) (locate s (placeIn address table n))
-
-  -- the level n + 1 alone, over a memory: for the code's contracts, the rules don't use it
-  unfoldable pub wayOver : Memory → (n table : ℕ) → S → Step S A
-  wayOver m n table s =
-      onLocated (run (locate s (placeIn address table n)) m) done
-      (λ place t. onFetch (entry (wordsOf kind) m place) (done (missing t)) (step (suc n) place t))
-
-  -- and the last entry that it tries
-  unfoldable pub triedOver : (before : Place) → Memory → (n table : ℕ) → S → Place
-  triedOver before m n table s =
-      onLocated (run (locate s (placeIn address table n)) m) (λ a. lastTried before (locate s (placeIn address table n)) m)
-      (λ place t. entryAt place)

@@ -1,29 +1,28 @@
 // First-level and nested translation: the walk by levels whose entries, in a nested translation, are found through the second level.
-ghost use mathlib.Core.Bool.{false};
+ghost use mathlib.Core.Bool.{Bool, false};
+ghost use mathlib.Core.List.{List};
 ghost use mathlib.Core.Path.{_≡_};
 ghost use lib.ListN.{length, take};
-ghost use Prim.Native.Nat.{_+_, _^_, _<_, _≤_};
-ghost use Rattle.image.specs.Place.{entryAt, lastTried};
-ghost use Rattle.image.specs.Rules.{run};
+ghost use Prim.Native.Nat.{ℕ, _≤_};
+ghost use Rattle.image.specs.Place.{entryAt};
 ghost use Rattle.image.specs.Windows.{ofWindows, badWindows};
-ghost use Rattle.dma.specs.Page.{hostAddress};
-ghost use Rattle.nested.specs.Answers.{pagesOf, PagesNames, PagesGrows};
-ghost use Rattle.nested.specs.Pages.{reached, pageRules, pagesRules, Reachable, FirstWalkable};
+ghost use Rattle.nested.specs.Answers.{PagesTell, Fits};
+ghost use Rattle.nested.specs.Pages.{handed, kindRules, restRules, PagesWalkable};
 
 mod level;
-mod walk;
+mod stage;
+mod turn;
 mod way;
 
-pub use level::Asked;
+use image::first_span;
 use pasid::PasidEntry;
 use pasid::ScalableReason;
 use pasid::ScalableRegisters;
-use second::Walked;
-use second::Wanted;
-use second::host_address;
-use walk::FirstWalked;
-use walk::first_walk;
-use way::intermediate;
+pub use stage::Asked;
+use stage::Stage;
+use stage::Walk;
+use turn::Turn;
+use turn::take_turn;
 
 pub enum Pages {
     // The frame of the page, the level of its entry, the host address, and how many flags there are.
@@ -32,56 +31,31 @@ pub enum Pages {
     Fault(ScalableReason, bool, u64),
 }
 
-// The first level ended with a page, whose entry was the last that was tried. In a nested translation it is at an intermediate address.
-fn final_page(
-    windows: &[u64],
-    image: &[u8],
-    registers: ScalableRegisters,
-    entry: PasidEntry,
-    asked: Asked,
-    frame: u64,
-    level: u32,
-    last: u64,
-    flags: &mut [u64],
-    count: usize,
-) -> Pages
-    requires { ⌜ (badWindows (now windows) (length (now image)) ≡ false) × FirstWalkable entry × (frame < 2 ^ 52) × (0 < level) × (level ≤ 3) × (count ≤ 41) × (47 ≤ length (now flags)) ⌝ }
-    ensures { λ r. ⌜ pagesOf r (now (flags .exit)) ≡ run (pageRules registers entry (asked .write) (reached frame level (hostAddress level frame (asked .address)) (take count (now (flags .entry))))) (ofWindows (now (windows .entry)) (now (image .entry))) ⌝ }
-    ensures { λ r. ⌜ PagesNames r (lastTried (entryAt last) (pageRules registers entry (asked .write) (reached frame level (hostAddress level frame (asked .address)) (take count (now (flags .entry))))) (ofWindows (now (windows .entry)) (now (image .entry)))) ⌝ }
-    ensures { λ r. ⌜ Reachable (pagesOf r (now (flags .exit))) ⌝ }
-    ensures { λ r. ⌜ PagesGrows r 47 ⌝ }
+// at: the host address of the PASID table entry, which was tried last.
+fn first_stage(entry: PasidEntry, at: u64, address: u64) -> Stage
+    requires { ⌜ PagesWalkable entry ⌝ }
+    ensures { λ r. ⌜ Fits entry r × (r .last ≡ at) ⌝ }
+    ensures { λ r. ⌜ ((registers : ScalableRegisters) (write : Bool) (flags : List ℕ) → restRules registers entry address write (r .level) (r .at) (handed (r .top) (take (r .count) flags)) ≡ kindRules registers entry address write) ⌝ }
 {
-    let host = host_address(level, frame, asked.address);
-    if entry.kind != 3 {
-        return Pages::Reached(frame, level, host, count);
+    if entry.kind == 2 {
+        return Stage {
+            level: 0,
+            at: address,
+            top: true,
+            last: at,
+            count: 0,
+        };
     }
-    let write = asked.write;
-    let wanted = Wanted {
-        read: !write,
-        write,
-    };
-    match intermediate(
-        windows,
-        image,
-        registers,
-        entry,
-        wanted,
-        last,
-        host,
-        flags,
-        count,
-    ) {
-        Walked::Page(of, size, _writable, used) => Pages::Reached(
-            of,
-            size,
-            host_address(size, of, host),
-            used,
-        ),
-        Walked::Fault(reason, fpd, at) => Pages::Fault(reason, fpd, at),
+    Stage {
+        level: entry.first_levels,
+        at: entry.first_top,
+        top: true,
+        last: at,
+        count: 0,
     }
 }
 
-// at: the host address of the PASID table entry, which was tried last.
+// By PGTT, where it is none that passes through. at: the host address of the PASID table entry, which was tried last.
 pub fn walk_pages(
     windows: &[u64],
     image: &[u8],
@@ -91,25 +65,20 @@ pub fn walk_pages(
     asked: Asked,
     flags: &mut [u64],
 ) -> Pages
-    requires { ⌜ (badWindows (now windows) (length (now image)) ≡ false) × FirstWalkable entry × (47 ≤ length (now flags)) ⌝ }
-    ensures { λ r. ⌜ pagesOf r (now (flags .exit)) ≡ run (pagesRules registers entry (asked .address) (asked .write)) (ofWindows (now (windows .entry)) (now (image .entry))) ⌝ }
-    ensures { λ r. ⌜ PagesNames r (lastTried (entryAt at) (pagesRules registers entry (asked .address) (asked .write)) (ofWindows (now (windows .entry)) (now (image .entry)))) ⌝ }
-    ensures { λ r. ⌜ Reachable (pagesOf r (now (flags .exit))) ⌝ }
-    ensures { λ r. ⌜ PagesGrows r 47 ⌝ }
+    requires { ⌜ (badWindows (now windows) (length (now image)) ≡ false) × PagesWalkable entry × (47 ≤ length (now flags)) ⌝ }
+    ensures { λ r. ⌜ PagesTell r (kindRules registers entry (asked .address) (asked .write)) (ofWindows (now (windows .entry)) (now (image .entry))) (entryAt at) (now (flags .exit)) ⌝ }
 {
-    match first_walk(windows, image, registers, entry, at, asked, flags) {
-        FirstWalked::Page(frame, level, last, count) => final_page(
-            windows,
-            image,
-            registers,
-            entry,
-            asked,
-            frame,
-            level,
-            last,
-            flags,
-            count,
-        ),
-        FirstWalked::Fault(reason, fpd, last) => Pages::Fault(reason, fpd, last),
+    let walk = Walk {
+        first: first_span(windows),
+        registers,
+        entry,
+        asked,
+    };
+    let mut stage = first_stage(entry, at, asked.address);
+    loop {
+        match take_turn(windows, image, walk, stage, flags) {
+            Turn::On(next) => stage = next,
+            Turn::Done(pages) => return pages,
+        }
     }
 }

@@ -1,107 +1,129 @@
-// Intermediate addresses, and where a first-level entry stands.
-ghost use mathlib.Core.Bool.{false};
+// Where a first-level entry or a page stands.
+ghost use mathlib.Core.Bool.{_||_};
 ghost use mathlib.Core.Path.{_≡_};
+ghost use lib.Dec.{eqb};
 ghost use lib.ListN.{length, take};
 ghost use Prim.Native.Nat.{_+_, _%_, _^_, _<_, _≤_};
 ghost use Rattle.image.specs.Place.{entryAt, lastTried};
 ghost use Rattle.image.specs.Rules.{run};
-ghost use Rattle.image.specs.Windows.{ofWindows, badWindows};
-ghost use Rattle.nested.specs.Answers.{locatedOf, WayNames, WayGrows};
-ghost use Rattle.nested.specs.Pages.{intermediateRules, locate as locateRules, handed, SecondWalkable, FirstWalkable};
+ghost use Rattle.image.specs.Spans.{Opened};
+ghost use Rattle.image.specs.Windows.{ofWindows};
+ghost use Rattle.nested.specs.Answers.{Fits, WayTells};
+ghost use Rattle.nested.specs.Pages.{intermediateRules, placeAt, wantedAt, SecondWalkable};
 ghost use Rattle.second.specs.Answers.{walkedOf, Names, Grown};
 ghost use Rattle.second.specs.Second.{Reachable};
+use crate::Pages;
+use crate::stage::Stage;
+use crate::stage::Walk;
 use dma::overflows;
-use image::first_span;
 use pasid::PasidEntry;
 use pasid::ScalableReason;
-use pasid::ScalableRegisters;
+use registers::Page4K;
 use second::Walked;
 use second::Wanted;
 use second::host_address;
 use second::second_walk;
 
 pub enum Way {
-    // The entry's host address, whether the way to it may be written, and how many flags there are then.
-    Found(u64, bool, usize),
-    // Why there is none, FPD, and the host address of the entry concerned.
-    Fault(ScalableReason, bool, u64),
+    // An entry's host address, whether the way to it may be written, and how many flags there are then.
+    Entry(u64, bool, usize),
+    // The page, or why there is none.
+    Done(Pages),
 }
 
-// last: the host address of the entry that was tried last.
-pub(crate) fn intermediate(
+// Of the next entry in its table, or of the page itself.
+fn place_of(address: u64, level: u32, at: u64) -> u64
+    requires { ⌜ (level ≤ 5) × (0 < level → (at % 4096 ≡ 0) × (at < 2 ^ 52)) ⌝ }
+    ensures { λ r. ⌜ r ≡ placeAt address level at ⌝ }
+    ensures { λ r. ⌜ (0 < level → (r % 8 ≡ 0) × (r < 2 ^ 53)) ⌝ }
+{
+    if level == 0 {
+        return at;
+    }
+    at + 8 * ((address >> (Page4K::SHIFT + 9 * (level - 1))) % 512)
+}
+
+// The page is always found through the second level, an entry in a nested translation.
+fn through_second(kind: u8, level: u32) -> bool
+    ensures { λ r. ⌜ r ≡ (eqb level 0 || eqb kind 3) ⌝ }
+{
+    (level == 0) | (kind == 3)
+}
+
+// An entry is read, and with SLADE written; a page is what the request says.
+fn wanted_at(entry: PasidEntry, write: bool, level: u32) -> Wanted
+    ensures { λ r. ⌜ r ≡ wantedAt entry write level ⌝ }
+{
+    if level == 0 {
+        return Wanted {
+            read: !write,
+            write,
+        };
+    }
+    Wanted {
+        read: true,
+        write: entry.slade,
+    }
+}
+
+// Through the second level, to an intermediate address.
+fn intermediate(
     windows: &[u64],
     image: &[u8],
-    registers: ScalableRegisters,
-    entry: PasidEntry,
-    wanted: Wanted,
-    last: u64,
+    walk: Walk,
+    stage: Stage,
     address: u64,
     flags: &mut [u64],
-    count: usize,
 ) -> Walked
-    requires { ⌜ (badWindows (now windows) (length (now image)) ≡ false) × SecondWalkable entry × (count + 6 ≤ length (now flags)) ⌝ }
-    ensures { λ r. ⌜ walkedOf r (now (flags .exit)) ≡ run (intermediateRules registers entry wanted address (take count (now (flags .entry)))) (ofWindows (now (windows .entry)) (now (image .entry))) ⌝ }
-    ensures { λ r. ⌜ Names r (lastTried (entryAt last) (intermediateRules registers entry wanted address (take count (now (flags .entry)))) (ofWindows (now (windows .entry)) (now (image .entry)))) ⌝ }
+    requires { ⌜ Opened (walk .first) (now windows) (length (now image)) × SecondWalkable (walk .entry) × (stage .count + 6 ≤ length (now flags)) ⌝ }
+    ensures { λ r. ⌜ walkedOf r (now (flags .exit)) ≡ run (intermediateRules (walk .registers) (walk .entry) (wantedAt (walk .entry) (walk .asked .write) (stage .level)) address (take (stage .count) (now (flags .entry)))) (ofWindows (now (windows .entry)) (now (image .entry))) ⌝ }
+    ensures { λ r. ⌜ Names r (lastTried (entryAt (stage .last)) (intermediateRules (walk .registers) (walk .entry) (wantedAt (walk .entry) (walk .asked .write) (stage .level)) address (take (stage .count) (now (flags .entry)))) (ofWindows (now (windows .entry)) (now (image .entry)))) ⌝ }
     ensures { λ r. ⌜ Reachable (walkedOf r (now (flags .exit))) ⌝ }
-    ensures { λ r. ⌜ Grown r count (count + 6) ⌝ }
+    ensures { λ r. ⌜ Grown r (stage .count) (stage .count + 6) ⌝ }
 {
-    if overflows(registers.base, entry.second_levels, address) {
-        return Walked::Fault(ScalableReason::IntermediateOverflow, entry.fpd, last);
+    if overflows(walk.registers.base, walk.entry.second_levels, address) {
+        return Walked::Fault(
+            ScalableReason::IntermediateOverflow,
+            walk.entry.fpd,
+            stage.last,
+        );
     }
-    let first = first_span(windows);
+    let wanted = wanted_at(walk.entry, walk.asked.write, stage.level);
     second_walk(
-        first,
+        walk.first,
         windows,
         image,
-        registers,
-        entry,
+        walk.registers,
+        walk.entry,
         wanted,
         address,
         flags,
-        count,
+        stage.count,
     )
 }
 
-// top: it is the top entry.
 pub(crate) fn locate(
     windows: &[u64],
     image: &[u8],
-    registers: ScalableRegisters,
-    entry: PasidEntry,
-    top: bool,
-    last: u64,
-    place: u64,
+    walk: Walk,
+    stage: Stage,
     flags: &mut [u64],
-    count: usize,
 ) -> Way
-    requires { ⌜ (badWindows (now windows) (length (now image)) ≡ false) × FirstWalkable entry × (place % 8 ≡ 0) × (place < 2 ^ 53) × (count + 6 ≤ length (now flags)) ⌝ }
-    ensures { λ r. ⌜ locatedOf r top (now (flags .exit)) ≡ run (locateRules registers entry (handed top (take count (now (flags .entry)))) place) (ofWindows (now (windows .entry)) (now (image .entry))) ⌝ }
-    ensures { λ r. ⌜ WayNames r (lastTried (entryAt last) (locateRules registers entry (handed top (take count (now (flags .entry)))) place) (ofWindows (now (windows .entry)) (now (image .entry)))) ⌝ }
-    ensures { λ r. ⌜ WayGrows r count ⌝ }
+    requires { ⌜ Opened (walk .first) (now windows) (length (now image)) × Fits (walk .entry) stage × (47 ≤ length (now flags)) ⌝ }
+    ensures { λ r. ⌜ WayTells r walk stage (ofWindows (now (windows .entry)) (now (image .entry))) (now (flags .entry)) (now (flags .exit)) ⌝ }
 {
-    if entry.kind != 3 {
-        return Way::Found(place, true, count);
+    let place = place_of(walk.asked.address, stage.level, stage.at);
+    if !through_second(walk.entry.kind, stage.level) {
+        return Way::Entry(place, true, stage.count);
     }
-    let wanted = Wanted {
-        read: true,
-        write: entry.slade,
-    };
-    match intermediate(
-        windows,
-        image,
-        registers,
-        entry,
-        wanted,
-        last,
-        place,
-        flags,
-        count,
-    ) {
-        Walked::Page(frame, level, writable, used) => Way::Found(
-            host_address(level, frame, place),
-            writable,
-            used,
-        ),
-        Walked::Fault(reason, fpd, at) => Way::Fault(reason, fpd, at),
+    match intermediate(windows, image, walk, stage, place, flags) {
+        Walked::Page(frame, level, writable, count) => {
+            let host = host_address(level, frame, place);
+            if stage.level == 0 {
+                return Way::Done(Pages::Reached(frame, level, host, count));
+            }
+            Way::Entry(host, writable, count)
+        }
+        Walked::Fault(reason, fpd, at) => Way::Done(Pages::Fault(reason, fpd, at)),
     }
 }

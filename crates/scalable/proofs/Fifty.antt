@@ -18,11 +18,11 @@ use Rattle.pasid.specs.declared.ScalableRegisters.{ScalableRegisters}
 use Rattle.pasid.specs.declared.table.PasidEntry.{PasidEntry}
 use Rattle.first.specs.First.{notCanonical}
 use Rattle.second.specs.Second.{atTop, unfetchable, secondStep}
-use Rattle.nested.specs.Pages.{Pages, fault, wantedOfPage, toPage, pagesRules, SecondWalkable, FirstWalkable}
+use Rattle.nested.specs.Pages.{Pages, fault, wantedOfPage, toPage, pagesRules, SecondWalkable, FirstWalkable, PagesWalkable}
 use Rattle.nested.proofs.Few.{Few, few-answer, few-more, few-if, few-map, few-then, few-walk, few-pages}
 use Rattle.scalable.specs.Lookup.{Lookup, pasidEntry, noPasidEntry, lookupRules}
 use Rattle.scalable.specs.Named.{AtMostFifty}
-use Rattle.scalable.specs.Requests.{through, translated, pasidTooWide, withoutEntry, secondPages, pagedRules, typeRules, lookedUp, translationRules, Decision, sayOnly, decision, takenRules, scalableRules, PagesWalkable, Walkable}
+use Rattle.scalable.specs.Requests.{through, translated, pasidTooWide, withoutEntry, secondPages, pagedRules, typeRules, lookedUp, translationRules, Decision, sayOnly, decision, takenRules, scalableRules, Walkable}
 use Rattle.scalable.specs.declared.ScalableRequest.{ScalableRequest}
 use Rattle.scalable.proofs.Forks.{Absent, FoundSo, lookup-forks}
 use Rattle.scalable.proofs.Found.{walkable}

@@ -22,7 +22,7 @@ use Rattle.scalable.specs.Lookup.{Lookup, pasidEntry, noPasidEntry, look
 use Rattle.flags.specs.Flags.{setFlags}
 use Rattle.first.specs.First.{notCanonical}
 use Rattle.second.specs.Second.{atTop, secondRules}
-use Rattle.nested.specs.Pages.{Pages, reached, fault, wantedOfPage, toPage, pagesRules, SecondWalkable, FirstWalkable}
+use Rattle.nested.specs.Pages.{Pages, reached, fault, wantedOfPage, toPage, pagesRules, PagesWalkable}
 use Rattle.nested.specs.Then.{thenRules}
 use Rattle.scalable.specs.declared.ScalableRequest.{ScalableRequest}
 
@@ -113,8 +113,5 @@ abbrev pub scalableWritten : ScalableRegisters → ScalableRequest → (windows 
 scalableWritten r q windows bytes = setFlags windows (scalableDecision r q windows bytes .flags) bytes
 
 -- a PASID table entry whose tables can be walked, as each is that the check lets pass: for the code's contracts
-abbrev pub PagesWalkable : PasidEntry → Type 0
-PagesWalkable p = (p .kind ≡ 2 → SecondWalkable p) × ((p .kind ≡ 2 → ⊥) → FirstWalkable p)
-
 abbrev pub Walkable : PasidEntry → Type 0
 Walkable p = (p .kind ≡ 4 → ⊥) → PagesWalkable p

@@ -7,25 +7,20 @@ ghost use Rattle.image.specs.Place.{entryAt, lastTried, stoppedAt};
 ghost use Rattle.image.specs.Rules.{run};
 ghost use Rattle.image.specs.Windows.{ofWindows, badWindows};
 ghost use Rattle.nested.specs.Answers.{pagesOf, PagesNames, PagesGrows};
-ghost use Rattle.nested.specs.Pages.{Reachable, SecondWalkable};
+ghost use Rattle.nested.specs.Pages.{Reachable, PagesWalkable};
 ghost use Rattle.scalable.specs.Answers.{translationOf, TranslationNames, TranslationReachable};
-ghost use Rattle.scalable.specs.Requests.{secondPages, pagedRules, typeRules, translationRules, PagesWalkable, Walkable};
+ghost use Rattle.scalable.specs.Requests.{pagedRules, typeRules, translationRules, Walkable};
 use crate::ScalableRequest;
 use crate::lookup::PasidLookup;
 use crate::lookup::find_pasid_entry;
 use dma::overflows;
 use first::not_canonical;
-use image::first_span;
 use nested::Asked;
 use nested::Pages;
 use nested::walk_pages;
 use pasid::PasidEntry;
 use pasid::ScalableReason;
 use pasid::ScalableRegisters;
-use second::Walked;
-use second::Wanted;
-use second::host_address;
-use second::second_walk;
 
 pub enum Translation {
     // The address itself.
@@ -34,54 +29,6 @@ pub enum Translation {
     Page(u64, u32, u64, usize),
     // Why, FPD as it was read by then, and the host address of the entry concerned.
     Fault(ScalableReason, bool, u64),
-}
-
-// The second level alone. at: the host address of the PASID table entry, which was tried last.
-fn second_pages(
-    windows: &[u64],
-    image: &[u8],
-    registers: ScalableRegisters,
-    entry: PasidEntry,
-    at: u64,
-    asked: Asked,
-    flags: &mut [u64],
-) -> Pages
-    requires { ⌜ (badWindows (now windows) (length (now image)) ≡ false) × SecondWalkable entry × (47 ≤ length (now flags)) ⌝ }
-    ensures { λ r. ⌜ pagesOf r (now (flags .exit)) ≡ run (secondPages registers (asked .address) (asked .write) entry) (ofWindows (now (windows .entry)) (now (image .entry))) ⌝ }
-    ensures { λ r. ⌜ PagesNames r (lastTried (entryAt at) (secondPages registers (asked .address) (asked .write) entry) (ofWindows (now (windows .entry)) (now (image .entry)))) ⌝ }
-    ensures { λ r. ⌜ Reachable (pagesOf r (now (flags .exit))) × PagesGrows r 47 ⌝ }
-{
-    if overflows(registers.base, entry.second_levels, asked.address) {
-        return Pages::Fault(ScalableReason::AddressOverflow, entry.fpd, at);
-    }
-    let write = asked.write;
-    let wanted = Wanted {
-        read: !write,
-        write,
-    };
-    let first = first_span(windows);
-    let walked = second_walk(
-        first,
-        windows,
-        image,
-        registers,
-        entry,
-        wanted,
-        asked.address,
-        flags,
-        0,
-    );
-    match walked {
-        Walked::Page(frame, level, _, count) => {
-            Pages::Reached(
-                frame,
-                level,
-                host_address(level, frame, asked.address),
-                count,
-            )
-        }
-        Walked::Fault(reason, fpd, place) => Pages::Fault(reason, fpd, place),
-    }
 }
 
 // By PGTT, where it is none that passes through.
@@ -100,9 +47,10 @@ fn find_pages(
     ensures { λ r. ⌜ Reachable (pagesOf r (now (flags .exit))) × PagesGrows r 47 ⌝ }
 {
     if entry.kind == 2 {
-        return second_pages(windows, image, registers, entry, at, asked, flags);
-    }
-    if not_canonical(entry.first_levels, asked.address) {
+        if overflows(registers.base, entry.second_levels, asked.address) {
+            return Pages::Fault(ScalableReason::AddressOverflow, entry.fpd, at);
+        }
+    } else if not_canonical(entry.first_levels, asked.address) {
         return Pages::Fault(ScalableReason::NotCanonical, entry.fpd, at);
     }
     walk_pages(windows, image, registers, entry, at, asked, flags)

@@ -1,69 +1,97 @@
-use Prim.Native.Nat.{ℕ, _+_, _%_, _^_, _<_, _≤_}
-use mathlib.Core.Bool.{Bool, true, false}
-use mathlib.Core.List.{List}
+use Prim.Native.Nat.{ℕ, _%_, _≤_}
 use mathlib.Core.Path.{_≡_, refl, ap, sym, _∙_, subst}
 use native.Mathlib.Omega.{arith}
-use lib.ListN.{take, length}
+use lib.ListN.{length}
+use Rattle.image.specs.Memory.{Memory}
 use Rattle.image.specs.Place.{Place, entryAt, lastTried}
-use Rattle.image.specs.Rules.{run}
+use Rattle.image.specs.Rules.{Rules, run}
+use Rattle.image.specs.Spans.{Opened}
 use Rattle.image.specs.Windows.{ofWindows}
-use Rattle.nested.specs.Answers.{PagesNames}
-use Rattle.nested.specs.Pages.{Pages, pageRules, pagesRules}
-use Rattle.nested.proofs.Nested.{by-page, by-page-at}
+use Rattle.image.proofs.GoodWindows.{three-each}
+use Rattle.nested.specs.Answers.{PagesNames, stageRules, Fits}
+use Rattle.nested.specs.Pages.{Pages, kindRules}
+use Rattle.nested.specs.declared.stage.Walk.{Walk}
 use borrow.Author.Needs.{needs}
 use Rattle.nested.proofs.walk_pages.Statement.{statement}
 use Rattle.nested.proofs.walk_pages.Tie as tie
 
-first-walk-requires : tie.Need-first-walk-requires
-first-walk-requires c κs = c .before .before .before .before .pre
+abbrev whole : Walk → Rules Pages
+whole w = kindRules (w .registers) (w .entry) (w .asked .address) (w .asked .write)
 
-final-page-requires : tie.Need-final-page-requires
-final-page-requires c κs =
-    let pre = c .before .before .before .before .before .before .before .before .before .before .before .pre in
-    let w = c .before .before .before .before .before .before .first-walk in
-    let page = rw (c .before .before .frame .given .1) at (w .ensures .1 .1 .0) in
-    let few = rw (c .before .before .frame .given .1) at (w .ensures .1 .1 .1) in
-    (pre .0, pre .1, page .0, page .1, page .2, few, omega (arith, pre .2, w .kept .1 .1 .1 .1 .1 .1 .0))
+begun : (m : Memory) {last at : ℕ} {q q′ : Rules Pages} → last ≡ at → q ≡ q′ → lastTried (entryAt last) q m ≡ lastTried (entryAt at) q′ m
+begun m {last} {at} {q} same rules = ap (λ (place : ℕ). lastTried (entryAt place) q m) same ∙ ap (λ q. lastTried (entryAt at) q m) rules
 
-same-length : tie.Need-same-length
-same-length c = c .before .before .final-page .kept .1 .1 .1 .1 .1 .1 .1 .1 .0 ∙ c .before .before .before .before .before .before .before .before .before .first-walk .kept .1 .1 .1 .1 .1 .1 .0
+abbrev Inv-loop : tie.InvT-loop
+Inv-loop windows image at flags₀ walk stage₀ flags stage =
+    Opened (walk .first) windows (length image)
+    × Fits (walk .entry) stage
+    × (length flags ≡ length flags₀)
+    × (47 ≤ length flags₀)
+    × (run (stageRules walk stage flags) (ofWindows windows image) ≡ run (whole walk) (ofWindows windows image))
+    × (lastTried (entryAt (stage .last)) (stageRules walk stage flags) (ofWindows windows image)
+    ≡ lastTried (entryAt at) (whole walk) (ofWindows windows image))
 
-returns : tie.Need-returns
+abbrev μ-loop : tie.MeasureT-loop
+μ-loop windows image at flags₀ walk stage₀ flags stage = stage .level
+
+loop-holds : tie.Need-loop-holds Inv-loop μ-loop
+loop-holds c =
+    let s = c .before .before .before .before .before in
+    let a = s .args in
+    let m = ofWindows (a .windows .now) (a .image .now) in
+    let first = c .first-stage .ensures in
+    let rules = first .1 (a .registers) (a .asked .write) (a .flags .now) in (
+      (s .pre .0, c .before .first-span .ensures),
+      first .0 .0,
+      refl,
+      s .pre .2,
+      ap (λ q. run q m) rules,
+      begun m (first .0 .1) rules,
+    )
+
+first-span-requires : tie.Need-first-span-requires Inv-loop μ-loop
+first-span-requires c κs =
+    let s = c .before .before .before in
+    three-each (s .args .windows .now) (length (s .args .image .now)) (s .pre .0) .1
+
+first-stage-requires : tie.Need-first-stage-requires Inv-loop μ-loop
+first-stage-requires c κs = c .before .before .before .before .pre .1
+
+take-turn-requires : tie.Need-take-turn-requires Inv-loop μ-loop
+take-turn-requires c κs = let i = c .before .loop .inv in (i .0, i .1, omega (arith, i .2, i .3))
+
+loop-less : tie.Need-loop-less Inv-loop μ-loop
+loop-less c = let told = rw (c .before .next .given .1) at (c .before .before .before .before .before .take-turn .ensures) in told .1
+
+loop-again : tie.Need-loop-again Inv-loop μ-loop
+loop-again c =
+    let t = c .before .before .before .before .before .take-turn in
+    let i = c .before .before .before .before .before .before .before .loop .inv in
+    let told = rw (c .before .next .given .1) at (t .ensures) in
+    (i .0, told .0, t .kept .1 .1 .1 .1 .0 ∙ i .2, i .3, told .2 ∙ i .4, told .3 ∙ i .5)
+
+same-length : tie.Need-same-length Inv-loop μ-loop
+same-length c = c .before .before .before .before .before .take-turn .kept .1 .1 .1 .1 .0 ∙ c .before .before .before .before .before .before .before .loop .inv .2
+
+returns : tie.Need-returns Inv-loop μ-loop
 returns c =
-    let a = c .before .before .before .before .before .before .before .before .before .before .before .before .before .before .args in
-    let m = ofWindows (a .windows .now) (a .image .now) in
-    let w = c .before .before .before .before .before .before .before .before .before .first-walk in
-    let g = c .before .before .before .before .before .frame .given in
-    let told = rw (g .1) at (w .ensures .0) in
-    let there = rw (g .1) at (w .ensures .1 .0) in
-    let f = c .before .before .final-page in
-    let rest = by-page (a .registers) (a .entry) (a .asked .address) (a .asked .write) m told in
-    let stopped = by-page-at (a .registers) (a .entry) (a .asked .address) (a .asked .write) m (entryAt (a .at)) told there in
-    (f .ensures .0 ∙ rest, (subst (λ (place : Place). PagesNames (f .result) place) stopped (f .ensures .1 .0), (f .ensures .1 .1 .0, f .ensures .1 .1 .1)))
-
-same-length-2 : tie.Need-same-length-2
-same-length-2 c = search needs
-
-returns-2 : tie.Need-returns-2
-unfolding pageRules run lastTried
-returns-2 c =
-    let a = c .before .before .before .before .before .before .before .before .before .before .args in
-    let m = ofWindows (a .windows .now) (a .image .now) in
-    let w = c .before .before .before .before .before .first-walk in
-    let g = c .before .reason .given in
-    let told = rw (g .1) at (w .ensures .0) in
-    let there = rw (g .1) at (w .ensures .1 .0) in
-    (by-page (a .registers) (a .entry) (a .asked .address) (a .asked .write) m told, (by-page-at (a .registers) (a .entry) (a .asked .address) (a .asked .write) m (entryAt (a .at)) told there, (tt, tt)))
+    let i = c .before .before .before .before .before .before .before .loop .inv in
+    let told = rw (c .before .pages .given .1) at (c .before .before .before .before .before .take-turn .ensures) in
+    (told .0 ∙ i .4, subst (λ (place : Place). PagesNames (c .before .pages .given .0 .0) place) (i .5) (told .1), told .2, told .3)
 
 pub walk-pages-spec : {M : Type 1} → statement M
 walk-pages-spec =
     tie.close
     (tie.spec
-    first-walk-requires
+    Inv-loop
+    μ-loop
+    first-span-requires
+    first-stage-requires
+    loop-holds
+    take-turn-requires
     (λ c. search needs)
-    final-page-requires
+    loop-less
+    loop-again
     (λ c. search needs)
     same-length
-    returns
-    same-length-2
-    returns-2)
+    returns)

@@ -1,25 +1,44 @@
-use mathlib.Core.Path.{_≡_, refl}
+use Prim.Native.Nat.{ℕ}
+use mathlib.Core.Bool.{Bool, false}
+use mathlib.Core.List.{[]}
+use mathlib.Core.Logic.{⊎-elim}
+use mathlib.Core.Path.{_≡_, refl, ap, sym, _∙_, subst}
 use borrow.Author.Tests.{eq-eqb, ne-eqb}
-use Rattle.image.specs.Place.{lastTried}
-use Rattle.image.specs.Rules.{run}
-use Rattle.scalable.specs.Requests.{pagedRules}
+use Rattle.image.specs.Memory.{Memory}
+use Rattle.image.specs.Place.{Place, entryAt, lastTried}
+use Rattle.image.specs.Rules.{Rules, run, mapRules}
+use Rattle.image.specs.Windows.{ofWindows}
+use Rattle.dma.specs.Translation.{overflows}
+use Rattle.pasid.specs.declared.ScalableRegisters.{ScalableRegisters}
+use Rattle.pasid.specs.declared.table.PasidEntry.{PasidEntry}
+use Rattle.first.specs.First.{notCanonical}
+use Rattle.nested.specs.Answers.{PagesNames}
+use Rattle.nested.specs.Pages.{Pages, wantedOfPage, toPage, kindRules}
+use Rattle.nested.proofs.Nested.{within}
+use Rattle.scalable.specs.Requests.{secondPages, pagedRules}
 use borrow.Author.Needs.{needs}
 use Rattle.scalable.proofs.translation.find_pages.Statement.{statement}
 use Rattle.scalable.proofs.translation.find_pages.Tie as tie
 
-second-pages-requires : tie.Need-second-pages-requires
-second-pages-requires c κs =
-    let t = c .before in
-    let p = t .before .before .before .before .before .pre in
-    (p .0, p .1 .0 (t .if1 .taken), p .2)
+-- past the test of the address, by PGTT
+module _ (r : ScalableRegisters) (p : PasidEntry) (address : ℕ) (write : Bool) where
+  second-alone : p .kind ≡ 2 → overflows (r .base) (p .«second_levels») address ≡ false → kindRules r p address write ≡ pagedRules r address write p
+  unfolding kindRules pagedRules secondPages
+  second-alone is below =
+      rw (eq-eqb (p .kind) 2 is, below) (ap (mapRules (toPage address)) (sym (within r p (wantedOfPage write) address [] below)))
+
+  first-too : (p .kind ≡ 2 → ⊥) → notCanonical (p .«first_levels») address ≡ false → kindRules r p address write ≡ pagedRules r address write p
+  unfolding kindRules pagedRules
+  first-too other fine = rw (ne-eqb (p .kind) 2 other, fine)
+
+overflows-requires : tie.Need-overflows-requires
+overflows-requires c κs = c .before .before .before .before .before .pre .1 .0 (c .if1 .taken) .1
 
 returns : tie.Need-returns
-unfolding pagedRules
+unfolding pagedRules secondPages run lastTried
 returns c =
-    let k = c .before .before in
-    let t = k .before .before in
-    let e = k .second-pages .ensures in
-    (rw (eq-eqb _ 2 (t .if1 .taken)) (e .0), (rw (eq-eqb _ 2 (t .if1 .taken)) (e .1 .0), e .1 .1))
+    let n = c .before in
+    (rw (eq-eqb _ 2 (n .before .if1 .taken), ← n .overflows .ensures, c .if2 .taken), (rw (eq-eqb _ 2 (n .before .if1 .taken), ← n .overflows .ensures, c .if2 .taken), (tt, tt)))
 
 not-canonical-requires : tie.Need-not-canonical-requires
 not-canonical-requires c κs = c .before .before .before .before .before .pre .1 .1 (c .if1 .left) .1
@@ -28,31 +47,29 @@ returns-2 : tie.Need-returns-2
 unfolding pagedRules run lastTried
 returns-2 c =
     let n = c .before in
-    (rw (ne-eqb _ _ (n .before .if1 .left), ← n .not-canonical .ensures, c .if2 .taken), (rw (ne-eqb _ _ (n .before .if1 .left), ← n .not-canonical .ensures, c .if2 .taken), (tt, tt)))
+    (rw (ne-eqb _ _ (n .before .if1 .left), ← n .not-canonical .ensures, c .if3 .taken), (rw (ne-eqb _ _ (n .before .if1 .left), ← n .not-canonical .ensures, c .if3 .taken), (tt, tt)))
 
 walk-pages-requires : tie.Need-walk-pages-requires
-walk-pages-requires c κs =
-    let e = c .before .before .before in
-    let p = e .before .before .before .before .before .pre in
-    (p .0, p .1 .1 (e .if1 .left), p .2)
+walk-pages-requires c κs = c .before .before .before .before .before .before .pre
 
 returns-3 : tie.Need-returns-3
-unfolding pagedRules
 returns-3 c =
     let k = c .before .before in
     let t = k .before .before in
-    let n = t .before in
-    let e = k .walk-pages .ensures in (
-      rw (ne-eqb _ _ (n .before .if1 .left), ← n .not-canonical .ensures, t .if2 .left) (e .0),
-      (rw (ne-eqb _ _ (n .before .if1 .left), ← n .not-canonical .ensures, t .if2 .left) (e .1 .0), (e .1 .1 .0, e .1 .1 .1)),
-    )
+    let s = t .before .before .before .before .before in
+    let a = s .args in
+    let m = ofWindows (a .windows .now) (a .image .now) in
+    let e = k .walk-pages .ensures in
+    let same : kindRules (a .registers) (a .entry) (a .asked .address) (a .asked .write) ≡ pagedRules (a .registers) (a .asked .address) (a .asked .write) (a .entry) =
+    ⊎-elim (λ x. second-alone (a .registers) (a .entry) (a .asked .address) (a .asked .write) (x .0 .taken) (sym (x .1 .ensures) ∙ x .2 .left))
+    (λ x. first-too (a .registers) (a .entry) (a .asked .address) (a .asked .write) (x .0 .left) (sym (x .1 .ensures) ∙ x .2 .left)) (t .if1 .came) in
+    (e .0 ∙ ap (λ q. run q m) same, (subst (λ q. PagesNames (k .walk-pages .result) (lastTried (entryAt (a .at)) q m)) same (e .1), (e .2, e .3)))
 
 pub find-pages-spec : {M : Type 1} → statement M
 find-pages-spec =
     tie.close
     (tie.spec
-    second-pages-requires
-    (λ c. search needs)
+    overflows-requires
     returns
     not-canonical-requires
     returns-2

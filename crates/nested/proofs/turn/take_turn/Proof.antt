@@ -1,0 +1,80 @@
+use Prim.Native.Nat.{ℕ, suc, _+_, _-_, _*_, _≤_}
+use mathlib.Core.List.{List}
+use mathlib.Core.Path.{_≡_, refl, ap, sym, _∙_, subst}
+use native.Mathlib.Omega.{arith}
+use lib.ListN.{take, length}
+use Rattle.image.specs.Memory.{Memory}
+use Rattle.image.specs.Place.{Place, entryAt, lastTried}
+use Rattle.image.specs.Rules.{run}
+use Rattle.image.specs.Windows.{ofWindows}
+use Rattle.dma.specs.Walk.{Step}
+use Rattle.nested.specs.Answers.{levelOf, levelPlace}
+use Rattle.nested.specs.Pages.{Pages, Handed, handed, entryOver}
+use Rattle.nested.proofs.Firsts.{levelOver, entered, entered-at, grows-more}
+use Rattle.nested.proofs.Rests.{onward, onward-at}
+use Rattle.nested.proofs.Turns.{turned}
+use borrow.Author.Needs.{needs}
+use Rattle.nested.proofs.turn.take_turn.Statement.{statement}
+use Rattle.nested.proofs.turn.take_turn.Tie as tie
+
+locate-requires : tie.Need-locate-requires
+locate-requires c κs = c .before .before .before .before .pre
+
+level-entry-requires : tie.Need-level-entry-requires
+level-entry-requires c κs =
+    let pre = c .before .before .before .before .before .before .before .before .before .before .before .pre in
+    let l = c .before .before .before .before .before .before .locate in
+    let told = rw (c .before .before .at .given .1) at (l .ensures) in
+    let fits = pre .1 .0 (told .0) in
+    (pre .0, told .0, told .1, told .2, omega (arith, told .0, told .3, fits .4, pre .2, l .kept .1 .1 .1 .1 .0))
+
+after-level-requires : tie.Need-after-level-requires
+after-level-requires c κs =
+    let pre = c .before .before .before .before .before .before .before .before .before .before .before .before .before .before .pre in
+    let l = c .before .before .before .before .before .before .before .before .before .locate in
+    let told = rw (c .before .before .before .before .before .at .given .1) at (l .ensures) in
+    let fits = pre .1 .0 (told .0) in
+    let e = c .before .before .level-entry in
+    (fits .0, told .0, fits .1, e .ensures .1 .1 .0, grows-more (e .result) _ _ (omega (arith, told .0, told .3, fits .1, fits .4)) (e .ensures .1 .1 .1))
+
+same-length : tie.Need-same-length
+same-length c = c .before .before .before .level-entry .kept .1 .1 .1 .1 .1 .1 .0 ∙ c .before .before .before .before .before .before .before .before .before .before .locate .kept .1 .1 .1 .1 .0
+
+returns : tie.Need-returns
+returns c =
+    let s = c .before .before .before .before .before .before .before .before .before .before .before .before .before .before .before in
+    let a = s .args in
+    let w = a .walk in
+    let m = ofWindows (a .windows .now) (a .image .now) in
+    let l = c .before .before .before .before .before .before .before .before .before .before .locate in
+    let told = rw (c .before .before .before .before .before .before .at .given .1) at (l .ensures) in
+    let e = c .before .before .before .level-entry in
+    let n = c .after-level in
+    let handed-in = handed (a .stage .top) (take (a .stage .count) (a .flags .now)) in
+    let this : a .stage .level ≡ suc (a .stage .level - 1) = omega (arith, told .0) in
+    let over = entered (w .registers) (w .entry) (w .asked .address) (w .asked .write) m (a .stage .level - 1) (a .stage .at) handed-in (told .4) in
+    let stepped = rw this at (e .ensures .0) in
+    let there = entered-at (w .registers) (w .entry) (w .asked .address) (w .asked .write) m (a .stage .level - 1) (a .stage .at) handed-in (told .4) (entryAt (a .stage .last)) in
+    turned (n .result) w (a .stage) m (a .flags .now) (e .last .1 .1 .1 .1 .1 .1 .0) _ (levelPlace (e .result)) (n .ensures .0 _) (n .ensures .1 .0) (n .ensures .1 .1)
+    (onward (w .registers) (w .entry) (w .asked .address) (w .asked .write) m (a .stage .level) (a .stage .at) handed-in (told .0) _ (stepped ∙ over))
+    (onward-at (w .registers) (w .entry) (w .asked .address) (w .asked .write) m (a .stage .level) (a .stage .at) handed-in (told .0) (entryAt (a .stage .last)) (e .ensures .1 .0 ∙ there) _ (stepped ∙ over))
+
+same-length-2 : tie.Need-same-length-2
+same-length-2 c = search needs
+
+returns-2 : tie.Need-returns-2
+returns-2 c = rw (c .before .pages .given .1) at (c .before .before .before .before .before .locate .ensures)
+
+pub take-turn-spec : {M : Type 1} → statement M
+take-turn-spec =
+    tie.close
+    (tie.spec
+    locate-requires
+    (λ c. search needs)
+    level-entry-requires
+    after-level-requires
+    (λ c. search needs)
+    same-length
+    returns
+    same-length-2
+    returns-2)

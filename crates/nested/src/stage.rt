@@ -1,0 +1,31 @@
+// What a walk is given, and where it stands.
+use image::Span;
+use pasid::PasidEntry;
+use pasid::ScalableRegisters;
+
+// What a walk is for: the request's address, and whether it is a write.
+pub struct Asked {
+    pub address: u64,
+    pub write: bool,
+}
+
+// The same for all of its turns; first: the first window.
+pub struct Walk {
+    pub first: Span,
+    pub registers: ScalableRegisters,
+    pub entry: PasidEntry,
+    pub asked: Asked,
+}
+
+pub struct Stage {
+    // The level of the first-level entry that comes next; 0 for the page itself, which is at an intermediate address.
+    pub level: u32,
+    // The entry's table; the page's address.
+    pub at: u64,
+    // The entry is the top one.
+    pub top: bool,
+    // The host address of the entry that was tried last.
+    pub last: u64,
+    // How many flags are collected.
+    pub count: usize,
+}

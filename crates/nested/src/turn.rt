@@ -1,0 +1,74 @@
+// A turn of a walk: an entry of the first level, or the page.
+ghost use mathlib.Core.List.{List};
+ghost use mathlib.Core.Path.{_≡_};
+ghost use lib.ListN.{length};
+ghost use Prim.Native.Nat.{ℕ, _-_, _*_, _<_, _≤_};
+ghost use Rattle.image.specs.Spans.{Opened};
+ghost use Rattle.image.specs.Windows.{ofWindows};
+ghost use Rattle.dma.specs.Walk.{onStep};
+ghost use Rattle.nested.specs.Answers.{levelOf, levelPlace, LevelGrows, LevelReachable, Fits, turnRules, TurnLast, TurnFits, TurnTells};
+ghost use Rattle.nested.specs.Pages.{pageRules, restRules, FirstWalkable};
+use crate::Pages;
+use crate::level::Level;
+use crate::level::level_entry;
+use crate::stage::Stage;
+use crate::stage::Walk;
+use crate::way::Way;
+use crate::way::locate;
+use second::host_address;
+
+pub enum Turn {
+    On(Stage),
+    Done(Pages),
+}
+
+// What comes after an entry of a level. In a nested translation the page is at an intermediate address.
+fn after_level(walk: Walk, level: u32, step: Level) -> Turn
+    requires { ⌜ FirstWalkable (walk .entry) × (0 < level) × (level ≤ 5) × LevelReachable step level × LevelGrows step (40 - 8 * (level - 1)) ⌝ }
+    ensures { λ r. ⌜ ((flags : List ℕ) → turnRules r walk flags ≡ onStep (levelOf step (walk .asked .address) flags) (pageRules (walk .registers) (walk .entry) (walk .asked .write)) (restRules (walk .registers) (walk .entry) (walk .asked .address) (walk .asked .write) (level - 1))) ⌝ }
+    ensures { λ r. ⌜ TurnLast r (levelPlace step) ⌝ }
+    ensures { λ r. ⌜ TurnFits r (walk .entry) level ⌝ }
+{
+    match step {
+        Level::Down(table, last, count) => Turn::On(Stage {
+            level: level - 1,
+            at: table,
+            top: false,
+            last,
+            count,
+        }),
+        Level::Page(frame, of, last, count) => {
+            let host = host_address(of, frame, walk.asked.address);
+            if walk.entry.kind != 3 {
+                return Turn::Done(Pages::Reached(frame, of, host, count));
+            }
+            Turn::On(Stage {
+                level: 0,
+                at: host,
+                top: false,
+                last,
+                count,
+            })
+        }
+        Level::Fault(reason, fpd, last) => Turn::Done(Pages::Fault(reason, fpd, last)),
+    }
+}
+
+pub(crate) fn take_turn(
+    windows: &[u64],
+    image: &[u8],
+    walk: Walk,
+    stage: Stage,
+    flags: &mut [u64],
+) -> Turn
+    requires { ⌜ Opened (walk .first) (now windows) (length (now image)) × Fits (walk .entry) stage × (47 ≤ length (now flags)) ⌝ }
+    ensures { λ r. ⌜ TurnTells r walk stage (ofWindows (now (windows .entry)) (now (image .entry))) (now (flags .entry)) (now (flags .exit)) ⌝ }
+{
+    match locate(windows, image, walk, stage, flags) {
+        Way::Entry(at, writable, count) => {
+            let step = level_entry(windows, image, walk, stage, writable, at, flags, count);
+            after_level(walk, stage.level, step)
+        }
+        Way::Done(pages) => Turn::Done(pages),
+    }
+}
