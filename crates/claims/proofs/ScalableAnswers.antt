@@ -189,8 +189,8 @@ module _ (r : ScalableRegisters) where
       where
         told : FirstStep → Step Handed Pages
         told x =
-            onFirst x (λ table. down table (handed false (s .flags ++ entryFlags p write false place)))
-            (λ frame level. done (reached frame level (hostAddress level frame address) (s .flags ++ entryFlags p write true place)))
+            onFirst x (λ table. down table (handed false (s .flags ++ entryFlags p write false place e)))
+            (λ frame level. done (reached frame level (hostAddress level frame address) (s .flags ++ entryFlags p write true place e)))
             (λ reason fpd. done (fault reason fpd))
 
         on : (t : Bool) (x y : FirstStep) → StepSays SaysPages n (told x) → StepSays SaysPages n (told y) → StepSays SaysPages n (told (if t then x else y))

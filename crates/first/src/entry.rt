@@ -25,7 +25,7 @@ pub(crate) fn first_reserved(registers: ScalableRegisters, nxe: bool, level: u32
 }
 
 // A flag that a granted request sets is still clear: A, D in the entry of a page that is written, EA with EAFE.
-pub(crate) fn flag_clear(entry: PasidEntry, write: bool, leaf: bool, e: u64) -> bool
+pub fn flag_clear(entry: PasidEntry, write: bool, leaf: bool, e: u64) -> bool
     ensures { λ r. ⌜ r ≡ flagClear entry write leaf e ⌝ }
 {
     let accessed = field(e, 5, 5) == 1;

@@ -4,6 +4,7 @@ mod entry;
 mod step;
 
 pub use canonical::not_canonical;
+pub use entry::flag_clear;
 pub use step::FirstStep;
 pub use step::first_step;
 pub use step::unfetchable;

@@ -15,7 +15,7 @@ use Rattle.dma.proofs.Stepped.{more-levels}
 use Rattle.pasid.specs.declared.ScalableRegisters.{ScalableRegisters}
 use Rattle.pasid.specs.declared.table.PasidEntry.{PasidEntry}
 use Rattle.flags.specs.Flags.{flag}
-use Rattle.first.specs.First.{FirstStep, down as downTo, page, fault as stop, onFirst, firstReserved, flagClear, notSnooped, userDenied, writeDenied, firstFrame, firstStep}
+use Rattle.first.specs.First.{FirstStep, down as downTo, page, fault as stop, onFirst, firstFlags, firstReserved, flagClear, notSnooped, userDenied, writeDenied, firstFrame, firstStep}
 use Rattle.nested.specs.Pages.{Pages, reached, fault, Handed, handed, entryFlags, unfetched, locate, walkStep, firstRules, entryOver}
 use Rattle.nested.specs.Way.{Located, located, lost}
 use Rattle.image.specs.EntryKind.{firstLevelEntry}
@@ -25,10 +25,15 @@ use Rattle.nested.specs.declared.level.Level.the-variants as level
 use Rattle.nested.proofs.Nested.{no-entry}
 use Rattle.nested.proofs.Ways.{wayOver, triedOver, leads-by, lost-over, lost-tried, fetched-over, found-tried, ended-way, onward-way, ended-way-at, onward-way-at}
 
+-- no flags
+pub nothing : (l : List ℕ) → l ≡ l ++ []
+nothing [] = refl
+nothing (x ∷ l) = ap (λ (t : List ℕ). x ∷ t) (nothing l)
+
 -- the flags of an entry, one by one
 pub one-by-one : (p : PasidEntry) (dirty : Bool) (place : ℕ) (l : List ℕ)
     → ((l ++ (flag place 5 ∷ [])) ++ (if dirty then flag place 6 ∷ [] else [])) ++ (if p .eafe then flag place 10 ∷ [] else [])
-    ≡ l ++ entryFlags p dirty true place
+    ≡ l ++ map (flag place) (firstFlags p dirty true)
 one-by-one p dirty place l = by dirty (p .eafe)
   where
     together : (a b c : List ℕ) → (a ++ b) ++ c ≡ a ++ (b ++ c)
@@ -45,23 +50,23 @@ one-by-one p dirty place l = by dirty (p .eafe)
 
 module _ (r : ScalableRegisters) (p : PasidEntry) (address : ℕ) (write : Bool) (level place : ℕ) (s : Handed) (e : ℕ) where
   told : {x : FirstStep} → x ≡ firstStep r p write (s .writable) level e
-      → onFirst x (λ table. down table (handed false (s .flags ++ entryFlags p write false place)))
-      (λ frame level. done (reached frame level (hostAddress level frame address) (s .flags ++ entryFlags p write true place)))
+      → onFirst x (λ table. down table (handed false (s .flags ++ entryFlags p write false place e)))
+      (λ frame level. done (reached frame level (hostAddress level frame address) (s .flags ++ entryFlags p write true place e)))
       (λ reason fpd. done (fault reason fpd))
       ≡ walkStep r p address write level place s e
   told h =
       ap
-      (λ x. onFirst x (λ table. down table (handed false (s .flags ++ entryFlags p write false place)))
-      (λ frame level. done (reached frame level (hostAddress level frame address) (s .flags ++ entryFlags p write true place)))
+      (λ x. onFirst x (λ table. down table (handed false (s .flags ++ entryFlags p write false place e)))
+      (λ frame level. done (reached frame level (hostAddress level frame address) (s .flags ++ entryFlags p write true place e)))
       (λ reason fpd. done (fault reason fpd)))
       h
 
   pub down-told : {table : ℕ} → downTo table ≡ firstStep r p write (s .writable) level e
-      → down table (handed false (s .flags ++ entryFlags p write false place)) ≡ walkStep r p address write level place s e
+      → down table (handed false (s .flags ++ entryFlags p write false place e)) ≡ walkStep r p address write level place s e
   down-told h = told h
 
   pub page-told : {frame of : ℕ} → page frame of ≡ firstStep r p write (s .writable) level e
-      → done (reached frame of (hostAddress of frame address) (s .flags ++ entryFlags p write true place)) ≡ walkStep r p address write level place s e
+      → done (reached frame of (hostAddress of frame address) (s .flags ++ entryFlags p write true place e)) ≡ walkStep r p address write level place s e
   page-told h = told h
 
   pub fault-told : {reason : ℕ} {fpd : Bool} → stop reason fpd ≡ firstStep r p write (s .writable) level e
@@ -109,8 +114,8 @@ module _ (r : ScalableRegisters) (p : PasidEntry) (address : ℕ) (write : Bool)
     where
       by : (x : FirstStep) → x ≡ firstStep r p write (t .writable) (suc n) e
           → down next u
-          ≡ onFirst x (λ table. down table (handed false (t .flags ++ entryFlags p write false place)))
-          (λ frame level. done (reached frame level (hostAddress level frame address) (t .flags ++ entryFlags p write true place)))
+          ≡ onFirst x (λ table. down table (handed false (t .flags ++ entryFlags p write false place e)))
+          (λ frame level. done (reached frame level (hostAddress level frame address) (t .flags ++ entryFlags p write true place e)))
           (λ reason fpd. done (fault reason fpd))
           → 0 < n
       by (downTo to) is h = more-levels n e (leads r p write (t .writable) (suc n) e is)

@@ -15,7 +15,7 @@ use Rattle.dma.specs.Walk.{Step, done, down, placeIn}
 use Rattle.pasid.specs.declared.ScalableRegisters.{ScalableRegisters}
 use Rattle.pasid.specs.declared.table.PasidEntry.{PasidEntry}
 use Rattle.flags.specs.Flags.{flag}
-use Rattle.first.specs.First.{firstFlags, firstStep, onFirst, unfetchable}
+use Rattle.first.specs.First.{firstFlags, flagClear, firstStep, onFirst, unfetchable}
 use Rattle.second.specs.Second.{Walked, page, fault as noPage, atTop, secondRules}
 use Rattle.second.specs.declared.step.Wanted.{Wanted}
 use Rattle.nested.specs.Then.{thenRules}
@@ -37,9 +37,9 @@ pub record Handed : Type 0 where
 abbrev pub handed : (top : Bool) (flags : List ℕ) → Handed
 handed top flags = record { top = top; writable = true; flags = flags }
 
--- the flags of the entry at a host address
-abbrev pub entryFlags : PasidEntry → (write leaf : Bool) (place : ℕ) → List ℕ
-entryFlags p write leaf place = map (flag place) (firstFlags p write leaf)
+-- the flags of the entry at a host address, where one of them is still clear: setting those that are set changes nothing
+abbrev pub entryFlags : PasidEntry → (write leaf : Bool) (place e : ℕ) → List ℕ
+entryFlags p write leaf place e = if flagClear p write leaf e then map (flag place) (firstFlags p write leaf) else []
 
 -- an entry that can't be fetched: 73h the top one, 70h any other
 abbrev pub unfetched : PasidEntry → Handed → Pages
@@ -93,8 +93,8 @@ module _ (r : ScalableRegisters) (p : PasidEntry) where
   module _ (address : ℕ) (write : Bool) where
     abbrev pub walkStep : (level place : ℕ) → Handed → (e : ℕ) → Step Handed Pages
     walkStep level place s e =
-        onFirst (firstStep r p write (s .writable) level e) (λ table. down table (handed false (s .flags ++ entryFlags p write false place)))
-        (λ frame level. done (reached frame level (hostAddress level frame address) (s .flags ++ entryFlags p write true place)))
+        onFirst (firstStep r p write (s .writable) level e) (λ table. down table (handed false (s .flags ++ entryFlags p write false place e)))
+        (λ frame level. done (reached frame level (hostAddress level frame address) (s .flags ++ entryFlags p write true place e)))
         (λ reason fpd. done (fault reason fpd))
 
     abbrev pub firstRules : (level table : ℕ) → Handed → Rules Pages

@@ -1,6 +1,6 @@
 // One level of the first-level walk.
 ghost use mathlib.Core.Bool.{Bool, true, false};
-ghost use mathlib.Core.List.{[], _∷_, _++_};
+ghost use mathlib.Core.List.{[], _∷_, _++_, map};
 ghost use mathlib.Core.Path.{_≡_};
 ghost use lib.ListN.{length, take};
 ghost use Prim.Native.Nat.{_+_, _%_, _^_, _<_, _≤_};
@@ -9,12 +9,14 @@ ghost use Rattle.image.specs.Place.{entryAt};
 ghost use Rattle.image.specs.Spans.{Opened};
 ghost use Rattle.image.specs.Windows.{ofWindows};
 ghost use Rattle.flags.specs.Flags.{flag};
+ghost use Rattle.first.specs.First.{firstFlags};
 ghost use Rattle.nested.specs.Answers.{levelOf, levelPlace, LevelGrows, LevelReachable};
 ghost use Rattle.nested.specs.Pages.{entryFlags, walkStep, entryOver};
 use crate::stage::Stage;
 use crate::stage::Walk;
 use first::FirstStep;
 use first::first_step;
+use first::flag_clear;
 use first::unfetchable;
 use flags::push;
 use image::Found8;
@@ -44,15 +46,34 @@ fn push_if(flags: &mut [u64], count: usize, wanted: bool, at: u64, bit: u32) -> 
     count
 }
 
-// The flags of the entry at a host address: A, D where it is that of a page to be written, EA.
-fn push_entry(flags: &mut [u64], count: usize, entry: PasidEntry, dirty: bool, at: u64) -> usize
+// A, D where it is to be set, and EA with EAFE, of the entry at a host address.
+fn push_all(flags: &mut [u64], count: usize, entry: PasidEntry, dirty: bool, at: u64) -> usize
     requires { ⌜ (count + 3 ≤ length (now flags)) × (at < 2 ^ 60) ⌝ }
-    ensures { λ r. ⌜ take r (now (flags .exit)) ≡ take count (now (flags .entry)) ++ entryFlags entry dirty true at ⌝ }
+    ensures { λ r. ⌜ take r (now (flags .exit)) ≡ take count (now (flags .entry)) ++ map (flag at) (firstFlags entry dirty true) ⌝ }
     ensures { λ r. ⌜ (r ≤ count + 3) × (dirty ≡ false → r ≤ count + 2) ⌝ }
 {
     let accessed = push_if(flags, count, true, at, 5);
     let written = push_if(flags, accessed, dirty, at, 6);
     push_if(flags, written, entry.eafe, at, 10)
+}
+
+// The flags of an entry, where one of them is still clear. dirty: it is that of a page to be written.
+fn push_entry(
+    flags: &mut [u64],
+    count: usize,
+    entry: PasidEntry,
+    dirty: bool,
+    at: u64,
+    e: u64,
+) -> usize
+    requires { ⌜ (count + 3 ≤ length (now flags)) × (at < 2 ^ 60) ⌝ }
+    ensures { λ r. ⌜ take r (now (flags .exit)) ≡ take count (now (flags .entry)) ++ entryFlags entry dirty true at e ⌝ }
+    ensures { λ r. ⌜ (r ≤ count + 3) × (dirty ≡ false → r ≤ count + 2) ⌝ }
+{
+    if flag_clear(entry, dirty, true, e) {
+        return push_all(flags, count, entry, dirty, at);
+    }
+    count
 }
 
 // The entry at a host address, as it was fetched; writable: the way to it may be written.
@@ -74,11 +95,11 @@ fn level_step(
     let write = walk.asked.write;
     match first_step(walk.registers, walk.entry, write, writable, level, at, e) {
         FirstStep::Down(table) => {
-            let used = push_entry(flags, count, walk.entry, false, at);
+            let used = push_entry(flags, count, walk.entry, false, at, e);
             Level::Down(table, at, used)
         }
         FirstStep::Page(frame, of) => {
-            let used = push_entry(flags, count, walk.entry, write, at);
+            let used = push_entry(flags, count, walk.entry, write, at, e);
             Level::Page(frame, of, at, used)
         }
         FirstStep::Fault(reason, fpd, place) => Level::Fault(reason, fpd, place),

@@ -31,7 +31,7 @@ module _ (r : ScalableRegisters) (haw : 2 ≤ r .base .haw) (p : PasidEntry) (wr
       let same = same-field e e′ (up .other-bits) in
       rw (same 51 (r .base .haw) haw, same 7 7 (omega arith), same 29 13 (omega arith), same 20 13 (omega arith), same 63 63 (omega arith))
 
-  same-clear : (leaf : Bool) → flagClear p write leaf e′ ≡ flagClear p write leaf e
+  pub same-clear : (leaf : Bool) → flagClear p write leaf e′ ≡ flagClear p write leaf e
   same-clear leaf =
       let same = same-field e e′ (up .other-bits) in
       rw (same 5 5 (omega arith), same 6 6 (omega arith), same 10 10 (omega arith))

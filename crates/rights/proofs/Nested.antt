@@ -23,7 +23,7 @@ use Rattle.second.specs.Second.{Walked, page, fault as noPage, atTop, secondRul
 use Rattle.second.specs.declared.step.Wanted.{Wanted}
 use Rattle.nested.specs.Pages.{Pages, reached, fault, Handed, handed, entryFlags, unfetched, wantedOfEntry, wantedOfPage, toEntry, toPage, intermediateRules, locate, pageRules, walkStep, firstRules, pagesRules}
 use Rattle.nested.specs.Way.{Located, located, lost}
-use Rattle.rights.proofs.First.{FirstKept, first-kept}
+use Rattle.rights.proofs.First.{FirstKept, same-clear, first-kept}
 use Rattle.rights.proofs.Kept.{Keeps, keeps-answer, keeps-dead, keeps-map, keeps-then}
 use Rattle.rights.proofs.Raised.{Goes}
 use Rattle.rights.proofs.Second.{WalkedKept, WalkedDead, second-kept}
@@ -139,22 +139,24 @@ module _ (r : ScalableRegisters) (haw : 2 ≤ r .base .haw) (p : PasidEntry) (se
         by (firstStep r p write (s .writable) level e) (firstStep r p write (s′ .writable) level e′)
         (first-kept r haw p write up (s .writable) (s′ .writable) level (held .0))
       where
-        on : Handed → FirstStep → Step Handed Pages
-        on s x =
-            onFirst x (λ table. down table (handed false (s .flags ++ entryFlags p write false place)))
-            (λ frame level. done (reached frame level (hostAddress level frame address) (s .flags ++ entryFlags p write true place)))
+        on : Handed → (e : ℕ) → FirstStep → Step Handed Pages
+        on s e x =
+            onFirst x (λ table. down table (handed false (s .flags ++ entryFlags p write false place e)))
+            (λ frame level. done (reached frame level (hostAddress level frame address) (s .flags ++ entryFlags p write true place e)))
             (λ reason fpd. done (fault reason fpd))
 
-        stops : (reason : ℕ) (fpd : Bool) (y : FirstStep) → Stepped (done (fault reason fpd)) (on s′ y)
+        -- rights are no flags
+        same : (leaf : Bool) → s .flags ++ entryFlags p write leaf place e ≡ s′ .flags ++ entryFlags p write leaf place e′
+        same leaf = rw (same-clear r haw p write up leaf) (ap (λ (l : List ℕ). l ++ entryFlags p write leaf place e) (held .1))
+
+        stops : (reason : ℕ) (fpd : Bool) (y : FirstStep) → Stepped (done (fault reason fpd)) (on s′ e′ y)
         stops reason fpd (first.down table) = tt
         stops reason fpd (first.page frame level) = tt
         stops reason fpd (first.fault reason′ fpd′) = tt
 
-        by : (x y : FirstStep) → FirstKept x y → Stepped (on s x) (on s′ y)
-        by (first.down table) y h =
-            rw (h .0) (refl, h .1, (λ g. g, ap (λ (l : List ℕ). l ++ entryFlags p write false place) (held .1)))
-        by (first.page frame level) y h =
-            rw h (ap (λ (l : List ℕ). reached frame level (hostAddress level frame address) (l ++ entryFlags p write true place)) (sym (held .1)))
+        by : (x y : FirstStep) → FirstKept x y → Stepped (on s e x) (on s′ e′ y)
+        by (first.down table) y h = rw (h .0) (refl, h .1, (λ g. g, same false))
+        by (first.page frame level) y h = rw h (ap (reached frame level (hostAddress level frame address)) (sym (same true)))
         by (first.fault reason fpd) y h = stops reason fpd y
 
     pub pages-kept : p .«first_top» % 8 ≡ 0 → Keeps Raised PagesKept PagesDead (pagesRules r p address write) (pagesRules r p address write)
