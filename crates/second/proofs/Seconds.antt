@@ -13,6 +13,7 @@ use Rattle.image.specs.Memory.{Memory, Fetched, missing, found, entry, onFetch}
 use Rattle.image.specs.Place.{Place, entryAt, lastTried}
 use Rattle.image.specs.Rules.{run}
 use Rattle.image.proofs.Fields.{in-place-lt}
+use Rattle.faults.proofs.Recording.{neither}
 use Rattle.registers.specs.declared.Registers.{Registers}
 use Rattle.dma.specs.Page.{leafAt, pageReserved}
 use Rattle.dma.specs.Walk.{Step, done, down, placeIn, stepOver}
@@ -62,6 +63,38 @@ module _ (r : ScalableRegisters) (p : PasidEntry) (wanted : Wanted) where
       let h6 = past (leafAt level e) (page (inPlace e 51 12) level (writable above e) (above .flags ++ secondFlags p (wanted .write) place e)) _ (h5 .1) in
       let same : down next t ≡ down (inPlace e 51 12) (handedOn above e (secondFlags p false place e)) = h6 .1 in
       (cc, h6 .0)
+
+  -- the step, by the tests that the code is past
+  module _ (level place : ℕ) (above : Handed) (e : ℕ) where
+    pub none-left : not (readable above e || writable above e) ≡ true → done (fault 0x79 (p .fpd)) ≡ secondStep r p wanted level place above e
+    none-left h = rw h
+
+    module _ (some : not (readable above e || writable above e) ≡ false) where
+      pub reserved : pageReserved (r .base) level e ≡ true → done (fault 0x7A (p .fpd)) ≡ secondStep r p wanted level place above e
+      reserved h = rw (some, h)
+
+      module _ (clear : pageReserved (r .base) level e ≡ false) where
+        pub not-snooped : flagsNotSnooped r p (wanted .write) level e ≡ true → done (fault 0x7C (p .fpd)) ≡ secondStep r p wanted level place above e
+        not-snooped h = rw (some, clear, h)
+
+        module _ (snooped : flagsNotSnooped r p (wanted .write) level e ≡ false) where
+          pub lacking : (wanted .write && not (bit e 1) || wanted .read && not (bit e 0)) ≡ true
+              → done (fault (if wanted .write && not (bit e 1) then 0x85 else 0x86) (p .fpd)) ≡ secondStep r p wanted level place above e
+          lacking h = rw (some, clear, snooped) (by (wanted .write && not (bit e 1)) (wanted .read && not (bit e 0)) h _)
+            where
+              by : (x y : Bool) → (x || y) ≡ true → (rest : Step Handed Walked)
+                  → done (fault (if x then 0x85 else 0x86) (p .fpd)) ≡ (if x then done (fault 0x85 (p .fpd)) else if y then done (fault 0x86 (p .fpd)) else rest)
+              by true y h rest = refl
+              by false true h rest = refl
+              by false false h rest = let z : _≡_ {A = ℕ} 0 1 = cc in absurd (omega arith)
+
+          module _ (all : (wanted .write && not (bit e 1) || wanted .read && not (bit e 0)) ≡ false) where
+            pub to-page : leafAt level e ≡ true
+                → done (page (inPlace e 51 12) level (writable above e) (above .flags ++ secondFlags p (wanted .write) place e)) ≡ secondStep r p wanted level place above e
+            to-page h = let each = neither (wanted .write && not (bit e 1)) (wanted .read && not (bit e 0)) all in rw (some, clear, snooped, each .0, each .1, h)
+
+            pub to-table : leafAt level e ≡ false → down (inPlace e 51 12) (handedOn above e (secondFlags p false place e)) ≡ secondStep r p wanted level place above e
+            to-table h = let each = neither (wanted .write && not (bit e 1)) (wanted .read && not (bit e 0)) all in rw (some, clear, snooped, each .0, each .1, h)
 
   module _ (address : ℕ) (m : Memory) (n table : ℕ) (above : Handed) where
     pub unfetched : missing ≡ entry 1 m (placeIn address table n) → done (unfetchable r p wanted above) ≡ secondOver r p wanted address m n table above

@@ -1,9 +1,10 @@
 -- What the code's enums say, in VT-d's numbers, over the buffer that the flags are collected in.
 use Prim.Native.Nat.{ℕ, _+_, _≤_}
-use mathlib.Core.Bool.{false}
+use mathlib.Core.Bool.{Bool, false}
 use mathlib.Core.List.{List, []}
 use mathlib.Core.Path.{_≡_}
 use lib.ListN.{take}
+use Rattle.image.specs.Bits.{bit}
 use Rattle.image.specs.Place.{Place, entryAt}
 use Rattle.dma.specs.Walk.{Step, done, down}
 use Rattle.pasid.specs.Reason.{numberOf}
@@ -14,9 +15,13 @@ use Rattle.second.specs.declared.step.SecondStep.the-variants as step
 use Rattle.second.specs.declared.walk.Walked.{Walked as WalkedCode}
 use Rattle.second.specs.declared.walk.Walked.the-variants as walked
 
+-- the joined rights are a number's two low bits
+abbrev pub handed : (top : Bool) (rights : ℕ) (flags : List ℕ) → Handed
+handed top rights flags = record { top = top; read = bit rights 0; write = bit rights 1; flags = flags }
+
 -- the flags so far are the buffer's first
 abbrev pub handedBy : Above → (flags : List ℕ) → Handed
-handedBy above flags = record { top = above .top; read = above .read; write = above .write; flags = take (above .count) flags }
+handedBy above flags = handed (above .top) (above .rights) (take (above .count) flags)
 
 abbrev pub walkedOf : WalkedCode → (flags : List ℕ) → Walked
 walkedOf (walked.Page frame level writable n) flags = page frame level writable (take n flags)
@@ -24,13 +29,13 @@ walkedOf (walked.Fault reason fpd at) flags = fault (numberOf reason) fpd
 
 -- a step down is never one to the top
 abbrev pub stepOf : SecondStep → (flags : List ℕ) → Step Handed Walked
-stepOf (step.Down table read write n) flags = down table (record { top = false; read = read; write = write; flags = take n flags })
+stepOf (step.Down table rights n) flags = down table (handed false rights (take n flags))
 stepOf (step.Page frame level writable n) flags = done (page frame level writable (take n flags))
 stepOf (step.Fault reason fpd at) flags = done (fault (numberOf reason) fpd)
 
 -- the entry that a fault names; where there is no fault, the place handed in
 abbrev pub stepPlace : SecondStep → Place → Place
-stepPlace (step.Down table read write n) place = place
+stepPlace (step.Down table rights n) place = place
 stepPlace (step.Page frame level writable n) place = place
 stepPlace (step.Fault reason fpd at) place = entryAt at
 
@@ -46,13 +51,13 @@ abbrev pub Names : WalkedCode → Place → Type 0
 Names r place = faultPlace r place ≡ place
 
 abbrev pub StepReachable : SecondStep → Type 0
-StepReachable (step.Down table read write n) = Unit {0}
+StepReachable (step.Down table rights n) = Unit {0}
 StepReachable (step.Page frame level writable n) = Reachable (page frame level writable [])
 StepReachable (step.Fault reason fpd at) = Unit {0}
 
 -- how many flags there are then, of so many before
 abbrev pub StepGrown : SecondStep → (count : ℕ) → Type 0
-StepGrown (step.Down table read write n) count = (count ≤ n) × (n ≤ count + 1)
+StepGrown (step.Down table rights n) count = (count ≤ n) × (n ≤ count + 1)
 StepGrown (step.Page frame level writable n) count = (count ≤ n) × (n ≤ count + 2)
 StepGrown (step.Fault reason fpd at) count = Unit {0}
 

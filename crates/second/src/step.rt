@@ -1,8 +1,10 @@
 // What the second-level walk makes of an entry.
+ghost use mathlib.Core.Bool.{not, _&&_, _||_};
 ghost use mathlib.Core.Path.{_≡_};
 ghost use mathlib.Core.List.{_++_};
 ghost use lib.ListN.{length, take};
 ghost use Prim.Native.Nat.{_+_, _%_, _^_, _<_, _≤_};
+ghost use Rattle.image.specs.Bits.{bit};
 ghost use Rattle.image.specs.Choice.{if_then_else_};
 ghost use Rattle.image.specs.Place.{entryAt};
 ghost use Rattle.image.specs.Spans.{Opened};
@@ -24,11 +26,10 @@ use pasid::ScalableReason;
 use pasid::ScalableRegisters;
 use registers::Page4K;
 
-// What an entry is handed by those above it: whether there are none, their joined rights, and how many flags are collected.
+// What an entry is handed by those above it: whether there are none, their joined rights, R bit 0 and W bit 1, and how many flags are collected.
 pub struct Above {
     pub top: bool,
-    pub read: bool,
-    pub write: bool,
+    pub rights: u64,
     pub count: usize,
 }
 
@@ -39,8 +40,8 @@ pub struct Wanted {
 }
 
 pub enum SecondStep {
-    // The next table, the joined rights, read and write, and how many flags are collected then.
-    Down(u64, bool, bool, usize),
+    // The next table, the joined rights, and how many flags are collected then.
+    Down(u64, u64, usize),
     // The frame of a page, the entry's level, the joined right to write, and how many flags.
     Page(u64, u32, bool, usize),
     // Why the walk ends here, FPD, and the entry's host address.
@@ -81,6 +82,32 @@ fn unfetchable(top: bool) -> ScalableReason
     ScalableReason::SecondLevelAccess
 }
 
+// The rights of an entry joined with those above it: both at once.
+fn join(rights: u64, e: u64) -> u64
+    ensures { λ r. ⌜ (bit r 0 ≡ (bit rights 0 && bit e 0)) × (bit r 1 ≡ (bit rights 1 && bit e 1)) ⌝ }
+{
+    rights & e
+}
+
+// A right that is wanted lacks: both at once.
+fn lacks(wanted: Wanted, e: u64) -> bool
+    ensures { λ r. ⌜ r ≡ (wanted .write && not (bit e 1) || wanted .read && not (bit e 0)) ⌝ }
+{
+    let need = wanted.read as u64 + 2 * (wanted.write as u64);
+    need & e != need
+}
+
+// The right that lacks, W before R.
+fn denied(wanted: Wanted, e: u64) -> ScalableReason
+    ensures { λ r. ⌜ numberOf r ≡ (if wanted .write && not (bit e 1) then 0x85 else 0x86) ⌝ }
+{
+    let writable = field(e, 1, 1) == 1;
+    if wanted.write & !writable {
+        return ScalableReason::WriteDenied;
+    }
+    ScalableReason::ReadDenied
+}
+
 // The flags of an entry that is used.
 fn collect(
     entry: PasidEntry,
@@ -119,11 +146,8 @@ fn second_step(
     ensures { λ r. ⌜ StepNames r (entryAt at) ⌝ }
     ensures { λ r. ⌜ StepReachable r × StepGrown r (above .count) ⌝ }
 {
-    let readable = field(e, 0, 0) == 1;
-    let writable = field(e, 1, 1) == 1;
-    let read = above.read & readable;
-    let write = above.write & writable;
-    if !(read | write) {
+    let rights = join(above.rights, e);
+    if field(rights, 1, 0) == 0 {
         return SecondStep::Fault(ScalableReason::SecondLevelNotPresent, entry.fpd, at);
     }
     if page_reserved(registers.base, level, e) {
@@ -132,19 +156,17 @@ fn second_step(
     if flags_not_snooped(registers, entry, wanted.write, level, e) {
         return SecondStep::Fault(ScalableReason::FlagsNotSnooped, entry.fpd, at);
     }
-    if wanted.write & !writable {
-        return SecondStep::Fault(ScalableReason::WriteDenied, entry.fpd, at);
-    }
-    if wanted.read & !readable {
-        return SecondStep::Fault(ScalableReason::ReadDenied, entry.fpd, at);
+    if lacks(wanted, e) {
+        return SecondStep::Fault(denied(wanted, e), entry.fpd, at);
     }
     let frame = in_place(e, 51, 12);
     if is_leaf(level, e) {
         let n = collect(entry, wanted.write, at, e, flags, above.count);
-        return SecondStep::Page(frame, level, write, n);
+        let writable = field(rights, 1, 1) == 1;
+        return SecondStep::Page(frame, level, writable, n);
     }
     let n = collect(entry, false, at, e, flags, above.count);
-    SecondStep::Down(frame, read, write, n)
+    SecondStep::Down(frame, rights, n)
 }
 
 // One level of the walk: below is how many levels come after it.

@@ -44,15 +44,12 @@ pub fn second_walk(
 {
     let mut level = entry.second_levels;
     let mut table = entry.second_top;
-    let mut top = true;
-    let mut read = true;
-    let mut write = true;
+    let mut rights = 3u64;
     let mut count = count;
     while 0 < level {
         let above = Above {
-            top,
-            read,
-            write,
+            top: level == entry.second_levels,
+            rights,
             count,
         };
         let step = second_entry(
@@ -71,11 +68,9 @@ pub fn second_walk(
         match step {
             SecondStep::Page(frame, of, writable, n) => return Walked::Page(frame, of, writable, n),
             SecondStep::Fault(reason, fpd, place) => return Walked::Fault(reason, fpd, place),
-            SecondStep::Down(next, r, w, n) => {
+            SecondStep::Down(next, joined, n) => {
                 table = next;
-                top = false;
-                read = r;
-                write = w;
+                rights = joined;
                 count = n;
                 level -= 1;
             }

@@ -1,104 +1,146 @@
-use mathlib.Core.Path.{_≡_, refl, ap, sym, _∙_, subst}
+use Prim.Native.Nat.{ℕ}
+use mathlib.Core.Bool.{true, false, not, _&&_, _||_}
+use mathlib.Core.List.{List, _++_}
+use mathlib.Core.Path.{_≡_, refl, ap, sym, _∙_}
 use native.Mathlib.Omega.{arith}
 use lib.Dec.{lit≤}
+use Rattle.image.specs.Bits.{bit}
 use Rattle.image.proofs.Fields.{in-place-lt}
+use Rattle.dma.specs.Page.{pageReserved}
+use Rattle.second.specs.Answers.{handedBy}
+use Rattle.second.specs.Second.{Handed, readable, writable, flagsNotSnooped}
+use Rattle.second.proofs.Rights as rights
+use Rattle.second.proofs.Seconds as step
 use Rattle.second.proofs.Seconds.{low-leaf}
 use Rattle.second.proofs.Told.{at-most-two}
 use borrow.Author.Needs.{needs}
 use Rattle.second.proofs.step.second_step.Statement.{statement}
 use Rattle.second.proofs.step.second_step.Tie as tie
 
+abbrev start : tie.After-join → tie.Start
+start k = k .before .before
+
+abbrev above : tie.After-join → Handed
+above k = let a = start k .args in handedBy (a .above) (a .flags .now)
+
+-- the tests that the code is past
+none : (c : tie.Then1) → let k = c .before .before in not (readable (above k) (start k .args .e) || writable (above k) (start k .args .e)) ≡ true
+none c =
+    let k = c .before .before in
+    rw (← k .join .ensures .0, ← k .join .ensures .1) (rights.none-left (k .join .result) (sym (c .before .field .ensures) ∙ c .if1 .taken))
+
+some : (c : tie.Else1) → let k = c .before .before in not (readable (above k) (start k .args .e) || writable (above k) (start k .args .e)) ≡ false
+some c =
+    let k = c .before .before in
+    rw (← k .join .ensures .0, ← k .join .ensures .1) (rights.some-left (k .join .result) (λ z. c .if1 .left (c .before .field .ensures ∙ z)))
+
+clear : (c : tie.Else2) → let a = start (c .before .before .before .before) .args in pageReserved (a .registers .base) (a .level) (a .e) ≡ false
+clear c = sym (c .before .page-reserved .ensures) ∙ c .if2 .left
+
+snooped : (c : tie.Else3) → let a = start (c .before .before .before .before .before .before) .args in
+    flagsNotSnooped (a .registers) (a .entry) (a .wanted .write) (a .level) (a .e) ≡ false
+snooped c = sym (c .before .flags-not-snooped .ensures) ∙ c .if3 .left
+
+all : (c : tie.Else4) → let a = start (c .before .before .before .before .before .before .before .before) .args in
+    (a .wanted .write && not (bit (a .e) 1) || a .wanted .read && not (bit (a .e) 0)) ≡ false
+all c = sym (c .before .lacks .ensures) ∙ c .if4 .left
+
 returns : tie.Need-returns
-returns c = (rw (← c .before .before .before .before .field .ensures, ← c .before .before .before .field2 .ensures, c .if1 .taken), (refl, (tt, tt)))
+returns c =
+    let k = c .before .before in
+    let a = start k .args in
+    (step.none-left (a .registers) (a .entry) (a .wanted) (a .level) (a .at) (above k) (a .e) (none c), (refl, (tt, tt)))
 
 returns-2 : tie.Need-returns-2
-returns-2 c = (rw (← c .before .before .before .before .before .before .field .ensures, ← c .before .before .before .before .before .field2 .ensures, c .before .before .if1 .left, ← c .before .page-reserved .ensures, c .if2 .taken), (refl, (tt, tt)))
+returns-2 c =
+    let e = c .before .before in
+    let k = e .before .before in
+    let a = start k .args in
+    (step.reserved (a .registers) (a .entry) (a .wanted) (a .level) (a .at) (above k) (a .e) (some e) (sym (c .before .page-reserved .ensures) ∙ c .if2 .taken), (refl, (tt, tt)))
 
 returns-3 : tie.Need-returns-3
-returns-3 c = (rw (← c .before .before .before .before .before .before .before .before .field .ensures, ← c .before .before .before .before .before .before .before .field2 .ensures, c .before .before .before .before .if1 .left, ← c .before .before .before .page-reserved .ensures, c .before .before .if2 .left, ← c .before .flags-not-snooped .ensures, c .if3 .taken), (refl, (tt, tt)))
+returns-3 c =
+    let e2 = c .before .before in
+    let e1 = e2 .before .before in
+    let k = e1 .before .before in
+    let a = start k .args in (
+      step.not-snooped (a .registers) (a .entry) (a .wanted) (a .level) (a .at) (above k) (a .e) (some e1) (clear e2) (sym (c .before .flags-not-snooped .ensures) ∙ c .if3 .taken),
+      (refl, (tt, tt)),
+    )
 
 returns-4 : tie.Need-returns-4
-returns-4 c = (rw (← c .before .before .before .before .before .before .before .before .before .before .field .ensures, ← c .before .before .before .before .before .before .before .before .before .field2 .ensures, c .before .before .before .before .before .before .if1 .left, ← c .before .before .before .before .before .page-reserved .ensures, c .before .before .before .before .if2 .left, ← c .before .before .before .flags-not-snooped .ensures, c .before .before .if3 .left, c .if4 .taken), (refl, (tt, tt)))
+returns-4 c =
+    let l = c .before .before in
+    let e3 = l .before in
+    let e2 = e3 .before .before in
+    let e1 = e2 .before .before in
+    let k = e1 .before .before in
+    let a = start k .args in (
+      rw (c .denied .ensures)
+          (step.lacking (a .registers) (a .entry) (a .wanted) (a .level) (a .at) (above k) (a .e) (some e1) (clear e2) (snooped e3)
+          (sym (l .lacks .ensures) ∙ c .before .if4 .taken)),
+      (refl, (tt, tt)),
+    )
 
 returns-5 : tie.Need-returns-5
-returns-5 c = (rw (← c .before .before .before .before .before .before .before .before .before .before .before .before .field .ensures, ← c .before .before .before .before .before .before .before .before .before .before .before .field2 .ensures, c .before .before .before .before .before .before .before .before .if1 .left, ← c .before .before .before .before .before .before .before .page-reserved .ensures, c .before .before .before .before .before .before .if2 .left, ← c .before .before .before .before .before .flags-not-snooped .ensures, c .before .before .before .before .if3 .left, c .before .before .if4 .left, c .if5 .taken), (refl, (tt, tt)))
-
-returns-6 : tie.Need-returns-6
-returns-6 c =
-    let t = c .before .before .before .before in
-    let k = c .before .before .collect .ensures in
-    let start = t .before .before .before .before .before .before .before .before .before .before .before .before .before .before .before .before .before in
-    let a = start .args in (
-      rw (← t .before .before .before .before .before .before .before .before .before .before .before .before .before .before .before .field .ensures, ← t .before .before .before .before .before .before .before .before .before .before .before .before .before .before .field2 .ensures, t .before .before .before .before .before .before .before .before .before .before .before .if1 .left, ← t .before .before .before .before .before .before .before .before .before .before .page-reserved .ensures, t .before .before .before .before .before .before .before .before .before .if2 .left, ← t .before .before .before .before .before .before .before .before .flags-not-snooped .ensures, t .before .before .before .before .before .before .before .if3 .left, t .before .before .before .before .before .if4 .left, t .before .before .before .if5 .left, ← t .before .is-leaf .ensures, t .if6 .taken, ← t .before .before .in-place .ensures, k .0),
+returns-5 c =
+    let t = c .before .before .before .before .before in
+    let collected = c .before .before .before .collect .ensures in
+    let frame = t .before .before .in-place .ensures in
+    let leaf = sym (t .before .is-leaf .ensures) ∙ t .if5 .taken in
+    let e4 = t .before .before .before in
+    let e3 = e4 .before .before in
+    let e2 = e3 .before .before in
+    let e1 = e2 .before .before in
+    let k = e1 .before .before in
+    let a = start k .args in (
+      rw (frame, c .field2 .ensures, k .join .ensures .1, collected .0)
+          (step.to-page (a .registers) (a .entry) (a .wanted) (a .level) (a .at) (above k) (a .e) (some e1) (clear e2) (snooped e3) (all e4) leaf),
       (
         refl,
         (
-          (
-            rw (t .before .before .in-place .ensures) (in-place-lt (a .e) 51 12 (lit≤ tt)),
-            start .pre .0,
-            low-leaf (a .registers .base) (a .level) (a .e) (sym (t .before .before .before .before .before .before .before .before .before .before .page-reserved .ensures) ∙ t .before .before .before .before .before .before .before .before .before .if2 .left)
-                (sym (t .before .is-leaf .ensures) ∙ t .if6 .taken),
-            rw (t .before .before .in-place .ensures) (omega arith),
-          ),
-          (k .1 .0, at-most-two (a .above .count) _ (a .wanted .write) (k .1 .1)),
+          (rw frame (in-place-lt (a .e) 51 12 (lit≤ tt)), start k .pre .0, low-leaf (a .registers .base) (a .level) (a .e) (clear e2) leaf, rw frame (omega arith)),
+          (collected .1 .0, at-most-two (a .above .count) _ (a .wanted .write) (collected .1 .1)),
         ),
       ),
     )
 
-returns-7 : tie.Need-returns-7
-returns-7 c =
+returns-6 : tie.Need-returns-6
+returns-6 c =
     let t = c .before .before .before .before in
-    let k = c .before .before .collect2 .ensures in
-    (rw (← t .before .before .before .before .before .before .before .before .before .before .before .before .before .before .before .field .ensures, ← t .before .before .before .before .before .before .before .before .before .before .before .before .before .before .field2 .ensures, t .before .before .before .before .before .before .before .before .before .before .before .if1 .left, ← t .before .before .before .before .before .before .before .before .before .before .page-reserved .ensures, t .before .before .before .before .before .before .before .before .before .if2 .left, ← t .before .before .before .before .before .before .before .before .flags-not-snooped .ensures, t .before .before .before .before .before .before .before .if3 .left, t .before .before .before .before .before .if4 .left, t .before .before .before .if5 .left, ← t .before .is-leaf .ensures, t .if6 .left, ← t .before .before .in-place .ensures, k .0), (refl, (tt, k .1)))
-
-field-requires : tie.Need-field-requires
-field-requires c κs = search needs
-
-field-requires-2 : tie.Need-field-requires-2
-field-requires-2 c κs = search needs
-
-page-reserved-requires : tie.Need-page-reserved-requires
-page-reserved-requires c κs = search needs
-
-flags-not-snooped-requires : tie.Need-flags-not-snooped-requires
-flags-not-snooped-requires c κs = search needs
-
-in-place-requires : tie.Need-in-place-requires
-in-place-requires c κs = search needs
-
-is-leaf-requires : tie.Need-is-leaf-requires
-is-leaf-requires c κs = search needs
-
-collect-requires : tie.Need-collect-requires
-collect-requires c κs = search needs
-
-same-length : tie.Need-same-length
-same-length c = search needs
-
-collect-requires-2 : tie.Need-collect-requires-2
-collect-requires-2 c κs = search needs
-
-same-length-2 : tie.Need-same-length-2
-same-length-2 c = search needs
+    let collected = c .before .before .collect2 .ensures in
+    let e4 = t .before .before .before in
+    let e3 = e4 .before .before in
+    let e2 = e3 .before .before in
+    let e1 = e2 .before .before in
+    let k = e1 .before .before in
+    let a = start k .args in (
+      rw (t .before .before .in-place .ensures, k .join .ensures .0, k .join .ensures .1, collected .0)
+          (step.to-table (a .registers) (a .entry) (a .wanted) (a .level) (a .at) (above k) (a .e) (some e1) (clear e2) (snooped e3) (all e4)
+          (sym (t .before .is-leaf .ensures) ∙ t .if5 .left)),
+      (refl, (tt, collected .1)),
+    )
 
 pub second-step-spec : {M : Type 1} → statement M
 second-step-spec =
     tie.close
     (tie.spec
-    field-requires
-    field-requires-2
+    (λ c κs. search needs)
+    (λ c κs. search needs)
     returns
-    page-reserved-requires
+    (λ c κs. search needs)
     returns-2
-    flags-not-snooped-requires
+    (λ c κs. search needs)
     returns-3
+    (λ c κs. search needs)
+    (λ c κs. search needs)
     returns-4
+    (λ c κs. search needs)
+    (λ c κs. search needs)
+    (λ c κs. search needs)
+    (λ c κs. search needs)
+    (λ c. search needs)
     returns-5
-    in-place-requires
-    is-leaf-requires
-    collect-requires
-    same-length
-    returns-6
-    collect-requires-2
-    same-length-2
-    returns-7)
+    (λ c κs. search needs)
+    (λ c. search needs)
+    returns-6)
