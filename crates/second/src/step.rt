@@ -159,14 +159,14 @@ fn second_step(
     if lacks(wanted, e) {
         return SecondStep::Fault(denied(wanted, e), entry.fpd, at);
     }
-    let frame = in_place(e, 51, 12);
+    // The frame last: so the next table stays in a register of the machine code.
     if is_leaf(level, e) {
         let n = collect(entry, wanted.write, at, e, flags, above.count);
         let writable = field(rights, 1, 1) == 1;
-        return SecondStep::Page(frame, level, writable, n);
+        return SecondStep::Page(in_place(e, 51, 12), level, writable, n);
     }
     let n = collect(entry, false, at, e, flags, above.count);
-    SecondStep::Down(frame, rights, n)
+    SecondStep::Down(in_place(e, 51, 12), rights, n)
 }
 
 // One level of the walk: below is how many levels come after it.

@@ -84,17 +84,18 @@ returns-4 c =
 
 returns-5 : tie.Need-returns-5
 returns-5 c =
-    let t = c .before .before .before .before .before in
-    let collected = c .before .before .before .collect .ensures in
-    let frame = t .before .before .in-place .ensures in
+    let f = c .before in
+    let t = f .before .before .before .before .before in
+    let collected = f .before .before .before .collect .ensures in
+    let frame = c .in-place .ensures in
     let leaf = sym (t .before .is-leaf .ensures) ∙ t .if5 .taken in
-    let e4 = t .before .before .before in
+    let e4 = t .before .before in
     let e3 = e4 .before .before in
     let e2 = e3 .before .before in
     let e1 = e2 .before .before in
     let k = e1 .before .before in
     let a = start k .args in (
-      rw (frame, c .field2 .ensures, k .join .ensures .1, collected .0)
+      rw (frame, f .field2 .ensures, k .join .ensures .1, collected .0)
           (step.to-page (a .registers) (a .entry) (a .wanted) (a .level) (a .at) (above k) (a .e) (some e1) (clear e2) (snooped e3) (all e4) leaf),
       (
         refl,
@@ -107,15 +108,15 @@ returns-5 c =
 
 returns-6 : tie.Need-returns-6
 returns-6 c =
-    let t = c .before .before .before .before in
-    let collected = c .before .before .collect2 .ensures in
-    let e4 = t .before .before .before in
+    let t = c .before .before .before .before .before in
+    let collected = c .before .before .before .collect2 .ensures in
+    let e4 = t .before .before in
     let e3 = e4 .before .before in
     let e2 = e3 .before .before in
     let e1 = e2 .before .before in
     let k = e1 .before .before in
     let a = start k .args in (
-      rw (t .before .before .in-place .ensures, k .join .ensures .0, k .join .ensures .1, collected .0)
+      rw (c .in-place2 .ensures, k .join .ensures .0, k .join .ensures .1, collected .0)
           (step.to-table (a .registers) (a .entry) (a .wanted) (a .level) (a .at) (above k) (a .e) (some e1) (clear e2) (snooped e3) (all e4)
           (sym (t .before .is-leaf .ensures) ∙ t .if5 .left)),
       (refl, (tt, collected .1)),
@@ -141,6 +142,7 @@ second-step-spec =
     (λ c κs. search needs)
     (λ c. search needs)
     returns-5
+    (λ c κs. search needs)
     (λ c κs. search needs)
     (λ c. search needs)
     returns-6)
