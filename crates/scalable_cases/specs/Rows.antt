@@ -130,10 +130,10 @@ row = under rowRegisters
 abbrev asks : (write : Bool) → Pasid → (address : ℕ) → ScalableRequest
 asks write pasid address = record { source = record { id = 0x0310 }; address = address; write = write; pasid = pasid }
 
-abbrev read : (pasid address : ℕ) → ScalableRequest
+abbrev pub read : (pasid address : ℕ) → ScalableRequest
 read pasid = asks false (record { present = true; value = pasid })
 
-abbrev write : (pasid address : ℕ) → ScalableRequest
+abbrev pub write : (pasid address : ℕ) → ScalableRequest
 write pasid = asks true (record { present = true; value = pasid })
 
 -- without a PASID
@@ -230,7 +230,7 @@ rows =
     ∷ row [] (read 0x12342 0x4ABC) (faults 0x71 0x4000 0xC123427180000310 0x43020)
     ∷ row [] (read 0x12342 0x2ABC) (faults 0x74 0x2000 0xC123427480000310 0x43010)
     ∷ row [] (write 0x12342 0x3ABC) (faults 0x85 0x3000 0x8123428580000310 0x11008)
-    -- on the way to the top entry 78h, 79h, 7Ah, 7Bh, 86h; 85h with SLADE, and without it where a flag has to be set
+    -- on the way to the top entry 78h, 79h, 7Ah, 7Bh, 86h; 85h with SLADE, and without it where a flag has to be set; where all are set, a read needs no W
     ∷ row ((0x10000, 0x7F000003) ∷ []) (read 0x12342 0x1ABC) (faults 0x78 0x1000 0xC123427880000310 0x7F000000)
     ∷ row ((0x11000, 0x80) ∷ []) (read 0x12342 0x1ABC) (faults 0x79 0x1000 0xC123427980000310 0x11000)
     ∷ row ((0x11000, 0x1083) ∷ []) (read 0x12342 0x1ABC) (faults 0x7A 0x1000 0xC123427A80000310 0x11000)
@@ -238,6 +238,8 @@ rows =
     ∷ row ((0x11000, 0x82) ∷ []) (read 0x12342 0x1ABC) (faults 0x86 0x1000 0xC123428680000310 0x11000)
     ∷ row ((0x11000, 0x81) ∷ []) (read 0x12342 0x1ABC) (faults 0x85 0x1000 0xC123428580000310 0x11000)
     ∷ row ((0x8080, 0x100C5) ∷ (0x11000, 0x81) ∷ []) (read 0x12342 0x1ABC) (faults 0x85 0x1000 0xC123428580000310 0x40000)
+    ∷ row ((0x8080, 0x100C5) ∷ (0x11000, 0x81) ∷ (0x40000, 0x41427) ∷ (0x41000, 0x42427) ∷ (0x42000, 0x43427) ∷ (0x43008, 0x123427) ∷ [])
+    (read 0x12342 0x1ABC) (grants 0x123ABC [])
     ∷ []
 
 -- what the rules answer, with the entry concerned
