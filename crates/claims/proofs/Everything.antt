@@ -32,6 +32,7 @@ use Rattle.rights.proofs.Rights.{scalable-rights-on, scalable-rights-off}
 use Rattle.scalable.proofs.Fifty.{at-most-fifty}
 use Rattle.claims.proofs.ScalableClaims.{scalable-access-means-unfetched, scalable-stays-inside, scalable-no-interrupt-granted, scalable-none-untaken, scalable-always-an-entry}
 use Rattle.claims.proofs.ScalableLent.{scalable-isolation}
+use Rattle.scalable_cases.proofs.Instances.{scalable-premises-met}
 use Rattle.scalable_cases.proofs.Rows.{scalable-rows}
 use Rattle.scalable.proofs.Isolation.{scalable-locality}
 use Rattle.scalable.proofs.Written.{scalable-leaves-all, scalable-sets-exactly}
@@ -193,4 +194,5 @@ everything =
       scalable-rights-off = scalable-rights-off;
       scalable-isolation = scalable-isolation;
       scalable-rows = scalable-rows;
+      scalable-premises-met = scalable-premises-met;
     }

@@ -26,6 +26,7 @@ use Rattle.cache.specs.Lent.{AsDefined, EqualCalls}
 use Rattle.rights.specs.Rights.{ScalableMoreMemory, ScalableRightsOn, ScalableRightsOff}
 use Rattle.claims.specs.ScalableClaims.{ScalableAccessMeansUnfetched, ScalableStaysInside, ScalableNoInterruptGranted, ScalableNoneUntaken, ScalableAlwaysAnEntry}
 use Rattle.claims.specs.ScalableLent.{ScalableIsolation}
+use Rattle.scalable_cases.specs.Instances.{ScalablePremisesMet}
 use Rattle.scalable_cases.specs.Rows.{ScalableRows}
 use Rattle.scalable.specs.Isolation.{ScalableLocality, ScalableSetsExactly, ScalableLeavesAll}
 use Rattle.scalable.specs.Named.{AtMostFifty}
@@ -189,3 +190,4 @@ pub record Everything : Type 0 where
   pub scalable-rights-off : ScalableRightsOff
   pub scalable-isolation : ScalableIsolation
   pub scalable-rows : ScalableRows
+  pub scalable-premises-met : ScalablePremisesMet
