@@ -61,7 +61,7 @@ use Rattle.cases.proofs.Takes.{takes-met}
 use Rattle.cases.proofs.Translations.{translation-cases}
 use Rattle.claims.specs.Everything.{Everything}
 use Rattle.claims.proofs.FirstNamed.{first-named}
-use Rattle.claims.proofs.OneAnswer.{one-memory-answer, one-translation-answer, one-interrupt-answer, one-take-answer, one-reason}
+use Rattle.claims.proofs.OneAnswer.{one-memory-answer, one-translation-answer, one-interrupt-answer, one-take-answer, one-recorder-answer, one-reason}
 use Rattle.claims.proofs.OneScalable.{one-scalable-answer}
 use Rattle.claims.proofs.OneWindow.{whole-in-one-window}
 
@@ -74,6 +74,7 @@ everything =
       one-memory-answer = one-memory-answer;
       one-interrupt-answer = one-interrupt-answer;
       one-take-answer = one-take-answer;
+      one-recorder-answer = one-recorder-answer;
       one-reason = one-reason;
       remapped-by-entry = remapped-by-entry;
       posted-by-entry = posted-by-entry;

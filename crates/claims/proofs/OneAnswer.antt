@@ -2,13 +2,13 @@
 use Prim.Native.Nat.{ℕ}
 use mathlib.Core.Path.{_≡_, refl}
 use native.Mathlib.Omega.{arith}
-use Rattle.faults.proofs.Numbers.{numberOf-injective}
+use Rattle.faults.proofs.Numbers.{numberOf-injective, answerOf-injective}
 use Rattle.dma.proofs.Injective as memory
 use Rattle.dma.specs.declared.MemoryAnswer.the-variants.{Granted, Blocked, Refused}
 use Rattle.translation.proofs.Injective as translation
 use Rattle.interrupts.proofs.Injective as interrupts
 use Rattle.takes.specs.declared.TakeAnswer.the-variants.{Vector, Nothing, Refused as Untaken}
-use Rattle.claims.specs.OneAnswer.{OneMemoryAnswer, OneTranslationAnswer, OneInterruptAnswer, OneTakeAnswer, OneReason}
+use Rattle.claims.specs.OneAnswer.{OneMemoryAnswer, OneTranslationAnswer, OneInterruptAnswer, OneTakeAnswer, OneRecorderAnswer, OneReason}
 
 pub one-memory-answer : OneMemoryAnswer
 one-memory-answer = memory.outcomeOf-injective
@@ -29,6 +29,9 @@ one-take-answer Nothing (Untaken m) e = let z : _≡_ {A = ℕ} 0 1 = cc in absu
 one-take-answer (Untaken n) (Vector w) e = let z : _≡_ {A = ℕ} 0 1 = cc in absurd (omega arith)
 one-take-answer (Untaken n) Nothing e = let z : _≡_ {A = ℕ} 0 1 = cc in absurd (omega arith)
 one-take-answer (Untaken n) (Untaken m) e = cc
+
+pub one-recorder-answer : OneRecorderAnswer
+one-recorder-answer = answerOf-injective
 
 pub one-reason : OneReason
 one-reason = numberOf-injective

@@ -45,7 +45,7 @@ use Rattle.cases.specs.PostsThroughWindows.{PostsThroughWindows}
 use Rattle.cases.specs.Takes.{TakesMet}
 use Rattle.cases.specs.Translations.{TranslationCases}
 use Rattle.claims.specs.FirstNamed.{FirstNamed}
-use Rattle.claims.specs.OneAnswer.{OneMemoryAnswer, OneTranslationAnswer, OneInterruptAnswer, OneScalableAnswer, OneTakeAnswer, OneReason}
+use Rattle.claims.specs.OneAnswer.{OneMemoryAnswer, OneTranslationAnswer, OneInterruptAnswer, OneScalableAnswer, OneTakeAnswer, OneRecorderAnswer, OneReason}
 use Rattle.claims.specs.OneWindow.{WholeInOneWindow}
 
 pub record Everything : Type 0 where
@@ -57,6 +57,7 @@ pub record Everything : Type 0 where
   pub one-memory-answer : OneMemoryAnswer
   pub one-interrupt-answer : OneInterruptAnswer
   pub one-take-answer : OneTakeAnswer
+  pub one-recorder-answer : OneRecorderAnswer
   pub one-reason : OneReason
   -- which interrupt is raised, and by whom
   pub remapped-by-entry : RemappedByEntry

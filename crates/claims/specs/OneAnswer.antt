@@ -2,8 +2,10 @@
 -- answers, and no two reasons, say the same: so each contract leaves one answer. Proved in proofs/OneAnswer.antt.
 use Prim.Native.Nat.{_^_, _<_}
 use mathlib.Core.Path.{_≡_}
+use Rattle.faults.specs.Answers.{answerOf}
 use Rattle.faults.specs.Reason.{numberOf}
 use Rattle.faults.specs.declared.reason.Reason.{Reason}
+use Rattle.faults.specs.declared.recorder.RecorderAnswer.{RecorderAnswer}
 use Rattle.dma.specs.Answers as memory
 use Rattle.dma.specs.declared.MemoryAnswer.{MemoryAnswer}
 use Rattle.dma.specs.declared.MemoryAnswer.the-variants.{Granted, Blocked, Refused}
@@ -62,6 +64,10 @@ OneScalableAnswer = (r s : ScalableAnswer) → SizedScalable r → SizedScalable
 -- a take's answer has no fault, and so neither record words nor an entry concerned
 abbrev pub OneTakeAnswer : Type 0
 OneTakeAnswer = (r s : TakeAnswer) → takeOutcomeOf r ≡ takeOutcomeOf s → r ≡ s
+
+-- the recorder tells one answer by one number
+abbrev pub OneRecorderAnswer : Type 0
+OneRecorderAnswer = (r s : RecorderAnswer) → answerOf r ≡ answerOf s → r ≡ s
 
 abbrev pub OneReason : Type 0
 OneReason = (r s : Reason) → numberOf r ≡ numberOf s → r ≡ s

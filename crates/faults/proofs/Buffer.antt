@@ -1,14 +1,14 @@
 -- The slots of a buffer as the code reads and writes them, byte by byte.
 use Prim.Native.Nat.{ℕ, zero, suc, _+_, _*_, _/_, _%_, _^_, _<_, _≤_}
 use mathlib.Core.Path.{_≡_, sym}
-use mathlib.Core.List.{List, [], _∷_, _++_, append-assoc, append-nil}
+use mathlib.Core.List.{List, [], _∷_, _++_, append-assoc}
 use native.Mathlib.Nat.{zero-add, add-assoc, add-comm, add-suc, mul-add, mul-comm, mod-eq-of-lt, div-eq-of-lt, add-mul-div-left, add-mul-mod-self-left}
 use native.Mathlib.Omega.{arith}
 use native.Mathlib.Decide.{decLe}
 use borrow.Author.Tests.{le-leb, lt-leb, eq-eqb}
 use lib.Arith.{mod-mul}
 use lib.Dec.{leb, eqb, lit<}
-use lib.ListN.{length, getD, set, take, drop, length-drop, drop-of-length-le}
+use lib.ListN.{length, getD, set, take, drop, length-drop}
 use lib.Seq.{take-add, set-split, append-snoc, getD-drop}
 use Rattle.image.specs.Bits.{bits, bit}
 use Rattle.image.specs.Bytes.{littleEndian, bytesOf}
@@ -54,12 +54,6 @@ marked low high small =
       mul-add,
     )
     (sym (add-assoc low (2 ^ 64 * (high % 2 ^ 63)) (2 ^ 127)))
-
--- a buffer of one slot is its record
-pub only-slot : (buffer : List ℕ) (contents : ℕ) → length buffer ≡ 16 → withRecord buffer 0 contents ≡ bytesOf 16 contents
-unfolding withRecord
-only-slot buffer contents sized =
-    rw (drop-of-length-le buffer {i = 16} (omega arith), append-nil (bytesOf 16 contents))
 
 byte-top : (b : ℕ) → b < 256 → leb 128 b ≡ bit b 7
 unfolding bits

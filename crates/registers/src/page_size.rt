@@ -22,12 +22,6 @@ impl Page2M {
     pub const SHIFT: u32 = 21;
 
     pub const SPAN: u64 = 1 << Self::SHIFT;
-
-    pub fn offset(address: u64) -> u64
-        ensures { λ r. ⌜ r ≡ address % 2 ^ 21 ⌝ }
-    {
-        address % Self::SPAN
-    }
 }
 
 pub struct Page1G;
@@ -36,10 +30,4 @@ impl Page1G {
     pub const SHIFT: u32 = 30;
 
     pub const SPAN: u64 = 1 << Self::SHIFT;
-
-    pub fn offset(address: u64) -> u64
-        ensures { λ r. ⌜ r ≡ address % 2 ^ 30 ⌝ }
-    {
-        address % Self::SPAN
-    }
 }

@@ -18,10 +18,11 @@ impl SourceId {
         }
     }
 
+    // Of the number as a C caller or a trace has it.
     pub fn from_number(id: u16) -> Self
         ensures { λ r. ⌜ r .id ≡ id ⌝ }
     {
-        Self { id }
+        Self::new((id / Self::FUNCTIONS) as u8, (id % Self::FUNCTIONS) as u8)
     }
 
     pub fn bus(self) -> u8
