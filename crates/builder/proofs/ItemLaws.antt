@@ -1,6 +1,6 @@
 -- Laws of an item's reasons.
 use Prim.Native.Nat.{ℕ, _+_, _*_, _%_, _^_, _<_, _≤_}
-use mathlib.Core.Bool.{Bool, true, false, not, _&&_, _||_}
+use mathlib.Core.Bool.{Bool, true, false, not, _&&_, _||_, and-true, and-false}
 use mathlib.Core.Path.{_≡_, refl, sym, _∙_}
 use native.Mathlib.Omega.{arith}
 use borrow.Author.Tests.{eqb-true, leb-false, le-leb, lt-leb, eq-eqb, ne-eqb, not-false}
@@ -13,20 +13,12 @@ use Rattle.dma.specs.InterruptRange.{meetsInterruptRange}
 use Rattle.builder.specs.Reasons.{unmaps, rights, isLarge, badSize, badAlignment, badPlace, badFrame, placeReason, mapReason, orElse, itemReason}
 use Rattle.builder.specs.declared.items.Item.{Item}
 
-and-false : (t : Bool) → false ≡ (t && false)
-and-false true = refl
-and-false false = refl
-
-and-true : (t : Bool) → t ≡ (t && true)
-and-true true = refl
-and-true false = refl
-
 module _ (at size : ℕ) where
   pub above-range : 0xFEEF_FFFF < at → false ≡ meetsInterruptRange at size
-  above-range h = rw (lt-leb at 0xFEEF_FFFF h) (and-false (ltb 0xFEE0_0000 (at + size)))
+  above-range h = rw (lt-leb at 0xFEEF_FFFF h) (sym (and-false (ltb 0xFEE0_0000 (at + size))))
 
   pub below-range : at ≤ 0xFEEF_FFFF → ltb 0xFEE0_0000 (at + size) ≡ meetsInterruptRange at size
-  below-range h = rw (le-leb at 0xFEEF_FFFF h) (and-true (ltb 0xFEE0_0000 (at + size)))
+  below-range h = rw (le-leb at 0xFEEF_FFFF h) (sym (and-true (ltb 0xFEE0_0000 (at + size))))
 
 -- a choice that came out 0 wasn't the number's
 pub none-of : (t : Bool) (n rest : ℕ) → 0 < n → (if t then n else rest) ≡ 0 → (t ≡ false) × (rest ≡ 0)

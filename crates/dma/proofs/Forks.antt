@@ -24,7 +24,7 @@ use Rattle.dma.proofs.Admissions.{taken-root}
 use Rattle.dma.proofs.Cases.{width-cases}
 use Rattle.dma.proofs.Leaves.{leaf-no-access}
 use Rattle.dma.proofs.Lookups.{every-lookup}
-use Rattle.dma.proofs.Reasons.{Otherwise, root-otherwise, context-otherwise, page-otherwise}
+use Rattle.dma.proofs.Reasons.{Otherwise, no-access, root-otherwise, context-otherwise, page-otherwise}
 use Rattle.dma.proofs.Stages.{root-aligned}
 use Rattle.dma.proofs.Steps.{page-frame-lt, leaf-low}
 use Rattle.dma.proofs.Stepped.{leads, leads-aligned, more-levels}
@@ -54,13 +54,7 @@ module _ (registers : Registers) (request : MemoryRequest) where
 
   stops : {A : Type 0} (k : Check A) (reason : ℕ) (fpd : Bool) → Otherwise k → k ≡ stop reason → Says (fault reason fpd)
   unfolding memoryFault
-  stops k reason fpd other told = (
-    tt,
-    λ is.
-        let z : _≡_ {A = Bool} true false = sym is ∙ subst Otherwise told other in
-        let y : _≡_ {A = ℕ} 0 1 = cc in
-        omega arith,
-  )
+  stops k reason fpd other told = (tt, no-access k reason other told)
 
   -- a page that the walk reaches has its frame below 2^52, and an entry of level 1, 2 or 3
   step-says : (fpd : Bool) (n place : ℕ) (s : Unit {0}) (e : ℕ) (t : Translation) → n < 5

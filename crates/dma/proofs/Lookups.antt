@@ -1,12 +1,12 @@
 -- Laws of the lookup of a context, whatever follows it.
 use Prim.Native.Nat.{ℕ, _+_, _*_}
 use mathlib.Core.Bool.{Bool, false}
-use mathlib.Core.Path.{_≡_, refl}
+use mathlib.Core.Path.{_≡_, refl, ap, sym, _∙_}
 use native.Mathlib.Omega.{arith}
 use Rattle.image.specs.Check.{Check, stop, go, onCheck}
 use Rattle.image.specs.EntryKind.{EntryKind, rootEntry, contextEntry}
 use Rattle.image.specs.Memory.{Memory, Fetched, missing, found, entry, onFetch}
-use Rattle.image.specs.Place.{Place, entryAt, lastTried}
+use Rattle.image.specs.Place.{Place, noEntry, entryAt, lastTried, stoppedAt}
 use Rattle.image.specs.Rules.{Rules, answer, run}
 use Rattle.image.proofs.Forks.{Every, every-answer, every-fetch, every-run}
 use Rattle.image.proofs.Places.{only-at}
@@ -16,7 +16,9 @@ use Rattle.registers.specs.declared.Registers.{Registers}
 use Rattle.dma.specs.Context.{contextCheck, faultProcessingDisabled, Usable}
 use Rattle.dma.specs.Lookup.{Lookup, context, noContext, onLookup, contextRules, rootRules, lookupRules}
 use Rattle.dma.specs.Root.{rootCheck}
+use Rattle.dma.specs.Answers.{lookupOf, lookupPlace}
 use Rattle.dma.specs.declared.context.Context.{Context}
+use Rattle.dma.specs.declared.context.Lookup.{Lookup as LookupCode}
 use Rattle.dma.proofs.Stages.{usable}
 
 -- what holds of the forks and answers of a lookup and of what follows a context
@@ -191,3 +193,21 @@ finds registers source m =
     (every-lookup (λ kind at l. Finds l) Finds 0 registers noContext (λ c. answer (context c)) source tt (λ e table _. tt) (λ e reason _. tt)
     (λ e reason _. tt)
     (λ c good. every-answer (λ kind at l. Finds l) Finds 0 (context c) good))
+
+-- the lookup as the code has it, and what follows: what is answered, where that stops, and that a context found is usable
+pub record Looked {A : Type 0} (registers : Registers) (faulted : (reason : ℕ) (fpd : Bool) → A) (next : Context → Rules A) (m : Memory) (source : ℕ) (l : LookupCode) : Type 0 where
+  pub answers : onLookup (lookupOf l) faulted (λ c. run (next c) m) ≡ run (rootRules registers faulted next source) m
+  pub stops : onLookup (lookupOf l) (λ reason fpd. lookupPlace l) (λ c. lastTried (lookupPlace l) (next c) m) ≡ stoppedAt (rootRules registers faulted next source) m
+  pub finding : Finds (lookupOf l)
+
+pub looked : {A : Type 0} (registers : Registers) (faulted : (reason : ℕ) (fpd : Bool) → A) (next : Context → Rules A) (m : Memory) (source : ℕ) {l l′ : LookupCode}
+    → lookupOf l ≡ run (lookupRules registers source) m → lookupPlace l ≡ stoppedAt (lookupRules registers source) m → l ≡ l′
+    → Looked registers faulted next m source l′
+looked registers faulted next m source {l} {l′} says names is =
+    let found = sym (ap lookupOf is) ∙ says in
+    let tried = sym (ap lookupPlace is) ∙ names in
+    record {
+      answers = rw found (sym (looked-up registers faulted next m source));
+      stops = rw (found, tried) (sym (looked-up-at registers faulted next m source noEntry));
+      finding = rw found (finds registers source m);
+    }

@@ -28,7 +28,8 @@ Raised = SwitchedEntry (λ before after. before ≤ after)
 abbrev pub RaisedFetch : Fetched → Fetched → Type 0
 RaisedFetch = BothFetched Raised
 
-same-field : (e e′ : ℕ) → e′ / 4 ≡ e / 4 → (high low : ℕ) → 2 ≤ low → bits e′ high low ≡ bits e high low
+-- every bit from 2 up stays
+pub same-field : (e e′ : ℕ) → e′ / 4 ≡ e / 4 → (high low : ℕ) → 2 ≤ low → bits e′ high low ≡ bits e high low
 unfolding bits
 same-field e e′ h high low two =
     let split : low ≡ 2 + (low - 2) = omega arith in
@@ -36,15 +37,15 @@ same-field e e′ h high low two =
     λ x. ap (λ (k : ℕ). x / 2 ^ k) split ∙ sym (shr-shr x 2 (low - 2)) in
     rw (down e′, down e, h)
 
+pub same-leaf : {e e′ : ℕ} → Raised e e′ → (level : ℕ) → leafAt level e′ ≡ leafAt level e
+same-leaf {e} {e′} raised level = rw (same-field e e′ (raised .other-bits) 7 7 (omega arith))
+
 module _ (registers : Registers) (haw : 2 ≤ registers .haw) {e e′ : ℕ} (raised : Raised e e′) where
   same-reserved : (level : ℕ) → pageReserved registers level e′ ≡ pageReserved registers level e
   unfolding pageReserved
   same-reserved level =
       let same = same-field e e′ (raised .other-bits) in
       rw (same 51 (registers .haw) haw, same 7 7 (omega arith), same 29 12 (omega arith), same 20 12 (omega arith))
-
-  same-leaf : (level : ℕ) → leafAt level e′ ≡ leafAt level e
-  same-leaf level = rw (same-field e e′ (raised .other-bits) 7 7 (omega arith))
 
   kept-right : (write : Bool) → ownRight write e ≡ true → (ownRight write e′ ≡ true) × (anySet e′ 1 0 ≡ true)
   unfolding bits
@@ -89,7 +90,7 @@ module _ (registers : Registers) (haw : 2 ≤ registers .haw) (address : ℕ) (w
           (pageStep registers address write fpd level place s e′)
       on (stop reason) told = λ none. absurd none
       on (go frame) told =
-          rw (raised-check registers haw up write level frame told, same-leaf registers haw up level) (by-leaf (leafAt level e) frame)
+          rw (raised-check registers haw up write level frame told, same-leaf up level) (by-leaf (leafAt level e) frame)
 
   pub raised-walk : (m m′ : Memory) → ((a : ℕ) → a % 8 ≡ 0 → RaisedFetch (m a) (m′ a))
       → (level table : ℕ) (t : Translation) → Reaches t → table % 8 ≡ 0

@@ -2,6 +2,7 @@
 use Prim.Native.Nat.{ℕ}
 use mathlib.Core.Bool.{Bool, true, false, not}
 use mathlib.Core.Path.{_≡_, refl, ap, sym, _∙_, subst}
+use native.Mathlib.Omega.{arith}
 use Rattle.image.specs.Bits.{bit, anySet}
 use Rattle.image.specs.Check.{Check, stop, go}
 use Rattle.image.specs.Choice.{if_then_else_}
@@ -15,6 +16,12 @@ use Rattle.dma.specs.Root.{rootReserved, rootCheck}
 abbrev pub Otherwise : {A : Type 0} → Check A → Type 0
 Otherwise (stop reason) = accessReason reason ≡ false
 Otherwise (go a) = Unit {0}
+
+pub no-access : {A : Type 0} (k : Check A) (reason : ℕ) → Otherwise k → k ≡ stop reason → accessReason reason ≡ true → ⊥
+no-access k reason other told is =
+    let z : _≡_ {A = Bool} true false = sym is ∙ subst Otherwise told other in
+    let y : _≡_ {A = ℕ} 0 1 = cc in
+    omega arith
 
 tested : {A : Type 0} (t : Bool) (reason : ℕ) (rest : Check A) → accessReason reason ≡ false → Otherwise rest → Otherwise (if t then stop reason else rest)
 tested true reason rest h r = h

@@ -1,24 +1,25 @@
 -- A page entry's reserved bits, level by level.
-use Prim.Native.Nat.{ℕ}
-use mathlib.Core.Bool.{Bool, true, false, not, _&&_, _||_}
-use mathlib.Core.Path.{_≡_, refl}
-use borrow.Author.Tests.{ne-eqb}
+use Prim.Native.Nat.{ℕ, _≤_}
+use mathlib.Core.Bool.{Bool, true, false, not, _&&_, _||_, and-true, and-false, or-true, or-false}
+use mathlib.Core.Path.{_≡_, refl, _∙_}
+use native.Mathlib.Decide.{decLe}
+use native.Mathlib.Omega.{arith}
+use borrow.Author.Tests.{ne-eqb, le-leb}
 use lib.Dec.{leb}
 use Rattle.image.specs.Bits.{bit, anySet}
 use Rattle.registers.specs.declared.Registers.{Registers}
-use Rattle.dma.specs.Page.{pageReserved}
+use Rattle.dma.specs.Page.{leafAt, pageReserved}
 
-and-false : (a : Bool) → a && false ≡ false
-and-false true = refl
-and-false false = refl
-
-or-false : (a : Bool) → (a || false) ≡ a
-or-false true = refl
-or-false false = refl
-
-and-true : (a : Bool) → a && true ≡ a
-and-true true = refl
-and-true false = refl
+-- bit 7 of an entry above level 3 is reserved: a page whose entry has no reserved bit has one of level 1, 2 or 3
+pub low-by : {reserved : Bool} (level e : ℕ) → (bit e 7 ≡ true → 4 ≤ level → reserved ≡ true) → reserved ≡ false → leafAt level e ≡ true → level ≤ 3
+low-by level e above clear leaf = by (decLe level 3)
+  where
+    by : Dec (level ≤ 3) → level ≤ 3
+    by (yes low) = low
+    by (no high) =
+        let set = above (rw (ne-eqb level 1 (λ z. omega arith)) at leaf) (omega arith) in
+        let z : _≡_ {A = ℕ} 0 1 = cc in
+        absurd (omega arith)
 
 module _ (registers : Registers) (e : ℕ) where
   -- where bit 7 is clear, address bits alone
@@ -40,3 +41,7 @@ module _ (registers : Registers) (e : ℕ) where
         → pageReserved registers level e ≡ (anySet e 51 (registers .haw) || leb 4 level)
     unfolding pageReserved
     elsewhere level not2 not3 = simp (large, ne-eqb level 2 not2, ne-eqb level 3 not3, and-true, or-false)
+
+pub low-leaf : (registers : Registers) (level e : ℕ) → pageReserved registers level e ≡ false → leafAt level e ≡ true → level ≤ 3
+low-leaf registers level e =
+    low-by level e (λ large high. elsewhere registers e large level (λ z. omega arith) (λ z. omega arith) ∙ simp (le-leb 4 level high, or-true))

@@ -48,7 +48,7 @@ member a (x ∷ xs) = by (ℕ-discrete a x) (member a xs)
 
 -- each word is as it was or switched
 module _ {turned : ℕ → ℕ → Type 0} (same : (x : ℕ) → turned x x) (entries : List ℕ) (m m′ : Memory) (switched : Switched turned entries m m′) where
-  words : (a : ℕ) → a % 8 ≡ 0 → BothFetched (SwitchedEntry turned) (m a) (m′ a)
+  pub words : (a : ℕ) → a % 8 ≡ 0 → BothFetched (SwitchedEntry turned) (m a) (m′ a)
   words a aligned = by (member a entries)
     where
       kept : (f : Fetched) → BothFetched (SwitchedEntry turned) f f
@@ -60,7 +60,7 @@ module _ {turned : ℕ → ℕ → Type 0} (same : (x : ℕ) → turned x x) (en
       by (no out) = rw (switched .elsewhere a aligned out) (kept (m a))
 
 -- switched off is switched on the other way
-flipped : (f f′ : Fetched) → BothFetched (SwitchedEntry (λ before after. after ≤ before)) f f′ → RaisedFetch f′ f
+pub flipped : (f f′ : Fetched) → BothFetched (SwitchedEntry (λ before after. after ≤ before)) f f′ → RaisedFetch f′ f
 flipped missing missing both = tt
 flipped missing (found e′) both = both
 flipped (found e) missing both = both

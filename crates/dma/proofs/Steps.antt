@@ -1,20 +1,18 @@
 -- Laws of page entries.
 use Prim.Native.Nat.{ℕ, zero, suc, _+_, _*_, _-_, _/_, _%_, _^_, _<_, _≤_}
-use mathlib.Core.Bool.{Bool, true, false, not, _||_}
+use mathlib.Core.Bool.{Bool, true, false, not}
 use mathlib.Core.Path.{_≡_, refl, ap, sym, _∙_, subst}
 use native.Mathlib.Omega.{arith}
-use native.Mathlib.Decide.{decLe}
 use native.Mathlib.Nat.{div-one}
-use borrow.Author.Tests.{le-leb, ne-eqb}
-use lib.Dec.{leb, lit≤}
+use lib.Dec.{lit≤}
 use lib.Pow.{pow-mono}
-use Rattle.image.specs.Bits.{bits, bit, inPlace, anySet}
+use Rattle.image.specs.Bits.{bits, inPlace, anySet}
 use Rattle.image.specs.Check.{Check, stop, go}
 use Rattle.image.specs.Choice.{if_then_else_}
 use Rattle.image.proofs.Fields.{fits, in-place-lt}
 use Rattle.registers.specs.declared.Registers.{Registers}
 use Rattle.dma.specs.Page.{pageCheck, pageReserved, denied, ownRight, leafAt}
-use Rattle.dma.proofs.Reserved.{elsewhere}
+use Rattle.dma.proofs.Reserved.{low-leaf}
 
 -- an index of 9 bits
 pub index-lt : (address n : ℕ) → bits address (20 + 9 * n) (12 + 9 * n) < 512
@@ -70,19 +68,5 @@ page-frame-lt registers write level e frame h =
 pub leaf-low : (registers : Registers) (write : Bool) (level e frame : ℕ) → pageCheck registers write level e ≡ go frame → leafAt level e ≡ true
     → level ≤ 3
 unfolding pageCheck
-leaf-low registers write level e frame h page = by (decLe level 3)
-  where
-    or-true : (a : Bool) → (a || true) ≡ true
-    or-true true = refl
-    or-true false = refl
-
-    by : Dec (level ≤ 3) → level ≤ 3
-    by (yes low) = low
-    by (no high) =
-        let large : bit e 7 ≡ true = rw (ne-eqb level 1 (λ z. omega arith)) at page in
-        let clear = past (pageReserved registers level e) 0x0C _ frame (past (not (anySet e 1 0)) (denied write) _ frame h .1) .0 in
-        let reserved = elsewhere registers e large level (λ z. omega arith) (λ z. omega arith) in
-        let all : (anySet e 51 (registers .haw) || leb 4 level) ≡ true = rw (le-leb 4 level (omega arith)) (or-true (anySet e 51 (registers .haw))) in
-        let clash : _≡_ {A = Bool} true false = sym all ∙ sym reserved ∙ clear in
-        let z : _≡_ {A = ℕ} 0 1 = cc in
-        absurd (omega arith)
+leaf-low registers write level e frame h =
+    low-leaf registers level e (past (pageReserved registers level e) 0x0C _ frame (past (not (anySet e 1 0)) (denied write) _ frame h .1) .0)

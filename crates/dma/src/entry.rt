@@ -22,7 +22,7 @@ pub(crate) fn present(e: Entry16) -> bool
 }
 
 // The address of the table that the entry leads to.
-pub(crate) fn table_address(e: Entry16) -> u64
+pub fn table_address(e: Entry16) -> u64
     ensures { λ r. ⌜ r ≡ inPlace (number16 e) 63 12 ⌝ }
 {
     in_place(e.low, 63, 12)

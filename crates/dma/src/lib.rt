@@ -15,6 +15,7 @@ mod walk;
 
 pub use context::Context;
 pub use context::Lookup;
+pub use entry::table_address;
 use faults::Fault;
 use faults::memory_fault;
 pub use image::EntryAddress;

@@ -9,17 +9,7 @@ use Rattle.faults.specs.Reason.{numberOf}
 use Rattle.faults.specs.Record.{FaultAnswer}
 use Rattle.faults.specs.declared.recorder.Recorder.{Recorder}
 use Rattle.faults.specs.declared.recorder.RecorderAnswer.{RecorderAnswer}
-use Rattle.faults.specs.declared.recorder.RecorderAnswer.the-variants.{
-  Refused,
-  NotRecordable,
-  Dropped,
-  Overflowed,
-  Written,
-  SlotClear,
-  SlotCleared,
-  OverflowClear,
-  OverflowCleared,
-}
+use Rattle.faults.specs.declared.recorder.RecorderAnswer.the-variants as said
 use Rattle.faults.specs.declared.recorder.RecorderStep.{RecorderStep}
 use Rattle.faults.specs.Recorder.{
   After,
@@ -48,15 +38,15 @@ abbrev pub highWord : ℕ → ℕ → Bool → ℕ
 highWord source reason read = source + reason * 2 ^ 32 + (if read then 2 ^ 62 else 0) + 2 ^ 63
 
 abbrev pub answerOf : RecorderAnswer → ℕ
-answerOf Refused = refused
-answerOf NotRecordable = notRecordable
-answerOf Dropped = dropped
-answerOf Overflowed = overflowed
-answerOf Written = written
-answerOf SlotClear = slotClear
-answerOf SlotCleared = slotCleared
-answerOf OverflowClear = overflowClear
-answerOf OverflowCleared = overflowCleared
+answerOf said.Refused = refused
+answerOf said.NotRecordable = notRecordable
+answerOf said.Dropped = dropped
+answerOf said.Overflowed = overflowed
+answerOf said.Written = written
+answerOf said.SlotClear = slotClear
+answerOf said.SlotCleared = slotCleared
+answerOf said.OverflowClear = overflowClear
+answerOf said.OverflowCleared = overflowCleared
 
 -- a call's answer, with the recorder and the buffer that it leaves
 abbrev pub leftBy : RecorderAnswer → Recorder → List ℕ → After

@@ -2,7 +2,7 @@
 -- multiples of 4096, so that none of its words can stand in one window and the next in another, also where the two touch.
 use Prim.Native.Nat.{ℕ, zero, suc, _+_, _-_, _*_, _%_, _^_, _≤_, _<_, min}
 use mathlib.Core.Bool.{Bool, true, false}
-use mathlib.Core.Path.{_≡_, refl, ap, sym, _∙_}
+use mathlib.Core.Path.{_≡_, refl, ap, sym, subst, _∙_}
 use mathlib.Core.List.{List, [], _∷_}
 use native.Mathlib.Omega.{arith}
 use native.Mathlib.Decide.{decLe}
@@ -13,11 +13,16 @@ use Rattle.image.specs.Bytes.{littleEndian}
 use Rattle.image.specs.Choice.{if_then_else_}
 use Rattle.image.specs.Entries.{spell}
 use Rattle.image.specs.Memory.{Memory, Fetched, missing, found, join, wordAt, ofImage, entry}
-use Rattle.image.specs.Windows.{Window, windowsOf, endOf, holdsAll, Spot, nowhere, here, onSpot, spotIn, entryIn, ofWindows, pageFrom, badWindows}
-use Rattle.image.specs.Spans.{Holds}
+use Rattle.image.specs.Windows.{Window, windowsOf, endOf, holdsAll, Spot, nowhere, here, onSpot, spotIn, entryIn, ofWindows, pageFrom, badWindow, badWindows}
+use Rattle.image.specs.Spans.{windowBy, Holds, HeldBy, Stands, PlacedBy}
+use Rattle.image.specs.declared.Span.{Span}
+use Rattle.image.specs.declared.entries.Held.{Held}
+use Rattle.image.specs.declared.entries.Held.the-variants as found-in
+use Rattle.image.specs.declared.entries.Placed.{Placed}
+use Rattle.image.specs.declared.entries.Placed.the-variants as placed
 use Rattle.image.proofs.GoodWindows.{GoodWindow, GoodWithAll, Good, good, good-window, held, holding, before-it, past-it, spot-first, spot-next}
 use Rattle.image.proofs.Pages.{in-page}
-use Rattle.image.proofs.Words.{wordsIn, inside, outside, join-missing, spell-run}
+use Rattle.image.proofs.Words.{wordsIn, inside, outside, join-missing, spell-run, whole-image}
 
 -- what was spotted lies in the run, with all that its window has from there on
 pub spot-in : (run : ℕ) (ws : List Window) (size at : ℕ) {place left : ℕ} → Good ws run → spotIn ws size at ≡ here place left
@@ -231,49 +236,78 @@ pub lacks-spot : (numbers : List ℕ) (len : ℕ) → badWindows numbers len ≡
     → spotIn (windowsOf numbers) 1 (at + more) ≡ nowhere → spotIn (windowsOf numbers) (more + 1) at ≡ nowhere
 lacks-spot numbers len fine at more page h = by-last len (windowsOf numbers) at more (good numbers len fine) page ∙ rw h
 
--- an entry of the run, and one of its table's page
-module _ (numbers run : List ℕ) (fine : badWindows numbers (length run) ≡ false) (n : ℕ) where
-  module _ (at : ℕ) (page : at % 4096 + 8 * suc n ≤ 4096) where
-    pub held-missing : spotIn (windowsOf numbers) 1 (at + (8 * suc n - 1)) ≡ nowhere → missing ≡ entry (suc n) (ofWindows numbers run) at
+-- an entry whose place in the run was looked for
+pub record Placing (numbers run : List ℕ) (n at : ℕ) (p : Placed) : Type 0 where
+  pub fine : badWindows numbers (length run) ≡ false
+  pub page : at % 4096 + 8 * suc n ≤ 4096
+  pub by : PlacedBy p (windowsOf numbers) (length run) (8 * suc n) at
+
+module _ {numbers run : List ℕ} {n at : ℕ} {p : Placed} (h : Placing numbers run n at p) where
+  pub placed-missing : p ≡ placed.Nowhere → missing ≡ entry (suc n) (ofWindows numbers run) at
+  unfolding entryIn
+  placed-missing is = sym (single numbers run (h .fine) n at (h .page) ∙ rw (rw is at (h .by)))
+
+  module _ {from : ℕ} (is : p ≡ placed.At from) where
+    stands : Stands from (windowsOf numbers) (length run) (8 * suc n) at
+    stands = subst (λ (p : Placed). PlacedBy p (windowsOf numbers) (length run) (8 * suc n) at) is (h .by)
+
+    pub placed-room : from + 8 * suc n ≤ length run
+    placed-room = stands .inRun
+
+    pub placed-entry : {e : ℕ} → e ≡ littleEndian (take (8 * suc n) (drop from run)) → found e ≡ entry (suc n) (ofWindows numbers run) at
     unfolding entryIn
-    held-missing h =
-        let all : (8 * suc n - 1) + 1 ≡ 8 * suc n = omega arith in
-        sym (single numbers run fine n at page
-        ∙ rw (rw all at (lacks-spot numbers (length run) fine at (8 * suc n - 1) (omega arith) h)))
+    placed-entry e = ap found e ∙ sym (single numbers run (h .fine) n at (h .page) ∙ rw (stands .spot))
 
-    pub held-entry : {w : Window} → Holds w (windowsOf numbers) (length run) (at + (8 * suc n - 1))
-        → found (littleEndian (take (8 * suc n) (drop (w .place + (at - w .start)) run))) ≡ entry (suc n) (ofWindows numbers run) at
-    unfolding entryIn
-    held-entry h =
-        let all : (8 * suc n - 1) + 1 ≡ 8 * suc n = omega arith in
-        sym (single numbers run fine n at page
-        ∙ rw (rw all at (holds-spot numbers (length run) fine at (8 * suc n - 1) (omega arith) h)))
+-- an entry in its table's page, where the window with its last byte was looked for
+pub record Paging (numbers run : List ℕ) (n table offset : ℕ) (r : Held) : Type 0 where
+  pub fine : badWindows numbers (length run) ≡ false
+  pub aligned : table % 4096 ≡ 0
+  pub page : offset + 8 * suc n ≤ 4096
+  pub by : HeldBy r (windowsOf numbers) (length run) (table + offset + (8 * suc n - 1))
 
-  module _ (table offset : ℕ) (aligned : table % 4096 ≡ 0) (page : offset + 8 * suc n ≤ 4096) {w : Window}
-      (h : Holds w (windowsOf numbers) (length run) (table + offset + (8 * suc n - 1))) where
-    begins : (w .start ≤ table) × (table + offset + 8 * suc n ≤ endOf w)
-    begins =
-        let g = good-window w (length run) (h .good) in
-        let lies = held w 1 (table + offset + (8 * suc n - 1)) (h .byte) in
-        (omega (arith, g .aligned, lies .0), omega (arith, lies .1))
+module _ {numbers run : List ℕ} {n table offset : ℕ} {r : Held} (h : Paging numbers run n table offset r) where
+  all : (8 * suc n - 1) + 1 ≡ 8 * suc n
+  all = omega arith
 
-    pub page-begins : holdsAll w 1 table ≡ true
-    page-begins = holding w 1 table (begins .0) (omega (arith, begins .1))
+  pub page-missing : r ≡ found-in.Nowhere → missing ≡ entry (suc n) (ofWindows numbers run) (table + offset)
+  unfolding entryIn
+  page-missing is =
+      sym (single numbers run (h .fine) n (table + offset) (omega arith)
+      ∙ rw (rw all at (lacks-spot numbers (length run) (h .fine) (table + offset) (8 * suc n - 1) (omega arith) (rw is at (h .by)))))
 
-    pub page-room : offset + 8 * suc n ≤ length (pageFrom w run table)
-    unfolding pageFrom
-    page-room =
-        let g = good-window w (length run) (h .good) in
-        rw (length-take (min 4096 (endOf w - table)) (drop (w .place + (table - w .start)) run), length-drop (w .place + (table - w .start)) run)
-        (omega (arith, g .inRun, begins .0, begins .1))
+  module _ {s : Span} (is : r ≡ found-in.In s) where
+    abbrev w : Window
+    w = windowBy s
 
-    pub page-entry : entry (suc n) (ofImage (pageFrom w run table)) offset ≡ entry (suc n) (ofWindows numbers run) (table + offset)
-    unfolding pageFrom
-    page-entry =
-        let g = good-window w (length run) (h .good) in
-        within run w n table offset (g .inRun) (begins .0) (omega (arith, begins .1)) page (begins .1)
-        ∙ ap found (spell-run run (suc n) (w .place + (table + offset - w .start)) (omega (arith, g .inRun, begins .0, begins .1)))
-        ∙ held-entry (table + offset) (omega arith) h
+    holds : Holds w (windowsOf numbers) (length run) (table + offset + (8 * suc n - 1))
+    holds = subst (λ (r : Held). HeldBy r (windowsOf numbers) (length run) (table + offset + (8 * suc n - 1))) is (h .by)
+
+    lies : (w .start ≤ table) × (table + offset + 8 * suc n ≤ endOf w) × (w .place + w .size ≤ length run)
+    lies =
+        let g = good-window w (length run) (holds .good) in
+        let last = held w 1 (table + offset + (8 * suc n - 1)) (holds .byte) in
+        (omega (arith, h .aligned, g .aligned, last .0), omega (arith, last .1), g .inRun)
+
+    pub page-begins : (badWindow w (length run) ≡ false) × (holdsAll w 1 table ≡ true)
+    page-begins = (holds .good, holding w 1 table (lies .0) (omega (arith, lies .1)))
+
+    module _ {part : List ℕ} (is-page : part ≡ pageFrom w run table) where
+      pub page-room : offset + 8 * suc n ≤ length part
+      unfolding pageFrom
+      page-room =
+          rw (is-page, length-take (min 4096 (endOf w - table)) (drop (w .place + (table - w .start)) run), length-drop (w .place + (table - w .start)) run)
+          (omega (arith, h .page, lies .0, lies .1, lies .2))
+
+      pub page-entry : {e : ℕ} → e ≡ littleEndian (take (8 * suc n) (drop offset part)) → found e ≡ entry (suc n) (ofWindows numbers run) (table + offset)
+      unfolding pageFrom entryIn
+      page-entry e =
+          ap found e
+          ∙ whole-image part (suc n) offset page-room
+          ∙ rw is-page (within run w n table offset (lies .2) (lies .0) (omega (arith, lies .1)) (h .page) (lies .1))
+          ∙ ap found (spell-run run (suc n) (w .place + (table + offset - w .start)) (omega (arith, lies .0, lies .1, lies .2)))
+          ∙ sym
+          (single numbers run (h .fine) n (table + offset) (omega arith)
+          ∙ rw (rw all at (holds-spot numbers (length run) (h .fine) (table + offset) (8 * suc n - 1) (omega arith) holds)))
 
 -- what an entry that was fetched tells of its place, and one that couldn't be
 pub record WholeAt (numbers run : List ℕ) (size at e : ℕ) : Type 0 where

@@ -202,14 +202,26 @@ module _ (numbers : List ℕ) where
   unfolding sharing sharesAny windowsFrom
   two-share h = rw (whole numbers 2 h) (simp or-false)
 
-  pub three-share : length numbers ≡ 9 → (shared 0 3 || (shared 0 6 || shared 3 6)) ≡ sharing (windowsOf numbers)
-  unfolding sharing sharesAny windowsFrom
-  three-share h = rw (whole numbers 3 h) (simp (or-false, or-assoc))
+  last-three : (i : ℕ) → i + 9 ≡ length numbers
+      → windowsOf (drop i numbers) ≡ windowAt numbers i ∷ windowAt numbers (i + 3) ∷ windowAt numbers (i + 6) ∷ []
+  last-three i h =
+      let six : i + 3 + 3 ≡ i + 6 = omega arith in
+      first-two numbers i (omega arith)
+      ∙ ap (λ (l : List Window). windowAt numbers i ∷ windowAt numbers (i + 3) ∷ l) (rw six (only-one numbers (i + 6) (omega arith)))
+
+  pub three-share : (i : ℕ) → i + 9 ≡ length numbers
+      → (shared i (i + 3) || (shared i (i + 6) || shared (i + 3) (i + 6))) ≡ sharing (windowsOf (drop i numbers))
+  unfolding sharing sharesAny
+  three-share i h = rw (last-three i h) (simp (or-false, or-assoc))
 
   pub four-share : length numbers ≡ 12
-      → (shared 0 3 || (shared 0 6 || (shared 0 9 || (shared 3 6 || (shared 3 9 || shared 6 9))))) ≡ sharing (windowsOf numbers)
-  unfolding sharing sharesAny windowsFrom
-  four-share h = rw (whole numbers 4 h) (simp (or-false, or-assoc))
+      → (shared 0 3 || (shared 0 6 || (shared 0 9 || sharing (windowsOf (drop 3 numbers))))) ≡ sharing (windowsOf numbers)
+  unfolding sharing sharesAny
+  four-share h =
+      sym
+      (ap sharing (first-of numbers 0 (omega arith))
+      ∙ ap (λ (l : List Window). sharesAny (windowAt numbers 0) l || sharing (windowsOf (drop 3 numbers))) (last-three 3 (omega arith))
+      ∙ simp (or-false, or-assoc))
 
 -- windows in the order of their parts share nothing
 unfoldable Behind : ℕ → List Window → Type 0

@@ -55,13 +55,17 @@ of-word n ws words high low h =
     ∙ ap (λ (w : ℕ). bits w high low) (getD-drop n ws 0 0 ∙ ap (λ (i : ℕ). getD ws i 0) (add-zero n))
 
 -- as the code reads it
-pub in-word : (ws : List ℕ) → Words ws → (high low : ℕ) → high / 64 ≡ low / 64
-    → bits (getD ws (low / 64) 0) (high % 64) (low % 64) ≡ (if inOneWord high low then bits (spell ws) high low else 0)
-in-word ws words high low same =
-    let top : 64 * (low / 64) + high % 64 ≡ high = omega arith in
-    let end : 64 * (low / 64) + low % 64 ≡ low = omega arith in
-    rw (eq-eqb (high / 64) (low / 64) same)
-    (sym (of-word (low / 64) ws words (high % 64) (low % 64) (omega arith)) ∙ rw (top, end))
+pub in-word : (ws : List ℕ) → Words ws → (high low : ℕ)
+    → (if inOneWord high low then bits (getD ws (low / 64) 0) (high % 64) (low % 64) else 0) ≡ (if inOneWord high low then bits (spell ws) high low else 0)
+in-word ws words high low = go (eqb (high / 64) (low / 64)) refl
+  where
+    go : (t : Bool) → eqb (high / 64) (low / 64) ≡ t
+        → (if t then bits (getD ws (low / 64) 0) (high % 64) (low % 64) else 0) ≡ (if t then bits (spell ws) high low else 0)
+    go true same =
+        let top : 64 * (low / 64) + high % 64 ≡ high = omega (arith, eqb-true (high / 64) (low / 64) same) in
+        let end : 64 * (low / 64) + low % 64 ≡ low = omega arith in
+        sym (of-word (low / 64) ws words (high % 64) (low % 64) (omega arith)) ∙ rw (top, end)
+    go false other = refl
 
 -- some bit of the field, as the code tests it
 pub any-in-word : (t : Bool) (n : ℕ) → not (eqb (if t then n else 0) 0) ≡ (if t then not (eqb n 0) else false)

@@ -7,7 +7,7 @@ ghost use lib.ListN.{length, take, drop};
 ghost use Rattle.image.specs.Bytes.{littleEndian};
 ghost use Rattle.image.specs.Entries.{number16, number64, fetched8, fetched16, fetched64, missed8, missed16, missed64};
 ghost use Rattle.image.specs.Memory.{entry};
-ghost use Rattle.image.specs.Spans.{windowBy, Opened, HeldBy};
+ghost use Rattle.image.specs.Spans.{windowBy, Opened, HeldBy, PlacedBy};
 ghost use Rattle.image.specs.Windows.{windowsOf, windowAt, endOf, holdsAll, onSpot, spotIn, ofWindows, pageFrom, badWindow, badWindows};
 use crate::Entry16;
 use crate::Entry64;
@@ -198,14 +198,30 @@ pub fn page_entry16(windows: &[u64], image: &[u8], table: u64, offset: u64) -> F
     page_entry16_by(first_span(windows), windows, image, table, offset)
 }
 
+// Where in the run the bytes from one up to so many after it stand, where a window has them all.
+enum Placed {
+    At(usize),
+    Nowhere,
+}
+
+fn place_of(windows: &[u64], run: usize, at: u64, more: u64) -> Placed
+    requires { ⌜ (badWindows (now windows) run ≡ false) × (at % 4096 + more < 4096) ⌝ }
+    ensures { λ r. ⌜ PlacedBy r (windowsOf (now (windows .entry))) run (more + 1) at ⌝ }
+{
+    match window_of(first_span(windows), windows, run, at + more) {
+        Held::In(span) => Placed::At(place_in(span, at)),
+        Held::Nowhere => Placed::Nowhere,
+    }
+}
+
 pub fn fetch16(windows: &[u64], image: &[u8], at: u64) -> Found16
     requires { ⌜ (badWindows (now windows) (length (now image)) ≡ false) × (at % 16 ≡ 0) ⌝ }
     ensures { λ r. ⌜ fetched16 r ≡ entry 2 (ofWindows (now (windows .entry)) (now (image .entry))) at ⌝ }
     ensures { λ r. ⌜ missed16 r at ≡ at ⌝ }
 {
-    match window_of(first_span(windows), windows, image.len(), at + 15) {
-        Held::In(span) => Found16::Entry(load16(image, place_in(span, at))),
-        Held::Nowhere => Found16::Missing(at),
+    match place_of(windows, image.len(), at, 15) {
+        Placed::At(from) => Found16::Entry(load16(image, from)),
+        Placed::Nowhere => Found16::Missing(at),
     }
 }
 
@@ -214,9 +230,9 @@ pub fn fetch64(windows: &[u64], image: &[u8], at: u64) -> Found64
     ensures { λ r. ⌜ fetched64 r ≡ entry 8 (ofWindows (now (windows .entry)) (now (image .entry))) at ⌝ }
     ensures { λ r. ⌜ missed64 r at ≡ at ⌝ }
 {
-    match window_of(first_span(windows), windows, image.len(), at + 63) {
-        Held::In(span) => Found64::Entry(load64(image, place_in(span, at))),
-        Held::Nowhere => Found64::Missing(at),
+    match place_of(windows, image.len(), at, 63) {
+        Placed::At(from) => Found64::Entry(load64(image, from)),
+        Placed::Nowhere => Found64::Missing(at),
     }
 }
 
@@ -225,8 +241,8 @@ pub fn place64(windows: &[u64], run: usize, at: u64) -> usize
     requires { ⌜ (badWindows (now windows) run ≡ false) × (at % 64 ≡ 0) ⌝ }
     ensures { λ r. ⌜ r ≡ onSpot (spotIn (windowsOf (now (windows .entry))) 64 at) 0 (λ place left. place) ⌝ }
 {
-    match window_of(first_span(windows), windows, run, at + 63) {
-        Held::In(span) => place_in(span, at),
-        Held::Nowhere => 0,
+    match place_of(windows, run, at, 63) {
+        Placed::At(from) => from,
+        Placed::Nowhere => 0,
     }
 }

@@ -3,6 +3,7 @@
 ghost use mathlib.Core.Bool.{false};
 ghost use mathlib.Core.List.{[], _∷_};
 ghost use mathlib.Core.Path.{_≡_};
+ghost use Prim.Native.Nat.{_%_};
 ghost use lib.ListN.{getD};
 ghost use Rattle.image.specs.Bits.{bits, bit, anySet, inOneWord};
 ghost use Rattle.image.specs.Choice.{if_then_else_};
@@ -10,6 +11,16 @@ ghost use Rattle.image.specs.Entries.{words16, words64, number16, number
 use crate::Entry16;
 use crate::Entry64;
 use crate::field;
+
+// The field of the word with its lowest bit.
+fn field_in(word: u64, high: u32, low: u32) -> u64
+    ensures { λ r. ⌜ r ≡ (if inOneWord high low then bits word (high % 64) (low % 64) else 0) ⌝ }
+{
+    if high / 64 != low / 64 {
+        return 0;
+    }
+    field(word, high % 64, low % 64)
+}
 
 fn word16(e: Entry16, n: u32) -> u64
     ensures { λ r. ⌜ r ≡ getD (words16 e) n 0 ⌝ }
@@ -24,10 +35,7 @@ fn word16(e: Entry16, n: u32) -> u64
 pub fn bits16(e: Entry16, high: u32, low: u32) -> u64
     ensures { λ r. ⌜ r ≡ (if inOneWord high low then bits (number16 e) high low else 0) ⌝ }
 {
-    if high / 64 != low / 64 {
-        return 0;
-    }
-    field(word16(e, low / 64), high % 64, low % 64)
+    field_in(word16(e, low / 64), high, low)
 }
 
 pub fn bit16(e: Entry16, place: u32) -> bool
@@ -62,10 +70,7 @@ fn word64(e: Entry64, n: u32) -> u64
 pub fn bits64(e: Entry64, high: u32, low: u32) -> u64
     ensures { λ r. ⌜ r ≡ (if inOneWord high low then bits (number64 e) high low else 0) ⌝ }
 {
-    if high / 64 != low / 64 {
-        return 0;
-    }
-    field(word64(e, low / 64), high % 64, low % 64)
+    field_in(word64(e, low / 64), high, low)
 }
 
 pub fn any_set64(e: Entry64, high: u32, low: u32) -> bool

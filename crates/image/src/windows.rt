@@ -3,7 +3,7 @@
 ghost use mathlib.Core.Path.{_≡_};
 ghost use mathlib.Core.Bool.{false};
 ghost use Prim.Native.Nat.{_+_, _%_, _^_, _≤_, _<_};
-ghost use lib.ListN.{length};
+ghost use lib.ListN.{length, drop};
 ghost use Rattle.image.specs.Windows.{windowsOf, windowAt, badWindow, badCount, badWindows};
 ghost use Rattle.image.specs.WindowRow.{badPart, badNext, badRow, share, sharing, rises, rising};
 use std::num::wrapping_add_u64;
@@ -133,17 +133,18 @@ fn all_rise(windows: &[u64], run: usize) -> bool
     ends_before(windows, 6, 9)
 }
 
-fn three_share(windows: &[u64]) -> bool
-    requires { ⌜ length (now windows) ≡ 9 ⌝ }
-    ensures { λ r. ⌜ r ≡ sharing (windowsOf (now (windows .entry))) ⌝ }
+// Of the last three windows, whose numbers stand from an index on.
+fn three_share(windows: &[u64], i: usize) -> bool
+    requires { ⌜ i + 9 ≡ length (now windows) ⌝ }
+    ensures { λ r. ⌜ r ≡ sharing (windowsOf (drop i (now (windows .entry)))) ⌝ }
 {
-    if shares(windows, 0, 3) {
+    if shares(windows, i, i + 3) {
         return true;
     }
-    if shares(windows, 0, 6) {
+    if shares(windows, i, i + 6) {
         return true;
     }
-    shares(windows, 3, 6)
+    shares(windows, i + 3, i + 6)
 }
 
 fn four_share(windows: &[u64]) -> bool
@@ -159,13 +160,7 @@ fn four_share(windows: &[u64]) -> bool
     if shares(windows, 0, 9) {
         return true;
     }
-    if shares(windows, 3, 6) {
-        return true;
-    }
-    if shares(windows, 3, 9) {
-        return true;
-    }
-    shares(windows, 6, 9)
+    three_share(windows, 3)
 }
 
 fn any_share(windows: &[u64]) -> bool
@@ -180,7 +175,7 @@ fn any_share(windows: &[u64]) -> bool
         return shares(windows, 0, 3);
     }
     if count < 12 {
-        return three_share(windows);
+        return three_share(windows, 0);
     }
     four_share(windows)
 }

@@ -14,7 +14,7 @@ use image::bit16;
 use image::bits16;
 use registers::Registers;
 use registers::SourceId;
-use reserved::descriptor_address;
+pub use reserved::descriptor_address;
 use reserved::reserved_irte;
 use source::source_allowed;
 

@@ -10,7 +10,8 @@ use image::bits16;
 use registers::Registers;
 use registers::at_or_above_power;
 
-pub(crate) fn descriptor_address(e: Entry16) -> u64
+// The host address of the posted descriptor.
+pub fn descriptor_address(e: Entry16) -> u64
     ensures { λ r. ⌜ (r ≡ descriptorAddress (number16 e)) × (r < 2 ^ 64) ⌝ }
 {
     bits16(e, 63, 38) * 0x40 + bits16(e, 127, 96) * 0x1_0000_0000

@@ -3,18 +3,16 @@ ghost use mathlib.Core.Bool.{false};
 ghost use mathlib.Core.Path.{_≡_};
 ghost use Prim.Native.Nat.{_+_, _*_, _%_, _^_, _<_, _≤_};
 ghost use lib.ListN.{length};
-ghost use Rattle.image.specs.Bits.{inPlace};
 ghost use Rattle.image.specs.Entries.{number16};
 ghost use Rattle.image.specs.Windows.{ofWindows, badWindows};
-ghost use Rattle.irte.specs.Irte.{descriptorAddress};
 ghost use Rattle.registers.specs.Registers.{registersBad};
 ghost use Rattle.region.specs.Shared.{meets as sharesByte, meetsContextTable, meetsDescriptor, meetsNamed, namedAt, anyNamed, interruptEntries, sharesTables};
+use dma::table_address;
 use image::Entry16;
 use image::Found16;
 use image::bit16;
-use image::bits16;
 use image::fetch16;
-use image::in_place;
+use irte::descriptor_address;
 use registers::Registers;
 
 // Neither sum can wrap: that of the other bytes isn't made.
@@ -34,30 +32,18 @@ fn meets(start: u64, size: u64, other: u64, n: u64) -> bool
     start - n < other
 }
 
-fn context_table(e: Entry16) -> u64
-    ensures { λ r. ⌜ r ≡ inPlace (number16 e) 63 12 ⌝ }
-{
-    in_place(e.low, 63, 12)
-}
-
-fn descriptor(e: Entry16) -> u64
-    ensures { λ r. ⌜ r ≡ descriptorAddress (number16 e) ⌝ }
-{
-    bits16(e, 63, 38) * 64 + bits16(e, 127, 96) * 4294967296
-}
-
 fn meets_context_table(start: u64, size: u64, e: Entry16) -> bool
     requires { ⌜ start + size < 2 ^ 63 ⌝ }
     ensures { λ r. ⌜ r ≡ meetsContextTable start size (number16 e) ⌝ }
 {
-    bit16(e, 0) & meets(start, size, context_table(e), 4096)
+    bit16(e, 0) & meets(start, size, table_address(e), 4096)
 }
 
 fn meets_descriptor(start: u64, size: u64, e: Entry16) -> bool
     requires { ⌜ start + size < 2 ^ 63 ⌝ }
     ensures { λ r. ⌜ r ≡ meetsDescriptor start size (number16 e) ⌝ }
 {
-    bit16(e, 0) & bit16(e, 15) & meets(start, size, descriptor(e), 64)
+    bit16(e, 0) & bit16(e, 15) & meets(start, size, descriptor_address(e), 64)
 }
 
 fn meets_named(posted: bool, start: u64, size: u64, e: Entry16) -> bool

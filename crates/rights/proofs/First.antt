@@ -6,11 +6,11 @@ use native.Mathlib.Omega.{arith}
 use Rattle.image.specs.Bits.{bits, bit, inPlace}
 use Rattle.image.specs.Choice.{if_then_else_}
 use Rattle.dma.specs.Page.{leafAt}
-use Rattle.dma.proofs.Raised.{Raised}
+use Rattle.dma.proofs.Raised.{Raised, same-field, same-leaf}
 use Rattle.pasid.specs.declared.ScalableRegisters.{ScalableRegisters}
 use Rattle.pasid.specs.declared.table.PasidEntry.{PasidEntry}
 use Rattle.first.specs.First.{FirstStep, down, page, fault, firstReserved, flagClear, notSnooped, userDenied, writeDenied, firstFrame, firstStep}
-use Rattle.rights.proofs.Raised.{Goes, goes-not, lacking, neither, same-field, same-leaf, goes-read, goes-write}
+use Rattle.rights.proofs.Raised.{Goes, goes-not, lacking, neither, goes-read, goes-write}
 
 abbrev pub FirstKept : FirstStep → FirstStep → Type 0
 FirstKept (down table) y = (y ≡ down table) × (table % 8 ≡ 0)

@@ -1,13 +1,11 @@
 -- What stays of an entry whose rights, bits 0 and 1, are switched on: every other bit, and these where they were set.
-use Prim.Native.Nat.{ℕ, _+_, _-_, _/_, _^_, _≤_}
+use Prim.Native.Nat.{ℕ}
 use mathlib.Core.Bool.{Bool, true, false, not, _&&_, _||_}
-use mathlib.Core.Path.{_≡_, refl, ap, sym, _∙_}
+use mathlib.Core.Path.{_≡_, refl}
 use native.Mathlib.Omega.{arith}
 use borrow.Author.Tests.{eq-eqb, eqb-true}
 use lib.Dec.{eqb}
-use lib.Pow.{shr-shr}
 use Rattle.image.specs.Bits.{bits, bit}
-use Rattle.dma.specs.Page.{leafAt}
 use Rattle.dma.proofs.Raised.{Raised}
 
 -- a test that holds goes on holding
@@ -40,18 +38,7 @@ pub neither : (a a′ b b′ : Bool) → (a ≡ false → a′ ≡ false) → (b
 neither true a′ b b′ first second h = let z : _≡_ {A = ℕ} 0 1 = cc in absurd (omega arith)
 neither false a′ b b′ first second h = rw (first refl) (second h)
 
-pub same-field : (e e′ : ℕ) → e′ / 4 ≡ e / 4 → (high low : ℕ) → 2 ≤ low → bits e′ high low ≡ bits e high low
-unfolding bits
-same-field e e′ h high low two =
-    let split : low ≡ 2 + (low - 2) = omega arith in
-    let down : (x : ℕ) → x / 2 ^ low ≡ x / 4 / 2 ^ (low - 2) =
-    λ x. ap (λ (k : ℕ). x / 2 ^ k) split ∙ sym (shr-shr x 2 (low - 2)) in
-    rw (down e′, down e, h)
-
 module _ {e e′ : ℕ} (raised : Raised e e′) where
-  pub same-leaf : (level : ℕ) → leafAt level e′ ≡ leafAt level e
-  same-leaf level = rw (same-field e e′ (raised .other-bits) 7 7 (omega arith))
-
   pub goes-read : Goes (bit e 0) (bit e′ 0)
   unfolding bits
   goes-read h =

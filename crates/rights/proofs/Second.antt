@@ -10,13 +10,13 @@ use Rattle.image.specs.Choice.{if_then_else_}
 use Rattle.image.specs.Rules.{Rules}
 use Rattle.dma.specs.Page.{leafAt, pageReserved}
 use Rattle.dma.specs.Walk.{Step, done, down}
-use Rattle.dma.proofs.Raised.{Raised}
+use Rattle.dma.proofs.Raised.{Raised, same-field, same-leaf}
 use Rattle.pasid.specs.declared.ScalableRegisters.{ScalableRegisters}
 use Rattle.pasid.specs.declared.table.PasidEntry.{PasidEntry}
 use Rattle.second.specs.Second.{Walked, page, fault, Handed, readable, writable, handedOn, secondFlags, flagsNotSnooped, secondStep, unfetchable, secondRules, atTop}
 use Rattle.second.specs.declared.step.Wanted.{Wanted}
 use Rattle.rights.proofs.Kept.{Keeps}
-use Rattle.rights.proofs.Raised.{Goes, goes-and, goes-or, lacking, same-field, same-leaf, goes-read, goes-write}
+use Rattle.rights.proofs.Raised.{Goes, goes-and, goes-or, lacking, goes-read, goes-write}
 use Rattle.rights.proofs.Walks.{StepKeeps, keeps-walk}
 
 abbrev pub WalkedKept : Walked → Walked → Type 0

@@ -3,11 +3,9 @@ use Prim.Native.Nat.{ℕ, zero, suc, _+_, _-_, _%_, _^_, _<_, _≤_}
 use mathlib.Core.Bool.{Bool, true, false, not, _&&_, _||_}
 use mathlib.Core.List.{List, [], _∷_, _++_, append-nil}
 use mathlib.Core.Path.{_≡_, refl, ap, sym, _∙_}
-use native.Mathlib.Decide.{decLe}
 use native.Mathlib.Omega.{arith}
-use borrow.Author.Tests.{le-leb, ne-eqb}
-use lib.Dec.{leb, lit≤}
-use Rattle.image.specs.Bits.{bit, anySet, inPlace}
+use lib.Dec.{lit≤}
+use Rattle.image.specs.Bits.{bit, inPlace}
 use Rattle.image.specs.Choice.{if_then_else_}
 use Rattle.image.specs.Memory.{Memory, Fetched, missing, found, entry, onFetch}
 use Rattle.image.specs.Place.{Place, entryAt, lastTried}
@@ -18,31 +16,12 @@ use Rattle.registers.specs.declared.Registers.{Registers}
 use Rattle.dma.specs.Page.{leafAt, pageReserved}
 use Rattle.dma.specs.Walk.{Step, done, down, placeIn, stepOver}
 use Rattle.dma.proofs.Onward as onward
-use Rattle.dma.proofs.Reserved.{elsewhere}
 use Rattle.dma.proofs.Stepped.{more-levels}
 use Rattle.dma.proofs.Walks.{walk-anew}
 use Rattle.pasid.specs.declared.ScalableRegisters.{ScalableRegisters}
 use Rattle.pasid.specs.declared.table.PasidEntry.{PasidEntry}
 use Rattle.second.specs.Second.{Walked, page, fault, Handed, readable, writable, handedOn, flagsNotSnooped, secondFlags, unfetchable, secondStep, secondOver, secondRules}
 use Rattle.second.specs.declared.step.Wanted.{Wanted}
-
--- a page whose entry has no reserved bit has an entry of level 1, 2 or 3: above, bit 7 is reserved
-pub low-leaf : (registers : Registers) (level e : ℕ) → pageReserved registers level e ≡ false → leafAt level e ≡ true → level ≤ 3
-low-leaf registers level e clear leaf = by (decLe level 3)
-  where
-    or-true : (a : Bool) → (a || true) ≡ true
-    or-true true = refl
-    or-true false = refl
-
-    by : Dec (level ≤ 3) → level ≤ 3
-    by (yes low) = low
-    by (no high) =
-        let large : bit e 7 ≡ true = rw (ne-eqb level 1 (λ z. omega arith)) at leaf in
-        let reserved = elsewhere registers e large level (λ z. omega arith) (λ z. omega arith) in
-        let all : (anySet e 51 (registers .haw) || leb 4 level) ≡ true = rw (le-leb 4 level (omega arith)) (or-true (anySet e 51 (registers .haw))) in
-        let clash : _≡_ {A = Bool} true false = sym all ∙ sym reserved ∙ clear in
-        let z : _≡_ {A = ℕ} 0 1 = cc in
-        absurd (omega arith)
 
 -- a step that leads down is past each test that would end the walk
 past : (b : Bool) (a : Walked) (rest : Step Handed Walked) {next : ℕ} {t : Handed} → down next t ≡ (if b then done a else rest)

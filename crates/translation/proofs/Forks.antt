@@ -23,7 +23,7 @@ use Rattle.dma.specs.Walk.{done, down}
 use Rattle.dma.specs.declared.context.Context.{Context}
 use Rattle.dma.proofs.Admissions.{taken-root}
 use Rattle.dma.proofs.Lookups.{every-lookup}
-use Rattle.dma.proofs.Reasons.{Otherwise, root-otherwise, context-otherwise}
+use Rattle.dma.proofs.Reasons.{Otherwise, no-access, root-otherwise, context-otherwise}
 use Rattle.dma.proofs.Stages.{root-aligned}
 use Rattle.dma.proofs.Stepped.{more-levels}
 use Rattle.dma.proofs.Walks.{every-walk}
@@ -76,13 +76,7 @@ module _ (registers : Registers) (request : TranslationRequest) where
 
   stops : {A : Type 0} (k : Check A) (reason : ℕ) (fpd : Bool) → Otherwise k → k ≡ stop reason → Says (fault reason fpd)
   unfolding translationFault
-  stops k reason fpd other told = (
-    tt,
-    λ is.
-        let z : _≡_ {A = Bool} true false = sym is ∙ subst Otherwise told other in
-        let y : _≡_ {A = ℕ} 0 1 = cc in
-        omega arith,
-  )
+  stops k reason fpd other told = (tt, no-access k reason other told)
 
   step-says : (fpd : Bool) (n place : ℕ) (s : Rights) (e : ℕ) (c : Completion) → n < 5
       → done c ≡ entryStep registers fpd (suc n) place s e → Says c

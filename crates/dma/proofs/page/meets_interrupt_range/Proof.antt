@@ -1,6 +1,6 @@
 use Prim.Native.Nat.{ℕ, _+_, _*_, _-_, _^_, _≤_, _<_}
-use mathlib.Core.Bool.{Bool, true, false, _&&_}
-use mathlib.Core.Path.{_≡_, refl}
+use mathlib.Core.Bool.{and-true, and-false}
+use mathlib.Core.Path.{sym}
 use native.Mathlib.Omega.{arith}
 use borrow.Author.Tests.{le-ltb, le-leb, lt-leb}
 use lib.Dec.{ltb}
@@ -10,14 +10,6 @@ use Rattle.dma.proofs.Steps.{span-le}
 use borrow.Author.Needs.{needs}
 use Rattle.dma.proofs.page.meets_interrupt_range.Statement.{statement}
 use Rattle.dma.proofs.page.meets_interrupt_range.Tie as tie
-
-and-false : (t : Bool) → false ≡ (t && false)
-and-false true = refl
-and-false false = refl
-
-and-true : (t : Bool) → t ≡ (t && true)
-and-true true = refl
-and-true false = refl
 
 sub-if1 : tie.Need-sub-if1
 sub-if1 c = search needs
@@ -31,7 +23,7 @@ returns c =
 returns-2 : tie.Need-returns-2
 returns-2 c =
     let a = c .before .before .args in
-    rw (lt-leb (a .frame) 0xFEEF_FFFF (c .if2 .taken)) (and-false (ltb 0xFEE0_0000 (a .frame + spanAt (a .level))))
+    rw (lt-leb (a .frame) 0xFEEF_FFFF (c .if2 .taken)) (sym (and-false (ltb 0xFEE0_0000 (a .frame + spanAt (a .level)))))
 
 sub-result : tie.Need-sub-result
 sub-result c = search needs
@@ -58,7 +50,7 @@ returns-3 : tie.Need-returns-3
 returns-3 c =
     let a = c .before .before .args in
     rw (shifted-one (12 + 9 * (a .level - 1)) (omega (arith, c .before .before .pre .2)), le-leb (a .frame) 0xFEEF_FFFF (omega (arith, c .if2 .left)))
-    (and-true (ltb 0xFEE0_0000 (a .frame + spanAt (a .level))))
+    (sym (and-true (ltb 0xFEE0_0000 (a .frame + spanAt (a .level)))))
 
 pub meets-interrupt-range-spec : {M : Type 1} → statement M
 meets-interrupt-range-spec =

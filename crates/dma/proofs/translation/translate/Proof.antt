@@ -1,66 +1,33 @@
 -- The lookup, then what follows a context.
-use mathlib.Core.Path.{_≡_, refl, ap, sym, _∙_, subst}
-use Rattle.image.specs.Place.{noEntry, lastTried, stoppedAt}
-use Rattle.image.specs.Rules.{run}
+use mathlib.Core.Path.{_≡_, ap, _∙_}
 use Rattle.image.specs.Windows.{ofWindows}
 use Rattle.dma.specs.Answers.{lookupOf, lookupPlace}
-use Rattle.dma.specs.Lookup.{Lookup, context, noContext, onLookup, lookupRules}
-use Rattle.dma.specs.Translation.{fault, widthRules}
-use Rattle.dma.proofs.Lookups.{looked-up, looked-up-at, Finds, finds}
+use Rattle.dma.specs.declared.context.Lookup.{Lookup}
+use Rattle.dma.specs.Translation.{fault, widthRules, withoutContext}
+use Rattle.dma.proofs.Lookups.{Looked, looked}
 use Rattle.dma.proofs.Stepped.{renamed}
 use borrow.Author.Needs.{needs}
 use Rattle.dma.proofs.translation.translate.Statement.{statement}
 use Rattle.dma.proofs.translation.translate.Tie as tie
 
-find-context-requires : tie.Need-find-context-requires
-find-context-requires c κs = c .before .before .pre
-
-enum-known-found : tie.Need-enum-known-found
-enum-known-found c = search needs
-
-enum-told : tie.Need-enum-told
-enum-told c = search needs
-
-without-context-requires : tie.Need-without-context-requires
-without-context-requires c κs = search needs
-
-translate-in-requires : tie.Need-translate-in-requires
-translate-in-requires c κs =
-    let k = c .before .before .before .before .before .before in
-    let a = k .args in
-    (k .pre .0, subst Finds (sym (c .before .before .before .find-context .ensures .0) ∙ ap lookupOf (c .before .found .given .1)) (finds (a .registers) (a .request .source .id) (ofWindows (a .windows .now) (a .image .now))))
+looks : (c : tie.After-find-context) {l : Lookup} → c .find-context .result ≡ l → let a = c .before .before .before .args in
+    Looked (a .registers) fault (widthRules (a .registers) (a .request .address) (a .request .write)) (ofWindows (a .windows .now) (a .image .now)) (a .request .source .id) l
+looks c = looked _ _ _ _ _ (c .find-context .ensures .0) (c .find-context .ensures .1)
 
 returns : tie.Need-returns
 returns c =
-    let a = c .before .before .before .before .before .before .args in
-    let next = widthRules (a .registers) (a .request .address) (a .request .write) in
-    let m = ofWindows (a .windows .now) (a .image .now) in
-    let found = sym (c .before .before .before .find-context .ensures .0) ∙ ap lookupOf (c .before .enum-told .given .1) in
-    let stopped = looked-up-at (a .registers) fault next m (a .request .source .id) noEntry in (
-      c .without-context .ensures .0 ∙ rw (looked-up (a .registers) fault next m (a .request .source .id), found, c .before .enum-told .given .1),
-      renamed (c .without-context .result) (c .before .before .before .find-context .ensures .1 ∙ sym (rw found at stopped)) (c .without-context .ensures .1),
-    )
+    let is = c .before .enum-told .given .1 in
+    let l = looks (c .before .before .before) is in
+    (c .without-context .ensures .0 ∙ ap (λ l. withoutContext (lookupOf l)) is ∙ l .answers, renamed (c .without-context .result) (ap lookupPlace is ∙ l .stops) (c .without-context .ensures .1))
+
+translate-in-requires : tie.Need-translate-in-requires
+translate-in-requires c κs = (c .before .before .before .before .before .before .pre .0, looks (c .before .before .before) (c .before .found .given .1) .finding)
 
 returns-2 : tie.Need-returns-2
 returns-2 c =
-    let a = c .before .before .before .before .before .before .before .args in
-    let next = widthRules (a .registers) (a .request .address) (a .request .write) in
-    let m = ofWindows (a .windows .now) (a .image .now) in
-    let found = sym (c .before .before .before .before .find-context .ensures .0) ∙ ap lookupOf (c .before .before .found .given .1) in
-    let at = sym (ap lookupPlace (c .before .before .found .given .1)) ∙ c .before .before .before .before .find-context .ensures .1 in
-    let stopped = looked-up-at (a .registers) fault next m (a .request .source .id) noEntry in (
-      rw (looked-up (a .registers) fault next m (a .request .source .id), found) (c .translate-in .ensures .0),
-      renamed (c .translate-in .result) (ap (λ p. lastTried p (next (c .before .before .found .given .0 .0)) m) at ∙ sym (rw found at stopped)) (c .translate-in .ensures .1),
-    )
+    let l = looks (c .before .before .before .before) (c .before .before .found .given .1) in
+    (c .translate-in .ensures .0 ∙ l .answers, renamed (c .translate-in .result) (l .stops) (c .translate-in .ensures .1))
 
 pub translate-spec : {M : Type 1} → statement M
-translate-spec =
-    tie.close
-    (tie.spec
-    find-context-requires
-    enum-known-found
-    enum-told
-    without-context-requires
-    returns
-    translate-in-requires
-    returns-2)
+translate-spec = tie.close (tie.spec
+    (λ c κs. c .before .before .pre) (λ c. search needs) (λ c. search needs) (λ c κs. search needs) returns translate-in-requires returns-2)

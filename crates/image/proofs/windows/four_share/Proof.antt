@@ -25,35 +25,15 @@ returns-3 c =
 
 returns-4 : tie.Need-returns-4
 returns-4 c =
-    let k3 = c .before .before in
+    let k3 = c .before in
     let k2 = k3 .before .before in
     let k1 = k2 .before .before in
     let s = k1 .before .before .before in
-    rw (sym (k1 .before .shares .ensures) ∙ k1 .if1 .left, sym (k2 .before .shares2 .ensures) ∙ k2 .if2 .left, sym (k3 .before .shares3 .ensures) ∙ k3 .if3 .left, sym (c .before .shares4 .ensures) ∙ c .if4 .taken) at (four-share (now (s .args .windows)) (s .pre))
-
-returns-5 : tie.Need-returns-5
-returns-5 c =
-    let k4 = c .before .before in
-    let k3 = k4 .before .before in
-    let k2 = k3 .before .before in
-    let k1 = k2 .before .before in
-    let s = k1 .before .before .before in
-    rw (sym (k1 .before .shares .ensures) ∙ k1 .if1 .left, sym (k2 .before .shares2 .ensures) ∙ k2 .if2 .left, sym (k3 .before .shares3 .ensures) ∙ k3 .if3 .left, sym (k4 .before .shares4 .ensures) ∙ k4 .if4 .left, sym (c .before .shares5 .ensures) ∙ c .if5 .taken) at (four-share (now (s .args .windows)) (s .pre))
-
-returns-6 : tie.Need-returns-6
-returns-6 c =
-    let k5 = c .before in
-    let k4 = k5 .before .before in
-    let k3 = k4 .before .before in
-    let k2 = k3 .before .before in
-    let k1 = k2 .before .before in
-    let s = k1 .before .before .before in
-    c .shares6 .ensures
-    ∙ (rw (sym (k1 .before .shares .ensures) ∙ k1 .if1 .left, sym (k2 .before .shares2 .ensures) ∙ k2 .if2 .left, sym (k3 .before .shares3 .ensures) ∙ k3 .if3 .left, sym (k4 .before .shares4 .ensures) ∙ k4 .if4 .left, sym (k5 .before .shares5 .ensures) ∙ k5 .if5 .left) at (four-share (now (s .args .windows)) (s .pre)))
+    c .three-share .ensures
+    ∙ (rw (sym (k1 .before .shares .ensures) ∙ k1 .if1 .left, sym (k2 .before .shares2 .ensures) ∙ k2 .if2 .left, sym (k3 .before .shares3 .ensures) ∙ k3 .if3 .left) at (four-share (now (s .args .windows)) (s .pre)))
 
 pub four-share-spec : {M : Type 1} → statement M
 four-share-spec =
     tie.close
     (tie.spec
-    (λ c κs. search needs) returns (λ c κs. search needs) returns-2 (λ c κs. search needs) returns-3 (λ c κs. search needs) returns-4
-    (λ c κs. search needs) returns-5 (λ c κs. search needs) returns-6)
+    (λ c κs. search needs) returns (λ c κs. search needs) returns-2 (λ c κs. search needs) returns-3 (λ c κs. search needs) returns-4)

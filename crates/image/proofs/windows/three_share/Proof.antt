@@ -8,13 +8,13 @@ use Rattle.image.proofs.windows.three_share.Tie as tie
 returns : tie.Need-returns
 returns c =
     let s = c .before .before .before in
-    rw (sym (c .before .shares .ensures) ∙ c .if1 .taken) at (three-share (now (s .args .windows)) (s .pre))
+    rw (sym (c .before .shares .ensures) ∙ c .if1 .taken) at (three-share (now (s .args .windows)) (s .args .i) (s .pre))
 
 returns-2 : tie.Need-returns-2
 returns-2 c =
     let k = c .before .before in
     let s = k .before .before .before in
-    rw (sym (k .before .shares .ensures) ∙ k .if1 .left, sym (c .before .shares2 .ensures) ∙ c .if2 .taken) at (three-share (now (s .args .windows)) (s .pre))
+    rw (sym (k .before .shares .ensures) ∙ k .if1 .left, sym (c .before .shares2 .ensures) ∙ c .if2 .taken) at (three-share (now (s .args .windows)) (s .args .i) (s .pre))
 
 returns-3 : tie.Need-returns-3
 returns-3 c =
@@ -22,10 +22,11 @@ returns-3 c =
     let k = k2 .before .before in
     let s = k .before .before .before in
     c .shares3 .ensures
-    ∙ (rw (sym (k .before .shares .ensures) ∙ k .if1 .left, sym (k2 .before .shares2 .ensures) ∙ k2 .if2 .left) at (three-share (now (s .args .windows)) (s .pre)))
+    ∙ (rw (sym (k .before .shares .ensures) ∙ k .if1 .left, sym (k2 .before .shares2 .ensures) ∙ k2 .if2 .left) at (three-share (now (s .args .windows)) (s .args .i) (s .pre)))
 
 pub three-share-spec : {M : Type 1} → statement M
 three-share-spec =
     tie.close
     (tie.spec
-    (λ c κs. search needs) returns (λ c κs. search needs) returns-2 (λ c κs. search needs) returns-3)
+    (λ c. search needs) (λ c κs. search needs) returns (λ c. search needs) (λ c κs. search needs) returns-2
+    (λ c. search needs) (λ c. search needs) (λ c κs. search needs) returns-3)

@@ -3,7 +3,7 @@ use Rattle.region.proofs.shared.meets_context_table.Statement.{statemen
 use Rattle.region.proofs.shared.meets_context_table.Tie as tie
 
 returns : tie.Need-returns
-returns c = rw (c .meets .ensures, c .before .context-table .ensures, c .before .before .bit16 .ensures)
+returns c = rw (c .meets .ensures, c .before .table-address .ensures, c .before .before .bit16 .ensures)
 
 pub meets-context-table-spec : {M : Type 1} → statement M
 meets-context-table-spec =

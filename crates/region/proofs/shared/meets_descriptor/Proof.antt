@@ -4,7 +4,7 @@ use Rattle.region.proofs.shared.meets_descriptor.Tie as tie
 
 returns : tie.Need-returns
 returns c =
-    rw (c .meets .ensures, c .before .descriptor .ensures, c .before .before .bit162 .ensures, c .before .before .before .bit16 .ensures)
+    rw (c .meets .ensures, c .before .descriptor-address .ensures .0, c .before .before .bit162 .ensures, c .before .before .before .bit16 .ensures)
 
 pub meets-descriptor-spec : {M : Type 1} → statement M
 meets-descriptor-spec =

@@ -7,11 +7,11 @@ use lib.Dec.{lit≤}
 use Rattle.image.specs.Bits.{bit}
 use Rattle.image.proofs.Fields.{in-place-lt}
 use Rattle.dma.specs.Page.{pageReserved}
+use Rattle.dma.proofs.Reserved.{low-leaf}
 use Rattle.second.specs.Answers.{handedBy}
 use Rattle.second.specs.Second.{Handed, readable, writable, flagsNotSnooped}
 use Rattle.second.proofs.Rights as rights
 use Rattle.second.proofs.Seconds as step
-use Rattle.second.proofs.Seconds.{low-leaf}
 use Rattle.second.proofs.Told.{at-most-two}
 use borrow.Author.Needs.{needs}
 use Rattle.second.proofs.step.second_step.Statement.{statement}
