@@ -15,6 +15,7 @@ use Rattle.dma.specs.declared.context.Context.{Context}
 use Rattle.translation.specs.Rights.{both}
 use Rattle.regions.specs.Outside.{tableOutside}
 use Rattle.regions.specs.Region.{Region, regionIn}
+use Rattle.regions.specs.declared.Tables.{Tables}
 use Rattle.mapping.specs.Spans.{Span, spansAfter}
 
 -- refused, by number; passed unchanged; a root or context entry that faults, by its reason; or pages, and then every span
@@ -50,10 +51,10 @@ module _ (registers : Registers) (m : Memory) (outside : (table : ℕ) → Bool)
   abbrev pub mapping : (source : ℕ) → Mapped
   mapping source = run (mappingRules source) m
 
--- the regions of lent memory, from a top table: for the code's contracts
-abbrev pub regionsOver : Registers → (windows bytes : List ℕ) (levels top address : ℕ) → Region
-regionsOver registers windows bytes levels top address =
-    regionIn registers (ofWindows windows bytes) (tableOutside windows) address levels top both
+-- the regions of lent memory, by a context's tables: for the code's contracts
+abbrev pub regionsOver : Tables → (windows bytes : List ℕ) (address : ℕ) → Region
+regionsOver tables windows bytes address =
+    regionIn (tables .registers) (ofWindows windows bytes) (tableOutside windows) address (tables .levels) (tables .top) both
 
 -- over lent memory, windows on a run of bytes: windows that are bad are refusal 1, like bad registers
 abbrev pub mappingAnswer : Registers → (source : ℕ) (windows bytes : List ℕ) → Mapped

@@ -25,6 +25,7 @@ use faults::Reason;
 use filling::fill;
 use image::bad_windows;
 use image::first_span;
+use regions::Tables;
 use regions::forget;
 use registers::Admission;
 use registers::Registers;
@@ -74,16 +75,12 @@ fn list_context(
         return Listing::Passed;
     }
     let end = space_end(registers.mgaw, context.levels);
-    let filled = fill(
-        windows,
-        image,
+    let tables = Tables {
         registers,
-        context.levels,
-        context.top,
-        end,
-        known,
-        rows,
-    );
+        levels: context.levels,
+        top: context.top,
+    };
+    let filled = fill(windows, image, tables, end, known, rows);
     Listing::Spans(filled.count, filled.more)
 }
 

@@ -5,7 +5,7 @@ ghost use lib.ListN.{length};
 ghost use Prim.Native.Nat.{_+_, _-_, _%_, _^_, _<_, _≤_};
 ghost use Rattle.image.specs.Windows.{ofWindows, badWindows};
 ghost use Rattle.dma.specs.InterruptRange.{spanAt};
-ghost use Rattle.regions.specs.Answers.{whatOf, regionOf};
+ghost use Rattle.regions.specs.Answers.{whatOf, regionOf, Walkable};
 ghost use Rattle.regions.specs.Known.{Sound};
 ghost use Rattle.regions.specs.Outside.{tableOutside};
 ghost use Rattle.regions.specs.Region.{listed};
@@ -13,12 +13,12 @@ ghost use Rattle.mapping.specs.Answers.{nextOf};
 ghost use Rattle.mapping.specs.Mapping.{regionsOver};
 ghost use Rattle.mapping.specs.Search.{Fresh, Tells, IsNext};
 use regions::Region;
+use regions::Tables;
 use regions::What;
 use regions::known_level;
 use regions::region_at;
 use regions::remember_tables;
 use regions::table_span;
-use registers::Registers;
 use translation::Rights;
 
 pub enum Found {
@@ -51,17 +51,15 @@ fn block_end(address: u64, level: u32) -> u64
 fn quick_region(
     windows: &[u64],
     image: &[u8],
-    registers: Registers,
+    tables: Tables,
     address: u64,
-    levels: u32,
-    top: u64,
     known: &[u64],
 ) -> Region
-    requires { ⌜ (badWindows (now windows) (length (now image)) ≡ false) × (0 < levels) × (levels ≤ 5) × (top % 4096 ≡ 0)
-        × Sound registers (ofWindows (now windows) (now image)) (tableOutside (now windows)) (now known) ⌝ }
-    ensures { λ r. ⌜ Tells (regionsOver registers (now (windows .entry)) (now (image .entry)) levels top) address (regionOf r) ⌝ }
+    requires { ⌜ (badWindows (now windows) (length (now image)) ≡ false) × Walkable tables
+        × Sound (tables .registers) (ofWindows (now windows) (now image)) (tableOutside (now windows)) (now known) ⌝ }
+    ensures { λ r. ⌜ Tells (regionsOver tables (now (windows .entry)) (now (image .entry))) address (regionOf r) ⌝ }
 {
-    let level = known_level(windows, image, registers, address, levels, top, known);
+    let level = known_level(windows, image, tables, address, known);
     if 0 < level {
         return Region {
             level: level + 1,
@@ -72,36 +70,34 @@ fn quick_region(
             },
         };
     }
-    region_at(windows, image, registers, address, levels, top)
+    region_at(windows, image, tables, address)
 }
 
 pub(crate) fn next_span(
     windows: &[u64],
     image: &[u8],
-    registers: Registers,
-    levels: u32,
-    top: u64,
+    tables: Tables,
     end: u64,
     from: u64,
     known: &mut [u64],
 ) -> Found
-    requires { ⌜ (badWindows (now windows) (length (now image)) ≡ false) × (0 < levels) × (levels ≤ 5) × (top % 4096 ≡ 0)
+    requires { ⌜ (badWindows (now windows) (length (now image)) ≡ false) × Walkable tables
         × (end ≤ 2 ^ 57) × (end % 4096 ≡ 0) × (from % 4096 ≡ 0) × (from < 2 ^ 59)
-        × Fresh (regionsOver registers (now windows) (now image) levels top) from
-        × Sound registers (ofWindows (now windows) (now image)) (tableOutside (now windows)) (now known) ⌝ }
-    ensures { λ r. ⌜ IsNext (regionsOver registers (now (windows .entry)) (now (image .entry)) levels top) end from (nextOf r) ⌝ }
+        × Fresh (regionsOver tables (now windows) (now image)) from
+        × Sound (tables .registers) (ofWindows (now windows) (now image)) (tableOutside (now windows)) (now known) ⌝ }
+    ensures { λ r. ⌜ IsNext (regionsOver tables (now (windows .entry)) (now (image .entry))) end from (nextOf r) ⌝ }
     ensures { λ r. ⌜ (length (now (known .exit)) ≡ length (now (known .entry)))
-        × Sound registers (ofWindows (now (windows .entry)) (now (image .entry))) (tableOutside (now (windows .entry))) (now (known .exit)) ⌝ }
+        × Sound (tables .registers) (ofWindows (now (windows .entry)) (now (image .entry))) (tableOutside (now (windows .entry))) (now (known .exit)) ⌝ }
 {
     let mut at = from;
     while at < end {
-        let region = quick_region(windows, image, registers, at, levels, top, known);
+        let region = quick_region(windows, image, tables, at, known);
         let what = region.what;
         if is_listed(what) {
             return Found::At(at, region);
         }
         at = block_end(at, region.level);
-        remember_tables(windows, image, registers, from, at - 1, levels, top, known);
+        remember_tables(windows, image, tables, from, at - 1, known);
     }
     Found::None
 }

@@ -16,9 +16,14 @@ use Rattle.registers.specs.declared.Registers.{Registers}
 use Rattle.dma.specs.Walk.{down}
 use Rattle.translation.specs.Rights.{both}
 use Rattle.translation.specs.declared.Rights.{Rights}
+use Rattle.regions.specs.Answers.{onwardOf, levelAfter, LeadsTo, Walkable, atTop}
 use Rattle.regions.specs.Known.{rightsNumber, keyOf, Holds, PutIn, Remembers, Quiet, Sound, QuietAround, QuietTo}
 use Rattle.regions.specs.Region.{Region, listed, regionStep, regionIn}
-use Rattle.regions.proofs.Regions.{same-above, low-bits, led-at}
+use Rattle.regions.specs.declared.Tables.{Tables}
+use Rattle.regions.specs.declared.walk.Onward.{Onward}
+use Rattle.regions.specs.declared.walk.Onward.the-variants as onward
+use Rattle.regions.specs.declared.walk.Reached.{Reached}
+use Rattle.regions.proofs.Regions.{same-above, low-bits, led-to, led-at}
 
 pub pow-le : (i j : ℕ) → i ≤ j → 2 ^ i ≤ 2 ^ j
 pow-le i j h = by (decLe j i)
@@ -171,16 +176,37 @@ module _ (registers : Registers) (m : Memory) (outside : (table : ℕ) → Bool)
     sound-put known after table level rights page few (put .2) (quiet-table levels top from last level table rights on quiet (put .0) (put .1)) sound,
   )
 
-  -- the walk from table to table
-  pub on-first : (levels top address : ℕ) → OnWalk levels top address levels top both
-  on-first levels top address x near = refl
-
   pub on-down : (levels top address level table : ℕ) (above : Rights) {next : ℕ} {t : Rights} → 0 < level
       → OnWalk levels top address level table above → down next t ≡ regionStep registers m outside address (level - 1) table above
       → OnWalk levels top address (level - 1) next t
   on-down levels top address level table above more on told x near =
       led-at registers m outside address level table above more told x near
       ∙ on x (same-above address x (12 + 9 * (level - 1)) (12 + 9 * level) (omega arith) near)
+
+  -- the walk from table to table
+  abbrev pub Standing : Tables → (address : ℕ) → Reached → Type 0
+  Standing tables address at =
+      (0 < at .level) × (at .level ≤ 5) × (at .table % 4096 ≡ 0)
+      × OnWalk (tables .levels) (tables .top) address (at .level) (at .table) (at .rights)
+
+  pub standing-first : (tables : Tables) (address : ℕ) {at : Reached} → at ≡ atTop tables → Walkable tables → Standing tables address at
+  standing-first tables address is good = subst (Standing tables address) (sym is) (good .0, good .1, good .2, λ x near. refl)
+
+  pub standing-down : (tables : Tables) (address : ℕ) (at : Reached) {step : Onward} {next : Reached} → Standing tables address at
+      → step ≡ onward.Down next → onwardOf step ≡ regionStep registers m outside address (at .level - 1) (at .table) (at .rights)
+      → LeadsTo step (at .level - 1) → Standing tables address next × (next .level < at .level)
+  standing-down tables address at {step} {next} on is told leads =
+      let t = sym (ap onwardOf is) ∙ told in
+      let below : next .level ≡ at .level - 1 = sym (ap (λ (s : Onward). levelAfter s (at .level - 1)) is) ∙ leads in
+      let to = led-to registers m outside address (at .level - 1) (at .table) (at .rights) t in
+      let way = on-down (tables .levels) (tables .top) address (at .level) (at .table) (at .rights) (on .0) (on .3) t in
+      let stands : Standing tables address next = (
+        omega (arith, below, to .1),
+        omega (arith, below, on .1),
+        to .0,
+        subst (λ (n : ℕ). OnWalk (tables .levels) (tables .top) address n (next .table) (next .rights)) (sym below) way,
+      ) in
+      (stands, omega (arith, below, on .0))
 
   -- a known table on it
   pub known-quiet : (levels top address level table : ℕ) (above : Rights) (known : List ℕ) → OnWalk levels top address level table above

@@ -6,12 +6,15 @@ ghost use lib.Dec.{eqb, ltb};
 ghost use lib.ListN.{length, replicate, set, getD};
 ghost use Prim.Native.Nat.{ℕ, _+_, _*_, _/_, _%_, _^_, _<_, _≤_};
 ghost use Rattle.image.specs.Windows.{ofWindows, badWindows};
+ghost use Rattle.regions.specs.Answers.{Walkable};
 ghost use Rattle.regions.specs.Known.{rightsNumber, keyOf, Holds, Remembers, Sound, QuietAround, QuietTo};
 ghost use Rattle.regions.specs.Outside.{tableOutside};
+use crate::Tables;
 use crate::walk::Onward;
+use crate::walk::Reached;
+use crate::walk::at_top;
 use crate::walk::table_step;
 use image::place64;
-use registers::Registers;
 use translation::Rights;
 
 // Bit 0 read, bit 1 write.
@@ -32,11 +35,11 @@ pub fn rights_number(rights: Rights) -> u64
     0
 }
 
-fn key(table: u64, level: u32, rights: Rights) -> u64
-    requires { ⌜ (table % 4096 ≡ 0) × (level ≤ 5) ⌝ }
-    ensures { λ r. ⌜ r ≡ keyOf table level rights ⌝ }
+fn key(at: Reached) -> u64
+    requires { ⌜ (at .table % 4096 ≡ 0) × (at .level ≤ 5) ⌝ }
+    ensures { λ r. ⌜ r ≡ keyOf (at .table) (at .level) (at .rights) ⌝ }
 {
-    table + (4 * level as u64 + rights_number(rights))
+    at.table + (4 * at.level as u64 + rights_number(at.rights))
 }
 
 // Where a key stands: by its table's place in the run, so that no two whole tables share a place where there is room for all.
@@ -60,23 +63,16 @@ pub fn forget(known: &mut [u64])
 }
 
 // Whether a table is known.
-fn is_known(
-    windows: &[u64],
-    run: usize,
-    known: &[u64],
-    table: u64,
-    level: u32,
-    rights: Rights,
-) -> bool
-    requires { ⌜ (badWindows (now windows) run ≡ false) × (table % 4096 ≡ 0) × (level ≤ 5) ⌝ }
-    ensures { λ r. ⌜ (r ≡ true → Holds (now (known .entry)) (keyOf table level rights)) ⌝ }
+fn is_known(windows: &[u64], run: usize, known: &[u64], at: Reached) -> bool
+    requires { ⌜ (badWindows (now windows) run ≡ false) × (at .table % 4096 ≡ 0) × (at .level ≤ 5) ⌝ }
+    ensures { λ r. ⌜ (r ≡ true → Holds (now (known .entry)) (keyOf (at .table) (at .level) (at .rights))) ⌝ }
 {
     if known.len() == 0 {
         return false;
     }
-    let key = key(table, level, rights);
-    let at = slot(windows, run, table, key, known.len());
-    known[at] == key
+    let key = key(at);
+    let place = slot(windows, run, at.table, key, known.len());
+    known[place] == key
 }
 
 // The bytes that a table of a level spans.
@@ -88,20 +84,11 @@ pub fn table_span(level: u32) -> u64
 }
 
 // A table that lists nothing, where its span ends with an address and begins no earlier than from.
-fn remember(
-    windows: &[u64],
-    run: usize,
-    from: u64,
-    last: u64,
-    table: u64,
-    level: u32,
-    rights: Rights,
-    known: &mut [u64],
-)
-    requires { ⌜ (badWindows (now windows) run ≡ false) × (table % 4096 ≡ 0) × (level ≤ 5) × (from < 2 ^ 60) × (last < 2 ^ 60) ⌝ }
-    ensures { λ r. ⌜ Remembers (now (known .entry)) (now (known .exit)) (keyOf table level rights) from last level ⌝ }
+fn remember(windows: &[u64], run: usize, from: u64, last: u64, at: Reached, known: &mut [u64])
+    requires { ⌜ (badWindows (now windows) run ≡ false) × (at .table % 4096 ≡ 0) × (at .level ≤ 5) × (from < 2 ^ 60) × (last < 2 ^ 60) ⌝ }
+    ensures { λ r. ⌜ Remembers (now (known .entry)) (now (known .exit)) (keyOf (at .table) (at .level) (at .rights)) from last (at .level) ⌝ }
 {
-    let span = table_span(level);
+    let span = table_span(at.level);
     if (last + 1) % span != 0 {
         return;
     }
@@ -111,42 +98,33 @@ fn remember(
     if known.len() == 0 {
         return;
     }
-    let key = key(table, level, rights);
-    let at = slot(windows, run, table, key, known.len());
-    known[at] = key;
+    let key = key(at);
+    let place = slot(windows, run, at.table, key, known.len());
+    known[place] = key;
 }
 
 // The level of the highest known table on the walk of an address; 0 where there is none.
 pub fn known_level(
     windows: &[u64],
     image: &[u8],
-    registers: Registers,
+    tables: Tables,
     address: u64,
-    levels: u32,
-    top: u64,
     known: &[u64],
 ) -> u32
-    requires { ⌜ (badWindows (now windows) (length (now image)) ≡ false) × (0 < levels) × (levels ≤ 5) × (top % 4096 ≡ 0)
-        × Sound registers (ofWindows (now windows) (now image)) (tableOutside (now windows)) (now known) ⌝ }
-    ensures { λ r. ⌜ (r ≤ 5) × QuietAround registers (ofWindows (now (windows .entry)) (now (image .entry))) (tableOutside (now (windows .entry))) levels top r address ⌝ }
+    requires { ⌜ (badWindows (now windows) (length (now image)) ≡ false) × Walkable tables
+        × Sound (tables .registers) (ofWindows (now windows) (now image)) (tableOutside (now windows)) (now known) ⌝ }
+    ensures { λ r. ⌜ (r ≤ 5) × QuietAround (tables .registers) (ofWindows (now (windows .entry)) (now (image .entry))) (tableOutside (now (windows .entry))) (tables .levels) (tables .top) r address ⌝ }
 {
-    let mut level = levels;
-    let mut table = top;
-    let mut read = true;
-    let mut write = true;
-    while 0 < level {
-        let above = Rights { read, write };
-        if is_known(windows, image.len(), known, table, level, above) {
-            return level;
+    let mut at = at_top(tables);
+    while 0 < at.level {
+        if is_known(windows, image.len(), known, at) {
+            return at.level;
         }
-        let step = table_step(windows, image, registers, address, level, table, above);
-        let Onward::Down(next, r, w) = step else {
+        let step = table_step(windows, image, tables.registers, address, at);
+        let Onward::Down(next) = step else {
             return 0;
         };
-        table = next;
-        read = r;
-        write = w;
-        level -= 1;
+        at = next;
     }
     0
 }
@@ -156,34 +134,25 @@ pub fn known_level(
 pub fn remember_tables(
     windows: &[u64],
     image: &[u8],
-    registers: Registers,
+    tables: Tables,
     from: u64,
     last: u64,
-    levels: u32,
-    top: u64,
     known: &mut [u64],
 )
-    requires { ⌜ (badWindows (now windows) (length (now image)) ≡ false) × (0 < levels) × (levels ≤ 5) × (top % 4096 ≡ 0)
+    requires { ⌜ (badWindows (now windows) (length (now image)) ≡ false) × Walkable tables
         × (from < 2 ^ 60) × (last < 2 ^ 60)
-        × QuietTo registers (ofWindows (now windows) (now image)) (tableOutside (now windows)) levels top from (last + 1)
-        × Sound registers (ofWindows (now windows) (now image)) (tableOutside (now windows)) (now known) ⌝ }
+        × QuietTo (tables .registers) (ofWindows (now windows) (now image)) (tableOutside (now windows)) (tables .levels) (tables .top) from (last + 1)
+        × Sound (tables .registers) (ofWindows (now windows) (now image)) (tableOutside (now windows)) (now known) ⌝ }
     ensures { λ r. ⌜ (length (now (known .exit)) ≡ length (now (known .entry)))
-        × Sound registers (ofWindows (now (windows .entry)) (now (image .entry))) (tableOutside (now (windows .entry))) (now (known .exit)) ⌝ }
+        × Sound (tables .registers) (ofWindows (now (windows .entry)) (now (image .entry))) (tableOutside (now (windows .entry))) (now (known .exit)) ⌝ }
 {
-    let mut level = levels;
-    let mut table = top;
-    let mut read = true;
-    let mut write = true;
-    while 0 < level {
-        let above = Rights { read, write };
-        remember(windows, image.len(), from, last, table, level, above, known);
-        let step = table_step(windows, image, registers, last, level, table, above);
-        let Onward::Down(next, r, w) = step else {
+    let mut at = at_top(tables);
+    while 0 < at.level {
+        remember(windows, image.len(), from, last, at, known);
+        let step = table_step(windows, image, tables.registers, last, at);
+        let Onward::Down(next) = step else {
             return;
         };
-        table = next;
-        read = r;
-        write = w;
-        level -= 1;
+        at = next;
     }
 }

@@ -8,8 +8,17 @@ pub use known::known_level;
 pub use known::remember_tables;
 pub use known::rights_number;
 pub use known::table_span;
+use registers::Registers;
 use translation::Rights;
 pub use walk::region_at;
+
+// The page tables of a context, and the registers by which their entries are read.
+pub struct Tables {
+    pub registers: Registers,
+    pub levels: u32,
+    // The top table's address.
+    pub top: u64,
+}
 
 // What stands at an address.
 pub enum What {

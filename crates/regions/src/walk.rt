@@ -6,10 +6,11 @@ ghost use Prim.Native.Nat.{_-_, _%_, _<_, _≤_};
 ghost use Rattle.image.specs.Windows.{ofWindows, badWindows};
 ghost use Rattle.translation.specs.Completion.{page, Reachable};
 ghost use Rattle.translation.specs.Rights.{both};
-ghost use Rattle.regions.specs.Answers.{regionOf, onwardOf};
+ghost use Rattle.regions.specs.Answers.{regionOf, onwardOf, LeadsTo, Walkable, atTop};
 ghost use Rattle.regions.specs.Outside.{tableOutside};
 ghost use Rattle.regions.specs.Region.{ended, regionStep, regionIn};
 use crate::Region;
+use crate::Tables;
 use crate::What;
 use dma::meets_interrupt_range;
 use faults::Reason;
@@ -21,11 +22,17 @@ use translation::Rights;
 use translation::Step;
 use translation::entry_step;
 
+// A table that a walk has come to: its level, from 5 down to 1, its address, and the rights joined above it.
+pub struct Reached {
+    pub level: u32,
+    pub table: u64,
+    pub rights: Rights,
+}
+
 // What one level makes of the walk.
 pub enum Onward {
     Ended(Region),
-    // The next table, and the rights joined so far: read, write.
-    Down(u64, bool, bool),
+    Down(Reached),
 }
 
 // None of a table's bytes is in a window: windows begin at multiples of 4096, so the first byte tells.
@@ -58,28 +65,28 @@ fn page_region(frame: u64, level: u32, rights: Rights) -> Region
     }
 }
 
-// One level of the walk, from 5 down to 1.
+// One level of the walk.
 pub fn table_step(
     windows: &[u64],
     image: &[u8],
     registers: Registers,
     address: u64,
-    level: u32,
-    table: u64,
-    above: Rights,
+    at: Reached,
 ) -> Onward
-    requires { ⌜ (badWindows (now windows) (length (now image)) ≡ false) × (0 < level) × (level ≤ 5) × (table % 4096 ≡ 0) ⌝ }
-    ensures { λ r. ⌜ onwardOf r ≡ regionStep registers (ofWindows (now (windows .entry)) (now (image .entry))) (tableOutside (now (windows .entry))) address (level - 1) table above ⌝ }
+    requires { ⌜ (badWindows (now windows) (length (now image)) ≡ false) × (0 < at .level) × (at .level ≤ 5) × (at .table % 4096 ≡ 0) ⌝ }
+    ensures { λ r. ⌜ onwardOf r ≡ regionStep registers (ofWindows (now (windows .entry)) (now (image .entry))) (tableOutside (now (windows .entry))) address (at .level - 1) (at .table) (at .rights) ⌝ }
+    ensures { λ r. ⌜ LeadsTo r (at .level - 1) ⌝ }
 {
-    if table_outside(windows, image, table) {
+    let rights = at.rights;
+    if table_outside(windows, image, at.table) {
         return Onward::Ended(Region {
-            level: level + 1,
+            level: at.level + 1,
             what: What::Fault(Reason::PageEntryAccess),
-            rights: above,
+            rights,
         });
     }
     let first = first_span(windows);
-    let below = level - 1;
+    let below = at.level - 1;
     // FPD plays no part in a listing.
     let step = entry_step(
         first,
@@ -89,15 +96,15 @@ pub fn table_step(
         address,
         false,
         below,
-        table,
-        above,
+        at.table,
+        rights,
     );
     match step {
         Step::Page(frame, of, read, write) => {
             Onward::Ended(page_region(frame, of, Rights { read, write }))
         }
         Step::Empty => Onward::Ended(Region {
-            level,
+            level: at.level,
             what: What::Nothing,
             rights: Rights {
                 read: false,
@@ -105,53 +112,48 @@ pub fn table_step(
             },
         }),
         Step::Fault(reason, _, _) => Onward::Ended(Region {
-            level,
+            level: at.level,
             what: What::Fault(reason),
-            rights: above,
+            rights,
         }),
-        Step::Down(next, read, write) => Onward::Down(next, read, write),
+        Step::Down(table, read, write) => Onward::Down(Reached {
+            level: below,
+            table,
+            rights: Rights { read, write },
+        }),
     }
 }
 
-pub fn region_at(
-    windows: &[u64],
-    image: &[u8],
-    registers: Registers,
-    address: u64,
-    levels: u32,
-    top: u64,
-) -> Region
-    requires { ⌜ (badWindows (now windows) (length (now image)) ≡ false) × (0 < levels) × (levels ≤ 5) × (top % 4096 ≡ 0) ⌝ }
-    ensures { λ r. ⌜ regionOf r ≡ regionIn registers (ofWindows (now (windows .entry)) (now (image .entry))) (tableOutside (now (windows .entry))) address levels top both ⌝ }
+// Where a walk begins.
+pub fn at_top(tables: Tables) -> Reached
+    ensures { λ r. ⌜ r ≡ atTop tables ⌝ }
 {
-    let mut level = levels;
-    let mut table = top;
-    let mut read = true;
-    let mut write = true;
-    while 0 < level {
-        let step = table_step(
-            windows,
-            image,
-            registers,
-            address,
-            level,
-            table,
-            Rights { read, write },
-        );
-        match step {
+    Reached {
+        level: tables.levels,
+        table: tables.top,
+        rights: Rights {
+            read: true,
+            write: true,
+        },
+    }
+}
+
+pub fn region_at(windows: &[u64], image: &[u8], tables: Tables, address: u64) -> Region
+    requires { ⌜ (badWindows (now windows) (length (now image)) ≡ false) × Walkable tables ⌝ }
+    ensures { λ r. ⌜ regionOf r ≡ regionIn (tables .registers) (ofWindows (now (windows .entry)) (now (image .entry))) (tableOutside (now (windows .entry))) address (tables .levels) (tables .top) both ⌝ }
+{
+    let mut at = at_top(tables);
+    while 0 < at.level {
+        match table_step(windows, image, tables.registers, address, at) {
             Onward::Ended(region) => return region,
-            Onward::Down(next, r, w) => {
-                table = next;
-                read = r;
-                write = w;
-                level -= 1;
-            }
+            Onward::Down(next) => at = next,
         }
     }
     // No step leads below level 1.
+    let rights = at.rights;
     Region {
         level: 1,
         what: What::Fault(Reason::PageEntryAccess),
-        rights: Rights { read, write },
+        rights,
     }
 }

@@ -37,10 +37,10 @@ returns-2 c =
     let f = c .before .before .before .before in
     let e = f .before .before .before in
     let a = e .before .before .before .before .before .before .before .args in
-    let region = regionsOver (a .registers) (a .windows .now) (a .image .now) (a .context .levels) (a .context .top) in (
-      subst (λ (k : Mapped). ListedAs k (a .rows .now) (f .fill .last .1 .1 .1 .1 .1 .1 .1 .0) (told.listed (f .fill .result .count) (f .fill .result .more)))
+    let region = regionsOver (record { registers = a .registers; levels = a .context .levels; top = a .context .top }) (a .windows .now) (a .image .now) in (
+      subst (λ (k : Mapped). ListedAs k (a .rows .now) (f .fill .last .1 .1 .1 .1 .1 .0) (told.listed (f .fill .result .count) (f .fill .result .more)))
           (sym (translates (a .registers) (ofWindows (a .windows .now) (a .image .now)) (tableOutside (a .windows .now)) (a .context) (ne-eqb _ _ (e .before .if1 .left))))
-          (told-spans _ (a .rows .now) _ _ _ (subst (λ (n : ℕ). FilledWith (spansAfter region n 0) (a .rows .now) (f .fill .last .1 .1 .1 .1 .1 .1 .1 .0) (f .fill .result .count) (f .fill .result .more)) (e .space-end .ensures .0) (f .fill .ensures .0))),
+          (told-spans _ (a .rows .now) _ _ _ (subst (λ (n : ℕ). FilledWith (spansAfter region n 0) (a .rows .now) (f .fill .last .1 .1 .1 .1 .1 .0) (f .fill .result .count) (f .fill .result .more)) (e .space-end .ensures .0) (f .fill .ensures .0))),
       f .fill .ensures .1,
     )
 

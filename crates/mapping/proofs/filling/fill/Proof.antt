@@ -20,19 +20,19 @@ use Rattle.mapping.proofs.filling.fill.Statement.{statement}
 use Rattle.mapping.proofs.filling.fill.Tie as tie
 
 abbrev Inv-loop : tie.InvT-loop
-Inv-loop windows image registers levels top end known₀ rows₀ most from₀ count₀ known rows from count =
-    Done (regionsOver registers windows image levels top) end rows₀ rows count from
+Inv-loop windows image tables end known₀ rows₀ most from₀ count₀ known rows from count =
+    Done (regionsOver tables windows image) end rows₀ rows count from
     × (most ≡ room (length rows₀))
     × (count ≤ most)
     × (from % 4096 ≡ 0)
     × (from < 2 ^ 59)
-    × Fresh (regionsOver registers windows image levels top) from
+    × Fresh (regionsOver tables windows image) from
     × (length rows ≡ length rows₀)
     × (length known ≡ length known₀)
-    × Sound registers (ofWindows windows image) (tableOutside windows) known
+    × Sound (tables .registers) (ofWindows windows image) (tableOutside windows) known
 
 abbrev μ-loop : tie.MeasureT-loop
-μ-loop windows image registers levels top end known₀ rows₀ most from₀ count₀ known rows from count = most - count
+μ-loop windows image tables end known₀ rows₀ most from₀ count₀ known rows from count = most - count
 
 room-requires : tie.Need-room-requires Inv-loop μ-loop
 room-requires c κs = search needs
@@ -41,24 +41,24 @@ loop-holds : tie.Need-loop-holds Inv-loop μ-loop
 loop-holds c =
     let k = c .before .before .before .before .before in
     let a = k .args in
-    let region = regionsOver (a .registers) (a .windows .now) (a .image .now) (a .levels) (a .top) in (
+    let region = regionsOver (a .tables) (a .windows .now) (a .image .now) in (
       done-none region (a .end) (a .rows .now),
       c .room .ensures,
       omega arith,
       refl,
       omega arith,
       fresh-zero region (a .end)
-          (λ x y. same-region (a .registers) (ofWindows (a .windows .now) (a .image .now)) (tableOutside (a .windows .now)) x y (a .levels) (a .top) both),
+          (λ x y. same-region (a .tables .registers) (ofWindows (a .windows .now) (a .image .now)) (tableOutside (a .windows .now)) x y (a .tables .levels) (a .tables .top) both),
       refl,
       refl,
-      k .pre .6,
+      k .pre .4,
     )
 
 next-span-requires : tie.Need-next-span-requires Inv-loop μ-loop
 next-span-requires c κs =
     let l = c .before .loop in
     let pre = c .before .before .before .before .before .before .before .pre in
-    (pre .0, pre .1, pre .2, pre .3, pre .4, pre .5, l .inv .3, l .inv .4, l .inv .5, l .inv .8)
+    (pre .0, pre .1, pre .2, pre .3, l .inv .3, l .inv .4, l .inv .5, l .inv .8)
 
 enum-known-found : tie.Need-enum-known-found Inv-loop μ-loop
 enum-known-found c = search needs
@@ -77,7 +77,7 @@ returns c =
     let n = c .before .before .before .before in
     let l = n .before .before .loop in
     let a = n .before .before .before .before .before .before .before .before .args in
-    let region = regionsOver (a .registers) (a .windows .now) (a .image .now) (a .levels) (a .top) in (
+    let region = regionsOver (a .tables) (a .windows .now) (a .image .now) in (
       done-all region (a .end) (a .rows .now) (l .inv .0)
           (subst (λ t. IsNext region (a .end) (l .from) (nextOf t)) (c .enum-told .given .1) (n .next-span .ensures .0))
           (omega (arith, l .inv .1, l .inv .2)),
@@ -86,13 +86,13 @@ returns c =
 
 -- the span that was found
 first : (c : tie.After-found Inv-loop μ-loop)
-    → FirstSpan (regionsOver (c .before .before .before .before .before .before .before .before .before .before .before .before .args .registers) (c .before .before .before .before .before .before .before .before .before .before .before .before .args .windows .now) (c .before .before .before .before .before .before .before .before .before .before .before .before .args .image .now) (c .before .before .before .before .before .before .before .before .before .before .before .before .args .levels) (c .before .before .before .before .before .before .before .before .before .before .before .before .args .top)) (c .before .before .before .before .before .before .before .before .before .before .before .before .args .end)
+    → FirstSpan (regionsOver (c .before .before .before .before .before .before .before .before .before .before .before .before .args .tables) (c .before .before .before .before .before .before .before .before .before .before .before .before .args .windows .now) (c .before .before .before .before .before .before .before .before .before .before .before .before .args .image .now)) (c .before .before .before .before .before .before .before .before .before .before .before .before .args .end)
     (c .before .before .before .before .before .before .loop .from) (c .found .given .0 .0) (regionOf (c .found .given .0 .1 .0))
 first c =
     let n = c .before .before .before .before in
     let l = n .before .before .loop in
     let a = n .before .before .before .before .before .before .before .before .args in
-    subst (λ t. IsNext (regionsOver (a .registers) (a .windows .now) (a .image .now) (a .levels) (a .top)) (a .end) (l .from) (nextOf t)) (c .found .given .1) (n .next-span .ensures .0)
+    subst (λ t. IsNext (regionsOver (a .tables) (a .windows .now) (a .image .now)) (a .end) (l .from) (nextOf t)) (c .found .given .1) (n .next-span .ensures .0)
 
 same-length-3 : tie.Need-same-length-3 Inv-loop μ-loop
 same-length-3 c = let n = c .before .before .before .before .before .before in n .next-span .ensures .1 .0 ∙ n .before .before .loop .inv .7
@@ -106,7 +106,7 @@ returns-2 c =
     let n = f .before .before .before .before in
     let l = n .before .before .loop in
     let a = n .before .before .before .before .before .before .before .before .args in (
-      done-full (regionsOver (a .registers) (a .windows .now) (a .image .now) (a .levels) (a .top)) (a .end) (a .rows .now) (l .inv .0) (first f) (omega (arith, l .inv .1, l .inv .2, c .if1 .taken)),
+      done-full (regionsOver (a .tables) (a .windows .now) (a .image .now)) (a .end) (a .rows .now) (l .inv .0) (first f) (omega (arith, l .inv .1, l .inv .2, c .if1 .taken)),
       n .next-span .ensures .1 .0 ∙ l .inv .7,
     )
 
@@ -125,7 +125,7 @@ table-span-requires c κs = omega (arith, first (c .before .before .before .befo
 add-from : tie.Need-add-from Inv-loop μ-loop
 add-from c =
     let f = c .before .before .before .before .before .before .before .before in
-    omega (arith, first f .below, f .before .before .before .before .before .before .before .before .before .before .before .before .pre .4, c .table-span .ensures .2)
+    omega (arith, first f .below, f .before .before .before .before .before .before .before .before .before .before .before .before .pre .2, c .table-span .ensures .2)
 
 add-count : tie.Need-add-count Inv-loop μ-loop
 add-count c =
@@ -145,7 +145,7 @@ loop-again c =
     let l = n .before .before .loop in
     let k = n .before .before .before .before .before .before .before .before in
     let a = k .args in
-    let region = regionsOver (a .registers) (a .windows .now) (a .image .now) (a .levels) (a .top) in
+    let region = regionsOver (a .tables) (a .windows .now) (a .image .now) in
     let span = sym (c .table-span .ensures .0) in
     let start = f .found .given .0 .0 in
     let fits : 4 * l .count + 4 ≤ length (a .rows .now) = omega (arith, l .inv .1, p .before .before .if1 .left) in (
@@ -154,7 +154,7 @@ loop-again c =
       l .inv .1,
       omega (arith, p .before .before .if1 .left),
       subst (λ (s : ℕ). (start + s) % 4096 ≡ 0) span (first f .page),
-      omega (arith, first f .below, k .pre .4, c .table-span .ensures .2),
+      omega (arith, first f .below, k .pre .2, c .table-span .ensures .2),
       subst (λ (s : ℕ). Fresh region (start + s)) span (first f .fresh),
       put-length (l .rows) (p .put-span .last .0) (4 * l .count) (spanOf (a .end) start (regionOf (f .found .given .0 .1 .0))) (p .put-span .ensures) (omega (arith, fits, l .inv .6)) ∙ l .inv .6,
       n .next-span .ensures .1 .0 ∙ l .inv .7,

@@ -17,27 +17,27 @@ use Rattle.mapping.proofs.search.next_span.Statement.{statement}
 use Rattle.mapping.proofs.search.next_span.Tie as tie
 
 abbrev Inv-loop : tie.InvT-loop
-Inv-loop windows image registers levels top end from known₀ at₀ known at =
+Inv-loop windows image tables end from known₀ at₀ known at =
     (from ≤ at)
     × (at % 4096 ≡ 0)
     × (at < 2 ^ 59)
-    × QuietFrom (regionsOver registers windows image levels top) end from at
-    × Fresh (regionsOver registers windows image levels top) at
+    × QuietFrom (regionsOver tables windows image) end from at
+    × Fresh (regionsOver tables windows image) at
     × (length known ≡ length known₀)
-    × Sound registers (ofWindows windows image) (tableOutside windows) known
+    × Sound (tables .registers) (ofWindows windows image) (tableOutside windows) known
 
 abbrev μ-loop : tie.MeasureT-loop
-μ-loop windows image registers levels top end from known₀ at₀ known at = end - at
+μ-loop windows image tables end from known₀ at₀ known at = end - at
 
 loop-holds : tie.Need-loop-holds Inv-loop μ-loop
 loop-holds c =
     let pre = c .before .before .before .pre in
-    (omega arith, pre .6, pre .7, λ x low high. absurd (omega arith), pre .8, refl, pre .9)
+    (omega arith, pre .4, pre .5, λ x low high. absurd (omega arith), pre .6, refl, pre .7)
 
 quick-region-requires : tie.Need-quick-region-requires Inv-loop μ-loop
 quick-region-requires c κs =
     let pre = c .before .before .before .before .before .before .pre in
-    (pre .0, pre .1, pre .2, pre .3, c .before .before .loop .inv .6)
+    (pre .0, pre .1, c .before .before .loop .inv .6)
 
 is-listed-requires : tie.Need-is-listed-requires Inv-loop μ-loop
 is-listed-requires c κs = search needs
@@ -51,9 +51,9 @@ returns c =
     let l = q .before .before .before .loop in
     let k = q .before .before .before .before .before .before .before in
     let a = k .args in (
-      found (regionsOver (a .registers) (a .windows .now) (a .image .now) (a .levels) (a .top)) (a .end)
-          (λ x y. same-region (a .registers) (ofWindows (a .windows .now) (a .image .now)) (tableOutside (a .windows .now)) x y (a .levels) (a .top) both)
-          (a .from) (l .at) (regionOf (q .quick-region .result)) (k .pre .6) (l .inv .1) (k .pre .5) (l .inv .0) (q .before .before .loop-test .taken) (l .inv .3) (l .inv .4)
+      found (regionsOver (a .tables) (a .windows .now) (a .image .now)) (a .end)
+          (λ x y. same-region (a .tables .registers) (ofWindows (a .windows .now) (a .image .now)) (tableOutside (a .windows .now)) x y (a .tables .levels) (a .tables .top) both)
+          (a .from) (l .at) (regionOf (q .quick-region .result)) (k .pre .4) (l .inv .1) (k .pre .3) (l .inv .0) (q .before .before .loop-test .taken) (l .inv .3) (l .inv .4)
           (q .quick-region .ensures) (sym (c .before .is-listed .ensures) ∙ c .if1 .taken),
       (l .inv .5, l .inv .6),
     )
@@ -61,7 +61,7 @@ returns c =
 block-end-requires : tie.Need-block-end-requires Inv-loop μ-loop
 block-end-requires c κs =
     let q = c .before .before in
-    (omega (arith, q .before .before .loop-test .taken, q .before .before .before .before .before .before .before .pre .4), q .quick-region .ensures .high .0, q .quick-region .ensures .high .1)
+    (omega (arith, q .before .before .loop-test .taken, q .before .before .before .before .before .before .before .pre .2), q .quick-region .ensures .high .0, q .quick-region .ensures .high .1)
 
 -- the end of a block lies behind its addresses
 more : (c : tie.After-block-end Inv-loop μ-loop) → c .before .before .before .before .before .before .loop .at < c .block-end .result
@@ -70,14 +70,14 @@ more c = block-more (12 + 9 * (c .before .before .before .quick-region .result .
 -- nothing is listed up to there
 quiet : (c : tie.After-block-end Inv-loop μ-loop)
     → QuietFrom
-    (regionsOver (c .before .before .before .before .before .before .before .before .before .before .args .registers) (c .before .before .before .before .before .before .before .before .before .before .args .windows .now) (c .before .before .before .before .before .before .before .before .before .before .args .image .now) (c .before .before .before .before .before .before .before .before .before .before .args .levels) (c .before .before .before .before .before .before .before .before .before .before .args .top))
+    (regionsOver (c .before .before .before .before .before .before .before .before .before .before .args .tables) (c .before .before .before .before .before .before .before .before .before .before .args .windows .now) (c .before .before .before .before .before .before .before .before .before .before .args .image .now))
     (c .before .before .before .before .before .before .before .before .before .before .args .end) (c .before .before .before .before .before .before .before .before .before .before .args .from) (c .block-end .result)
 quiet c =
     let q = c .before .before .before in
     let l = q .before .before .before .loop in
     let a = q .before .before .before .before .before .before .before .args in
-    quiet-on (regionsOver (a .registers) (a .windows .now) (a .image .now) (a .levels) (a .top)) (a .end)
-    (λ x y. same-region (a .registers) (ofWindows (a .windows .now) (a .image .now)) (tableOutside (a .windows .now)) x y (a .levels) (a .top) both)
+    quiet-on (regionsOver (a .tables) (a .windows .now) (a .image .now)) (a .end)
+    (λ x y. same-region (a .tables .registers) (ofWindows (a .windows .now) (a .image .now)) (tableOutside (a .windows .now)) x y (a .tables .levels) (a .tables .top) both)
     (a .from) (l .at) (c .block-end .result) (regionOf (q .quick-region .result)) (q .quick-region .ensures)
     (sym (c .before .before .is-listed .ensures) ∙ c .before .if1 .left) (c .block-end .ensures .0) (l .inv .3)
 
@@ -94,10 +94,8 @@ remember-tables-requires c κs =
     let pre = k .pre in (
       pre .0,
       pre .1,
-      pre .2,
-      pre .3,
-      omega (arith, pre .7),
-      omega (arith, b .block-end .ensures .1, q .before .before .loop-test .taken, pre .4),
+      omega (arith, pre .5),
+      omega (arith, b .block-end .ensures .1, q .before .before .loop-test .taken, pre .2),
       λ x low high. quiet b x low (omega (arith, high, more b)),
       l .inv .6,
     )
@@ -116,10 +114,10 @@ loop-again c =
     let width = 12 + 9 * (q .quick-region .result .level - 1) in (
       omega (arith, l .inv .0, more b),
       block-page width (l .at) (b .block-end .ensures .0) (omega arith) (l .inv .1),
-      omega (arith, b .block-end .ensures .1, q .before .before .loop-test .taken, k .pre .4),
+      omega (arith, b .block-end .ensures .1, q .before .before .loop-test .taken, k .pre .2),
       quiet b,
-      fresh-on (regionsOver (a .registers) (a .windows .now) (a .image .now) (a .levels) (a .top)) (a .end)
-          (λ x y. same-region (a .registers) (ofWindows (a .windows .now) (a .image .now)) (tableOutside (a .windows .now)) x y (a .levels) (a .top) both)
+      fresh-on (regionsOver (a .tables) (a .windows .now) (a .image .now)) (a .end)
+          (λ x y. same-region (a .tables .registers) (ofWindows (a .windows .now) (a .image .now)) (tableOutside (a .windows .now)) x y (a .tables .levels) (a .tables .top) both)
           (a .from) (l .at) (b .block-end .result) (l .inv .0) (more b) (quiet b),
       r .remember-tables .ensures .0 ∙ l .inv .5,
       r .remember-tables .ensures .1,
@@ -133,9 +131,9 @@ returns-2 c =
     let l = c .before .loop in
     let k = c .before .before .before .before .before in
     let a = k .args in (
-      none-left (regionsOver (a .registers) (a .windows .now) (a .image .now) (a .levels) (a .top)) (a .end)
-          (λ x y. same-region (a .registers) (ofWindows (a .windows .now) (a .image .now)) (tableOutside (a .windows .now)) x y (a .levels) (a .top) both)
-          (a .from) (l .at) (k .pre .6) (l .inv .1) (l .inv .0) (l .inv .3) (c .loop-test .left),
+      none-left (regionsOver (a .tables) (a .windows .now) (a .image .now)) (a .end)
+          (λ x y. same-region (a .tables .registers) (ofWindows (a .windows .now) (a .image .now)) (tableOutside (a .windows .now)) x y (a .tables .levels) (a .tables .top) both)
+          (a .from) (l .at) (k .pre .4) (l .inv .1) (l .inv .0) (l .inv .3) (c .loop-test .left),
       (l .inv .5, l .inv .6),
     )
 

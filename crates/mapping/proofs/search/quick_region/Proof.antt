@@ -9,34 +9,25 @@ use borrow.Author.Needs.{needs}
 use Rattle.mapping.proofs.search.quick_region.Statement.{statement}
 use Rattle.mapping.proofs.search.quick_region.Tie as tie
 
-known-level-requires : tie.Need-known-level-requires
-known-level-requires c κs = search needs
-
-add-t10 : tie.Need-add-t10
-add-t10 c = search needs
-
 returns : tie.Need-returns
 returns c =
     let k = c .before .before .before .before .before in
     let a = k .args in
     let told = c .before .known-level .ensures in
-    tells-known (regionsOver (a .registers) (a .windows .now) (a .image .now) (a .levels) (a .top)) 0
-    (λ x y. same-region (a .registers) (ofWindows (a .windows .now) (a .image .now)) (tableOutside (a .windows .now)) x y (a .levels) (a .top) both)
+    tells-known (regionsOver (a .tables) (a .windows .now) (a .image .now)) 0
+    (λ x y. same-region (a .tables .registers) (ofWindows (a .windows .now) (a .image .now)) (tableOutside (a .windows .now)) x y (a .tables .levels) (a .tables .top) both)
     (a .address) (c .before .known-level .result) neither (c .if1 .taken) (told .0) (told .1 (c .if1 .taken))
-
-region-at-requires : tie.Need-region-at-requires
-region-at-requires c κs = search needs
 
 returns-2 : tie.Need-returns-2
 returns-2 c =
     let k = c .before .before .before .before .before .before in
     let a = k .args in
-    tells-region (regionsOver (a .registers) (a .windows .now) (a .image .now) (a .levels) (a .top)) 0
-    (λ x y. same-region (a .registers) (ofWindows (a .windows .now) (a .image .now)) (tableOutside (a .windows .now)) x y (a .levels) (a .top) both)
-    (a .address) (a .levels) (regionOf (c .region-at .result)) (k .pre .2)
-    (within (a .registers) (ofWindows (a .windows .now) (a .image .now)) (tableOutside (a .windows .now)) (a .address) (a .levels) (a .top) both)
+    tells-region (regionsOver (a .tables) (a .windows .now) (a .image .now)) 0
+    (λ x y. same-region (a .tables .registers) (ofWindows (a .windows .now) (a .image .now)) (tableOutside (a .windows .now)) x y (a .tables .levels) (a .tables .top) both)
+    (a .address) (a .tables .levels) (regionOf (c .region-at .result)) (k .pre .1 .1)
+    (within (a .tables .registers) (ofWindows (a .windows .now) (a .image .now)) (tableOutside (a .windows .now)) (a .address) (a .tables .levels) (a .tables .top) both)
     (c .region-at .ensures)
 
 pub quick-region-spec : {M : Type 1} → statement M
 quick-region-spec =
-    tie.close (tie.spec known-level-requires add-t10 returns region-at-requires returns-2)
+    tie.close (tie.spec (λ c κs. search needs) (λ c. search needs) returns (λ c κs. search needs) returns-2)

@@ -1,75 +1,73 @@
-use Prim.Native.Nat.{_-_, _%_, _<_, _≤_}
+use Prim.Native.Nat.{_<_}
 use mathlib.Core.Bool.{false}
 use mathlib.Core.Path.{_≡_, refl, ap, sym, _∙_}
 use native.Mathlib.Omega.{arith}
 use lib.ListN.{length}
 use borrow.Author.Needs.{needs}
 use Rattle.image.specs.Windows.{ofWindows, badWindows}
-use Rattle.translation.specs.Rights.{both}
 use Rattle.regions.specs.Answers.{onwardOf}
 use Rattle.regions.specs.Outside.{tableOutside}
-use Rattle.regions.specs.Region.{regionIn}
-use Rattle.regions.proofs.Regions.{led-to, led-at, ended-at}
+use Rattle.regions.specs.declared.walk.Reached.{Reached}
+use Rattle.regions.proofs.KnownTables.{Standing, standing-first, standing-down}
+use Rattle.regions.proofs.Regions.{ended-at}
 use Rattle.regions.proofs.walk.region_at.Statement.{statement}
 use Rattle.regions.proofs.walk.region_at.Tie as tie
 
 abbrev Inv-loop : tie.InvT-loop
-Inv-loop windows image registers address levels top level₀ table₀ read₀ write₀ level table read write =
-    (badWindows windows (length image) ≡ false)
-    × (0 < level)
-    × (level ≤ 5)
-    × (table % 4096 ≡ 0)
-    × (regionIn registers (ofWindows windows image) (tableOutside windows) address level table (record { read = read; write = write })
-    ≡ regionIn registers (ofWindows windows image) (tableOutside windows) address levels top both)
+Inv-loop windows image tables address at₀ reached =
+    Standing (tables .registers) (ofWindows windows image) (tableOutside windows) tables address reached
+    × (badWindows windows (length image) ≡ false)
 
 abbrev μ-loop : tie.MeasureT-loop
-μ-loop windows image registers address levels top level₀ table₀ read₀ write₀ level table read write = level
+μ-loop windows image tables address at₀ reached = reached .level
 
 loop-holds : tie.Need-loop-holds Inv-loop μ-loop
-loop-holds c = let pre = c .before .before .pre in (pre .0, pre .1, pre .2, pre .3, refl)
+loop-holds c =
+    let k = c .before .before .before in
+    let a = k .args in
+    (standing-first (a .tables .registers) (ofWindows (a .windows .now) (a .image .now)) (tableOutside (a .windows .now)) (a .tables) (a .address) (c .at-top .ensures) (k .pre .1), k .pre .0)
+
+abbrev start : tie.At-loop Inv-loop μ-loop → tie.Start Inv-loop μ-loop
+start c = c .before .before .before .before
 
 table-step-requires : tie.Need-table-step-requires Inv-loop μ-loop
-table-step-requires c κs = let l = c .before .loop in (l .inv .0, l .inv .1, l .inv .2, l .inv .3)
-
-enum-known-step : tie.Need-enum-known-step Inv-loop μ-loop
-enum-known-step c = search needs
+table-step-requires c κs = let l = c .before .before .loop in (l .inv .1, l .inv .0 .0, l .inv .0 .1, l .inv .0 .2)
 
 returns : tie.Need-returns Inv-loop μ-loop
 returns c =
     let k = c .before .before .before in
-    let a = k .before .before .before .before .before .args in
-    let l = k .before .before .loop in
-    let told = sym (ap onwardOf (c .before .step .given .1)) ∙ k .table-step .ensures in
-    ended-at (a .registers) (ofWindows (a .windows .now) (a .image .now)) (tableOutside (a .windows .now)) (a .address) (l .level) (l .table) (record { read = l .read; write = l .write }) (l .inv .1) told
-    ∙ l .inv .4
+    let l = k .before .before .before in
+    let a = start l .args in
+    let t = l .loop .at in
+    ended-at (a .tables .registers) (ofWindows (a .windows .now) (a .image .now)) (tableOutside (a .windows .now)) (a .address) (t .level) (t .table) (t .rights) (l .loop .inv .0 .0)
+    (sym (ap onwardOf (c .before .region .given .1)) ∙ k .table-step .ensures .0)
+    ∙ l .loop .inv .0 .3 (a .address) refl
 
-enum-known-step-2 : tie.Need-enum-known-step-2 Inv-loop μ-loop
-enum-known-step-2 c = search needs
+abbrev loop-of : tie.After-known-told2 Inv-loop μ-loop → tie.At-loop Inv-loop μ-loop
+loop-of c = c .before .before .before .before .before .before
 
-sub-level : tie.Need-sub-level Inv-loop μ-loop
-sub-level c = search needs
+abbrev Stands : tie.Start Inv-loop μ-loop → Reached → Type 0
+Stands s = Standing (s .args .tables .registers) (ofWindows (s .args .windows .now) (s .args .image .now)) (tableOutside (s .args .windows .now)) (s .args .tables) (s .args .address)
+
+down : (c : tie.After-known-told2 Inv-loop μ-loop)
+    → Stands (start (loop-of c)) (c .before .next .given .0 .0) × (c .before .next .given .0 .0 .level < loop-of c .loop .at .level)
+down c =
+    let k = c .before .before .before in
+    let l = loop-of c in
+    let a = start l .args in
+    standing-down (a .tables .registers) (ofWindows (a .windows .now) (a .image .now)) (tableOutside (a .windows .now)) (a .tables) (a .address) (l .loop .at) (l .loop .inv .0)
+    (c .before .next .given .1) (k .table-step .ensures .0) (k .table-step .ensures .1)
 
 loop-less : tie.Need-loop-less Inv-loop μ-loop
-loop-less c = search needs
+loop-less c = down c .1
 
 loop-again : tie.Need-loop-again Inv-loop μ-loop
-loop-again c =
-    let k = c .before .before .before in
-    let a = k .before .before .before .before .before .args in
-    let l = k .before .before .loop in
-    let told = sym (ap onwardOf (c .before .step2 .given .1)) ∙ k .table-step .ensures in
-    let next = led-to (a .registers) (ofWindows (a .windows .now) (a .image .now)) (tableOutside (a .windows .now)) (a .address) (l .level - 1) (l .table) (record { read = l .read; write = l .write }) told in (
-      l .inv .0,
-      next .1,
-      omega (arith, l .inv .2),
-      next .0,
-      led-at (a .registers) (ofWindows (a .windows .now) (a .image .now)) (tableOutside (a .windows .now)) (a .address) (l .level) (l .table) (record { read = l .read; write = l .write }) (l .inv .1) told
-          (a .address) refl
-          ∙ l .inv .4,
-    )
+loop-again c = (down c .0, loop-of c .loop .inv .1)
 
 returns-2 : tie.Need-returns-2 Inv-loop μ-loop
-returns-2 c = absurd (omega (arith, c .before .loop .inv .1, c .loop-test .left))
+returns-2 c =
+    let e = c .before in
+    absurd (omega (arith, e .before .before .loop .inv .0 .0, e .if1 .left))
 
 pub region-at-spec : {M : Type 1} → statement M
 region-at-spec =
@@ -77,12 +75,12 @@ region-at-spec =
     (tie.spec
     Inv-loop
     μ-loop
+    (λ c κs. search needs)
     loop-holds
     table-step-requires
-    enum-known-step
+    (λ c. search needs)
     returns
-    enum-known-step-2
-    sub-level
+    (λ c. search needs)
     loop-less
     loop-again
     returns-2)

@@ -1,6 +1,6 @@
 use Prim.Native.Nat.{_-_}
 use mathlib.Core.Bool.{false}
-use mathlib.Core.Path.{_≡_, ap, sym, _∙_}
+use mathlib.Core.Path.{_≡_, refl, ap, sym, _∙_}
 use lib.ListN.{length}
 use borrow.Author.Needs.{needs}
 use Rattle.image.specs.Windows.{ofWindows}
@@ -16,63 +16,70 @@ use Rattle.regions.proofs.walk.table_step.Tie as tie
 
 returns : tie.Need-returns
 returns c =
-    let k = c .before .before .before .before in
-    let a = k .args in
-    step-outside (a .registers) (ofWindows (a .windows .now) (a .image .now)) (tableOutside (a .windows .now)) (a .address) (a .level) (a .table) (a .above) (k .pre .1)
-    (sym (c .before .table-outside .ensures) ∙ c .if1 .taken)
+    let t = c .before in
+    let k = t .before .before .before .before .before in
+    let a = k .args in (
+      step-outside (a .registers) (ofWindows (a .windows .now) (a .image .now)) (tableOutside (a .windows .now)) (a .address) (a .at .level) (a .at .table) (a .at .rights) (k .pre .1)
+          (sym (t .before .table-outside .ensures) ∙ t .if1 .taken),
+      refl,
+    )
 
 first-span-requires : tie.Need-first-span-requires
 first-span-requires c κs =
-    let s = c .before .before .before .before in
+    let s = c .before .before .before .before .before in
     three-each (s .args .windows .now) (length (s .args .image .now)) (s .pre .0) .1
 
 abbrev start : tie.After-entry-step → tie.Start
-start c = c .before .before .before .before .before .before
+start c = c .before .before .before .before .before .before .before .before
 
 page-region-requires : tie.Need-page-region-requires
 page-region-requires c κs =
     let k = c .before .before .before in
     let a = start k .args in
-    page-reached (a .registers) (a .address) (ofWindows (a .windows .now) (a .image .now)) (a .level - 1) (a .table) (a .above)
+    page-reached (a .registers) (a .address) (ofWindows (a .windows .now) (a .image .now)) (a .at .level - 1) (a .at .table) (a .at .rights)
     (sym (ap stepOf (c .before .step .given .1)) ∙ k .entry-step .ensures .0) .0
 
-inside : (c : tie.After-entry-step) → tableOutside (start c .args .windows .now) (start c .args .table) ≡ false
-inside c = sym (c .before .before .before .table-outside .ensures) ∙ c .before .before .if1 .left
+inside : (c : tie.After-entry-step) → tableOutside (start c .args .windows .now) (start c .args .at .table) ≡ false
+inside c = sym (c .before .before .before .before .table-outside .ensures) ∙ c .before .before .before .if1 .left
 
 -- a level that ends the walk
 ends : (c : tie.After-entry-step) {k : Completion}
     → done k
     ≡ entryOver (start c .args .registers) (start c .args .address) false (ofWindows (start c .args .windows .now) (start c .args .image .now))
-    (start c .args .level - 1) (start c .args .table) (start c .args .above)
-    → done (ended (start c .args .level) (start c .args .above) k)
+    (start c .args .at .level - 1) (start c .args .at .table) (start c .args .at .rights)
+    → done (ended (start c .args .at .level) (start c .args .at .rights) k)
     ≡ regionStep (start c .args .registers) (ofWindows (start c .args .windows .now) (start c .args .image .now))
-    (tableOutside (start c .args .windows .now)) (start c .args .address) (start c .args .level - 1) (start c .args .table) (start c .args .above)
+    (tableOutside (start c .args .windows .now)) (start c .args .address) (start c .args .at .level - 1) (start c .args .at .table) (start c .args .at .rights)
 ends c told =
     let a = start c .args in
-    step-done (a .registers) (ofWindows (a .windows .now) (a .image .now)) (tableOutside (a .windows .now)) (a .address) (a .level) (a .table) (a .above) (start c .pre .1)
+    step-done (a .registers) (ofWindows (a .windows .now) (a .image .now)) (tableOutside (a .windows .now)) (a .address) (a .at .level) (a .at .table) (a .at .rights) (start c .pre .1)
     (inside c) told
 
 returns-2 : tie.Need-returns-2
 returns-2 c =
     let k = c .before .before .before .before in
-    let a = start k .args in
-    step-page (a .registers) (ofWindows (a .windows .now) (a .image .now)) (tableOutside (a .windows .now)) (a .address) (a .level) (a .table) (a .above) (start k .pre .1)
-    (inside k) (sym (ap stepOf (c .before .before .step .given .1)) ∙ k .entry-step .ensures .0) (c .page-region .ensures (a .above))
+    let a = start k .args in (
+      step-page (a .registers) (ofWindows (a .windows .now) (a .image .now)) (tableOutside (a .windows .now)) (a .address) (a .at .level) (a .at .table) (a .at .rights) (start k .pre .1)
+          (inside k) (sym (ap stepOf (c .before .before .step .given .1)) ∙ k .entry-step .ensures .0) (c .page-region .ensures (a .at .rights)),
+      refl,
+    )
 
 returns-3 : tie.Need-returns-3
-returns-3 c = ends (c .before .before) (sym (ap stepOf (c .enum-told .given .1)) ∙ c .before .before .entry-step .ensures .0)
+returns-3 c = (ends (c .before .before) (sym (ap stepOf (c .enum-told .given .1)) ∙ c .before .before .entry-step .ensures .0), refl)
 
 returns-4 : tie.Need-returns-4
 returns-4 c =
     let k = c .before .before .before in
-    ends k (sym (ap stepOf (c .before .step2 .given .1)) ∙ k .entry-step .ensures .0)
+    (ends k (sym (ap stepOf (c .before .step2 .given .1)) ∙ k .entry-step .ensures .0), refl)
 
 returns-5 : tie.Need-returns-5
 returns-5 c =
     let k = c .before .before .before in
-    let a = start k .args in
-    step-down (a .registers) (ofWindows (a .windows .now) (a .image .now)) (tableOutside (a .windows .now)) (a .address) (a .level) (a .table) (a .above) (start k .pre .1)
-    (inside k) (sym (ap stepOf (c .before .step3 .given .1)) ∙ k .entry-step .ensures .0)
+    let a = start k .args in (
+      step-down (a .registers) (ofWindows (a .windows .now) (a .image .now)) (tableOutside (a .windows .now)) (a .address) (a .at .level) (a .at .table) (a .at .rights) (start k .pre .1)
+          (inside k) (sym (ap stepOf (c .before .step3 .given .1)) ∙ k .entry-step .ensures .0),
+      refl,
+    )
 
 pub table-step-spec : {M : Type 1} → statement M
 table-step-spec =
