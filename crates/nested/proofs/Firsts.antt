@@ -16,10 +16,11 @@ use Rattle.pasid.specs.declared.ScalableRegisters.{ScalableRegisters}
 use Rattle.pasid.specs.declared.table.PasidEntry.{PasidEntry}
 use Rattle.flags.specs.Flags.{flag}
 use Rattle.first.specs.First.{FirstStep, down as downTo, page, fault as stop, onFirst, firstFlags, firstReserved, flagClear, notSnooped, userDenied, writeDenied, firstFrame, firstStep}
-use Rattle.nested.specs.Pages.{Pages, reached, fault, Handed, handed, entryFlags, unfetched, locate, walkStep, firstRules, entryOver}
+use Rattle.nested.specs.Pages.{Pages, reached, fault, Handed, handed, entryFlags, unfetched, locate, walkStep, firstRules}
 use Rattle.nested.specs.Way.{Located, located, lost}
 use Rattle.image.specs.EntryKind.{firstLevelEntry}
 use Rattle.nested.specs.Answers.{LevelGrows}
+use Rattle.nested.specs.Stages.{entryOver}
 use Rattle.nested.specs.declared.level.Level.{Level}
 use Rattle.nested.specs.declared.level.Level.the-variants as level
 use Rattle.nested.proofs.Nested.{no-entry}

@@ -16,7 +16,8 @@ use Rattle.dma.specs.Walk.{Step, done, down, onStep, placeIn}
 use Rattle.pasid.specs.declared.ScalableRegisters.{ScalableRegisters}
 use Rattle.pasid.specs.declared.table.PasidEntry.{PasidEntry}
 use Rattle.second.specs.Second.{Walked, page, fault as noPage}
-use Rattle.nested.specs.Pages.{Pages, reached, fault, Handed, handed, wantedOfPage, toEntry, toPage, placeAt, wantedAt, intermediateRules, locate, pageRules, firstRules, kindRules, restRules}
+use Rattle.nested.specs.Pages.{Pages, reached, fault, Handed, handed, wantedOfPage, toEntry, toPage, intermediateRules, locate, pageRules, firstRules}
+use Rattle.nested.specs.Stages.{placeAt, wantedAt, kindRules, restRules}
 use Rattle.nested.specs.Then.{thenRules}
 use Rattle.nested.specs.Way.{lost}
 use Rattle.nested.proofs.Firsts.{levelOver, levelTried, not-last, ended, led, ended-at, led-at, stopped, stopped-at}

@@ -5,8 +5,9 @@ use mathlib.Core.Path.{_≡_, refl, ap, sym, _∙_, subst}
 use Rattle.image.specs.Memory.{Memory}
 use Rattle.image.specs.Place.{Place, entryAt, lastTried}
 use Rattle.image.specs.Rules.{Rules, answer, run}
-use Rattle.nested.specs.Answers.{pagesOf, PagesNames, stageRules, turnRules, TurnLast, TurnFits, TurnTells}
+use Rattle.nested.specs.Answers.{pagesOf, PagesNames}
 use Rattle.nested.specs.Pages.{Pages, Reachable}
+use Rattle.nested.specs.Stages.{stageRules, TurnTells, turnRules, TurnLast, TurnFits}
 use Rattle.nested.specs.declared.Pages.{Pages as PagesCode}
 use Rattle.nested.specs.declared.Pages.the-variants as pages
 use Rattle.nested.specs.declared.stage.Stage.{Stage}

@@ -1,4 +1,5 @@
 pub mod Answers
 pub mod Pages
+pub mod Stages
 pub mod Then
 pub mod Way

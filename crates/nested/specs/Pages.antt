@@ -1,17 +1,16 @@
 -- First-level and nested translation (document 003, 3.6 and 3.8). Both walk the first level's tables. In a nested translation the addresses of
 -- its entries, and that of its page, are intermediate ones, which the second level translates.
-use Prim.Native.Nat.{ℕ, _-_, _%_, _^_, _<_, _≤_}
+use Prim.Native.Nat.{ℕ, _%_, _^_, _<_, _≤_}
 use mathlib.Core.Bool.{Bool, true, false, not}
 use mathlib.Core.List.{List, [], _++_, map}
 use mathlib.Core.Path.{_≡_}
 use lib.Dec.{eqb}
 use Rattle.image.specs.Choice.{if_then_else_}
 use Rattle.image.specs.EntryKind.{firstLevelEntry}
-use Rattle.image.specs.Memory.{Memory, entry, onFetch}
 use Rattle.image.specs.Rules.{Rules, answer, mapRules}
 use Rattle.dma.specs.Page.{hostAddress}
 use Rattle.dma.specs.Translation.{overflows}
-use Rattle.dma.specs.Walk.{Step, done, down, placeIn}
+use Rattle.dma.specs.Walk.{Step, done, down}
 use Rattle.pasid.specs.declared.ScalableRegisters.{ScalableRegisters}
 use Rattle.pasid.specs.declared.table.PasidEntry.{PasidEntry}
 use Rattle.flags.specs.Flags.{flag}
@@ -63,13 +62,6 @@ abbrev pub toPage : (host : ℕ) → Walked → Pages
 toPage host (page frame level writable flags) = reached frame level (hostAddress level frame host) flags
 toPage host (noPage reason fpd) = fault reason fpd
 
--- the address of a level's entry in its table and what is wanted of it; at level 0 those of the page: for the code's contracts
-unfoldable pub placeAt : (address level at : ℕ) → ℕ
-placeAt address level at = if eqb level 0 then at else placeIn address at (level - 1)
-
-unfoldable pub wantedAt : PasidEntry → (write : Bool) (level : ℕ) → Wanted
-wantedAt p write level = if eqb level 0 then wantedOfPage write else wantedOfEntry p
-
 module _ (r : ScalableRegisters) (p : PasidEntry) where
   -- an intermediate address: 74h at or above 2^X, else the second-level walk
   unfoldable pub intermediateRules : Wanted → (address : ℕ) (flags : List ℕ) → Rules Walked
@@ -102,20 +94,6 @@ module _ (r : ScalableRegisters) (p : PasidEntry) where
 
     abbrev pub pagesRules : Rules Pages
     pagesRules = thenRules (λ w. w) (pageRules write) (firstRules (p .«first_levels») (p .«first_top») (handed true []))
-
-    -- by PGTT, where it is none that passes through. With 2 there is no first level, and the request's own address is the page's
-    unfoldable pub kindRules : Rules Pages
-    kindRules = if eqb (p .kind) 2 then mapRules (toPage address) (intermediateRules (wantedOfPage write) address []) else pagesRules
-
-    -- what is left of it: at level 0 the page at an intermediate address, else the first level from this level down, and its page. For the
-    -- code's contracts, as is what the entry at a host address says over a memory
-    unfoldable pub restRules : (level at : ℕ) → Handed → Rules Pages
-    restRules level at s =
-        if eqb level 0 then mapRules (toPage at) (intermediateRules (wantedOfPage write) at (s .flags))
-        else thenRules (λ w. w) (pageRules write) (firstRules level at s)
-
-    abbrev pub entryOver : Memory → (level place : ℕ) → Handed → Step Handed Pages
-    entryOver m level place s = onFetch (entry 1 m place) (done (unfetched p s)) (walkStep level place s)
 
 -- a page as a translation can answer it: for the code's contracts
 abbrev pub Reachable : Pages → Type 0

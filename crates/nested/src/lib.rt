@@ -6,8 +6,8 @@ ghost use lib.ListN.{length, take};
 ghost use Prim.Native.Nat.{ℕ, _≤_};
 ghost use Rattle.image.specs.Place.{entryAt};
 ghost use Rattle.image.specs.Windows.{ofWindows, badWindows};
-ghost use Rattle.nested.specs.Answers.{PagesTell, Fits};
-ghost use Rattle.nested.specs.Pages.{handed, kindRules, restRules, PagesWalkable};
+ghost use Rattle.nested.specs.Pages.{handed, PagesWalkable};
+ghost use Rattle.nested.specs.Stages.{kindRules, restRules, PagesTell, Fits};
 
 mod level;
 mod stage;

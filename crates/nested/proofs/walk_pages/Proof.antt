@@ -8,8 +8,9 @@ use Rattle.image.specs.Rules.{Rules, run}
 use Rattle.image.specs.Spans.{Opened}
 use Rattle.image.specs.Windows.{ofWindows}
 use Rattle.image.proofs.GoodWindows.{three-each}
-use Rattle.nested.specs.Answers.{PagesNames, stageRules, Fits}
-use Rattle.nested.specs.Pages.{Pages, kindRules}
+use Rattle.nested.specs.Answers.{PagesNames}
+use Rattle.nested.specs.Pages.{Pages}
+use Rattle.nested.specs.Stages.{kindRules, stageRules, Fits}
 use Rattle.nested.specs.declared.stage.Walk.{Walk}
 use borrow.Author.Needs.{needs}
 use Rattle.nested.proofs.walk_pages.Statement.{statement}

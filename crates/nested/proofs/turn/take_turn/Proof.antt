@@ -9,7 +9,8 @@ use Rattle.image.specs.Rules.{run}
 use Rattle.image.specs.Windows.{ofWindows}
 use Rattle.dma.specs.Walk.{Step}
 use Rattle.nested.specs.Answers.{levelOf, levelPlace}
-use Rattle.nested.specs.Pages.{Pages, Handed, handed, entryOver}
+use Rattle.nested.specs.Pages.{Pages, Handed, handed}
+use Rattle.nested.specs.Stages.{entryOver}
 use Rattle.nested.proofs.Firsts.{levelOver, entered, entered-at, grows-more}
 use Rattle.nested.proofs.Rests.{onward, onward-at}
 use Rattle.nested.proofs.Turns.{turned}

@@ -9,7 +9,8 @@ use Rattle.image.specs.Windows.{ofWindows}
 use Rattle.second.specs.Answers.{walkedOf, Names}
 use Rattle.second.specs.Second.{Walked}
 use Rattle.second.specs.declared.step.Wanted.{Wanted}
-use Rattle.nested.specs.Pages.{wantedAt, intermediateRules}
+use Rattle.nested.specs.Pages.{intermediateRules}
+use Rattle.nested.specs.Stages.{wantedAt}
 use Rattle.nested.proofs.Nested.{beyond, beyond-at, within, grown-more}
 use borrow.Author.Needs.{needs}
 use Rattle.nested.proofs.way.intermediate.Statement.{statement}

@@ -11,8 +11,8 @@ use Rattle.image.specs.Place.{entryAt}
 use Rattle.image.specs.Rules.{run}
 use Rattle.image.specs.Windows.{ofWindows}
 use Rattle.pasid.specs.declared.table.PasidEntry.{PasidEntry}
-use Rattle.nested.specs.Answers.{Fits}
 use Rattle.nested.specs.Pages.{Handed, handed, locate, SecondWalkable}
+use Rattle.nested.specs.Stages.{Fits}
 use Rattle.nested.specs.declared.stage.Stage.{Stage}
 use Rattle.nested.proofs.Nested.{itself, host-aligned}
 use Rattle.nested.proofs.Rests.{nested, page-found, entry-place, entry-found, faulted, faulted-at}

@@ -4,9 +4,9 @@ use native.Mathlib.Omega.{arith}
 use borrow.Author.Needs.{needs}
 use borrow.Author.Tests.{eq-eqb, ne-eqb}
 use Rattle.dma.proofs.Steps.{index-of}
-use Rattle.nested.specs.Pages.{placeAt}
 use Rattle.nested.proofs.way.place_of.Statement.{statement}
 use Rattle.nested.proofs.way.place_of.Tie as tie
+use Rattle.nested.specs.Stages.{placeAt}
 
 returns : tie.Need-returns
 unfolding placeAt
