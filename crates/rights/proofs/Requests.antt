@@ -99,7 +99,7 @@ module _ (r : ScalableRegisters) (haw : 2 ≤ r .base .haw) (address : ℕ) (wri
   after (noPasidEntry reason fpd) b h = rw h (keeps-answer Raised TranslationKept TranslationDead _ _ tt)
 
   ended : (a b : Lookup) → LookupKept a b → TranslationKept (withoutEntry a) (withoutEntry b)
-  ended (pasidEntry p) b h = rw (h .0)
+  ended (pasidEntry p) b h = tt
   ended (noPasidEntry reason fpd) b h = tt
 
 -- a fault is no grant

@@ -35,9 +35,9 @@ pub data Translation : Type 0 where
 abbrev pub pasidTooWide : Pasid → Bool
 pasidTooWide pasid = pasid .present && leb (2 ^ 20) (pasid .value)
 
--- a lookup that found no PASID table entry ends the request; the other case doesn't come up
+-- a lookup that found no PASID table entry ends the request. The other case doesn't come up; it is told as an entry that can't be fetched
 abbrev pub withoutEntry : Lookup → Translation
-withoutEntry (pasidEntry p) = through
+withoutEntry (pasidEntry p) = translated (fault 0x58 (p .fpd))
 withoutEntry (noPasidEntry reason fpd) = translated (fault reason fpd)
 
 module _ (r : ScalableRegisters) (address : ℕ) (write : Bool) where
