@@ -1,8 +1,10 @@
 use borrow.Author.Tests.{eq-eqb, ne-eqb}
 use mathlib.Core.Bool.{false}
-use mathlib.Core.Path.{_≡_, sym, _∙_}
+use mathlib.Core.Path.{_≡_, ap, sym, _∙_}
 use lib.ListN.{length}
-use Rattle.trace_calls.specs.Calls.{badCursor, replayCall}
+use Rattle.replay.specs.Replayed.{replayedOf}
+use Rattle.replay.specs.declared.Replayed.{Replayed}
+use Rattle.trace_calls.specs.Calls.{badCursor, rerun, replayCall}
 use Rattle.trace_calls.proofs.Buffers.{cursor-two}
 use borrow.Author.Needs.{needs}
 use Rattle.trace_calls.proofs.reading.replay_entry.Statement.{statement}
@@ -34,29 +36,31 @@ write-requires-2 c κs = two (c .before .before .before .before .before .before 
 write-requires-3 : tie.Need-write-requires-3
 write-requires-3 c κs = two (c .before .before .before .before .before .before .before .before .before .before .before)
 
-returns-3 : tie.Need-returns-3
+abbrev start : tie.After-replay → tie.Start
+start c = c .before .before .before .before .before .before .before .before .before .before .before .before .before
+
+-- past both tests: what the replay gives
+ran : (c : tie.After-replay) {r : Replayed} → c .replay .result ≡ r
+    → replayCall (start c .args .registers) (start c .args .windows .now) (start c .args .image .now) (start c .args .bytes .now) (start c .args .cursor .now) (start c .args .entry .now)
+    ≡ rerun (start c .args .cursor .now) (start c .args .entry .now) (replayedOf r, c .replay .last .1 .1 .0)
 unfolding replayCall
-returns-3 c =
-    let told = rw (c .before .before .before .before .before .before .before .before .before .before .read .ensures) at (c .before .before .before .before .before .before .before .before .before .replay .ensures) in
-    rw (good (c .before .before .before .before .before .before .before .before .before .before .before .before .before .before), eq-eqb _ 32 (c .before .before .before .before .before .before .before .before .before .before .before .before .before .if2 .left), c .before .before .write .ensures, ← told, c .before .before .before .before .before .after .given .1)
+ran c is =
+    let told = rw (c .before .read .ensures) at (c .replay .ensures) in
+    rw (good (c .before .before .before .before .before), eq-eqb _ 32 (c .before .before .before .before .if2 .left), ← told)
+    (ap (λ (r : Replayed). rerun (start c .args .cursor .now) (start c .args .entry .now) (replayedOf r, c .replay .last .1 .1 .0)) is)
+
+returns-3 : tie.Need-returns-3
+returns-3 c = rw (ran (c .before .before .before .before .before .before .before .before .before) (c .before .before .before .before .before .after .given .1), c .before .before .write .ensures)
 
 returns-4 : tie.Need-returns-4
-unfolding replayCall
 returns-4 c =
-    let told = rw (c .before .before .before .before .before .before .before .before .before .before .before .before .before .before .read .ensures) at (c .before .before .before .before .before .before .before .before .before .before .before .before .before .replay .ensures) in
-    rw (good (c .before .before .before .before .before .before .before .before .before .before .before .before .before .before .before .before .before .before), eq-eqb _ 32 (c .before .before .before .before .before .before .before .before .before .before .before .before .before .before .before .before .before .if2 .left), c .before .before .write2 .ensures, c .before .before .before .before .before .before .write-entry .ensures, ← told, c .before .before .before .before .before .before .before .before .before .e .given .1)
+    rw (ran (c .before .before .before .before .before .before .before .before .before .before .before .before .before) (c .before .before .before .before .before .before .before .before .before .e .given .1), c .before .before .write2 .ensures, c .before .before .before .before .before .before .write-entry .ensures)
 
 returns-5 : tie.Need-returns-5
-unfolding replayCall
-returns-5 c =
-    let told = rw (c .before .before .before .before .before .before .before .before .before .before .read .ensures) at (c .before .before .before .before .before .before .before .before .before .replay .ensures) in
-    rw (good (c .before .before .before .before .before .before .before .before .before .before .before .before .before .before), eq-eqb _ 32 (c .before .before .before .before .before .before .before .before .before .before .before .before .before .if2 .left), c .before .before .write3 .ensures, ← told, c .before .before .before .before .before .after2 .given .1)
+returns-5 c = rw (ran (c .before .before .before .before .before .before .before .before .before) (c .before .before .before .before .before .after2 .given .1), c .before .before .write3 .ensures)
 
 returns-6 : tie.Need-returns-6
-unfolding replayCall
-returns-6 c =
-    let told = rw (c .before .before .before .before .before .read .ensures) at (c .before .before .before .before .replay .ensures) in
-    rw (good (c .before .before .before .before .before .before .before .before .before), eq-eqb _ 32 (c .before .before .before .before .before .before .before .before .if2 .left), ← told, c .enum-told .given .1)
+returns-6 c = rw (ran (c .before .before .before .before) (c .enum-told .given .1))
 
 pub replay-entry-spec : {M : Type 1} → statement M
 replay-entry-spec =
