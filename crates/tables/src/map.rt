@@ -16,6 +16,13 @@ use crate::way::Stop;
 use crate::way::way_to;
 use image::store8;
 
+// The leaf of a page: its place, how many levels come below it, and its entry.
+struct Leaf {
+    place: u64,
+    last: u32,
+    entry: u64,
+}
+
 // A table in the lowest free page, whose place it answers, with its entry at a place.
 fn new_table(bytes: &mut [u8], marks: &mut [u8], start: u64, at: u64, level: u8) -> u64
     requires { ⌜ start + 4096 * length (now marks) < 2 ^ 53 ⌝ }
@@ -31,27 +38,18 @@ fn new_table(bytes: &mut [u8], marks: &mut [u8], start: u64, at: u64, level: u8)
 }
 
 // So many missing tables, then the leaf.
-fn put_leaf(
-    bytes: &mut [u8],
-    marks: &mut [u8],
-    start: u64,
-    place: u64,
-    last: u32,
-    leaf: u64,
-    missing: u32,
-    at: u64,
-)
-    requires { ⌜ (start + 4096 * length (now marks) < 2 ^ 53) × (last + missing < 6) ⌝ }
-    ensures { λ _. ⌜ tables (now (bytes .exit)) (now (marks .exit)) ≡ withLeaf start place last leaf missing at (tables (now (bytes .entry)) (now (marks .entry))) ⌝ }
+fn put_leaf(bytes: &mut [u8], marks: &mut [u8], start: u64, leaf: Leaf, missing: u32, at: u64)
+    requires { ⌜ (start + 4096 * length (now marks) < 2 ^ 53) × (leaf .last + missing < 6) ⌝ }
+    ensures { λ _. ⌜ tables (now (bytes .exit)) (now (marks .exit)) ≡ withLeaf start (leaf .place) (leaf .last) (leaf .entry) missing at (tables (now (bytes .entry)) (now (marks .entry))) ⌝ }
 {
     let mut left = missing;
     let mut to = at;
     while 0 < left {
-        let table = new_table(bytes, marks, start, to, (last + left) as u8);
+        let table = new_table(bytes, marks, start, to, (leaf.last + left) as u8);
         left -= 1;
-        to = place_of(place, table, last + left);
+        to = place_of(leaf.place, table, leaf.last + left);
     }
-    store8(bytes, to, leaf);
+    store8(bytes, to, leaf.entry);
 }
 
 // How many tables are missing where a way ends.
@@ -64,26 +62,18 @@ fn missing_tables(below: u32, last: u32) -> u32
     below - last
 }
 
-fn map_at(
-    bytes: &mut [u8],
-    marks: &mut [u8],
-    start: u64,
-    place: u64,
-    last: u32,
-    leaf: u64,
-    stop: Stop,
-) -> u8
-    requires { ⌜ (start + 4096 * length (now marks) < 2 ^ 53) × (stop .below < 5) × (last < 2) ⌝ }
-    ensures { λ r. ⌜ (r, tables (now (bytes .exit)) (now (marks .exit))) ≡ mapAt start place last leaf stop (tables (now (bytes .entry)) (now (marks .entry))) ⌝ }
+fn map_at(bytes: &mut [u8], marks: &mut [u8], start: u64, leaf: Leaf, stop: Stop) -> u8
+    requires { ⌜ (start + 4096 * length (now marks) < 2 ^ 53) × (stop .below < 5) × (leaf .last < 2) ⌝ }
+    ensures { λ r. ⌜ (r, tables (now (bytes .exit)) (now (marks .exit))) ≡ mapAt start (leaf .place) (leaf .last) (leaf .entry) stop (tables (now (bytes .entry)) (now (marks .entry))) ⌝ }
 {
     if is_present(stop.entry) {
         return 6;
     }
-    let missing = missing_tables(stop.below, last);
+    let missing = missing_tables(stop.below, leaf.last);
     if count_free(marks) < missing as usize {
         return 7;
     }
-    put_leaf(bytes, marks, start, place, last, leaf, missing, stop.at);
+    put_leaf(bytes, marks, start, leaf, missing, stop.at);
     0
 }
 
@@ -100,5 +90,10 @@ pub fn map_page(
     ensures { λ r. ⌜ (r, tables (now (bytes .exit)) (now (marks .exit))) ≡ mapped tree place last leaf (tables (now (bytes .entry)) (now (marks .entry))) ⌝ }
 {
     let stop = way_to(bytes, tree, place, last);
-    map_at(bytes, marks, tree.start, place, last, leaf, stop)
+    let leaf = Leaf {
+        place,
+        last,
+        entry: leaf,
+    };
+    map_at(bytes, marks, tree.start, leaf, stop)
 }

@@ -12,7 +12,7 @@ returns : tie.Need-returns
 returns c =
     let p = c .before in
     let a = p .before .before .before .args in
-    met (a .start) (a .place) (a .last) (a .leaf) (a .stop) (tables (a .bytes .now) (a .marks .now)) (sym (p .is-present .ensures) ∙ c .if1 .taken)
+    met (a .start) (a .leaf .place) (a .leaf .last) (a .leaf .entry) (a .stop) (tables (a .bytes .now) (a .marks .now)) (sym (p .is-present .ensures) ∙ c .if1 .taken)
 
 returns-2 : tie.Need-returns-2
 returns-2 c =
@@ -20,7 +20,7 @@ returns-2 c =
     let m = k .before .before in
     let p = m .before .before in
     let a = p .before .before .before .args in
-    too-few (a .start) (a .place) (a .last) (a .leaf) (a .stop) (tables (a .bytes .now) (a .marks .now)) (sym (p .is-present .ensures) ∙ m .before .if1 .left)
+    too-few (a .start) (a .leaf .place) (a .leaf .last) (a .leaf .entry) (a .stop) (tables (a .bytes .now) (a .marks .now)) (sym (p .is-present .ensures) ∙ m .before .if1 .left)
     (omega (arith, k .count-free .ensures, m .missing-tables .ensures, c .if2 .taken))
 
 returns-3 : tie.Need-returns-3
@@ -31,9 +31,9 @@ returns-3 c =
     let m = k .before .before in
     let p = m .before .before in
     let a = p .before .before .before .args in
-    put (a .start) (a .place) (a .last) (a .leaf) (a .stop) (tables (a .bytes .now) (a .marks .now)) (sym (p .is-present .ensures) ∙ m .before .if1 .left)
+    put (a .start) (a .leaf .place) (a .leaf .last) (a .leaf .entry) (a .stop) (tables (a .bytes .now) (a .marks .now)) (sym (p .is-present .ensures) ∙ m .before .if1 .left)
     (omega (arith, k .count-free .ensures, m .missing-tables .ensures, x .if2 .left))
-    (l .put-leaf .ensures ∙ ap (λ (n : ℕ). withLeaf (a .start) (a .place) (a .last) (a .leaf) n (a .stop .at) (tables (a .bytes .now) (a .marks .now))) (m .missing-tables .ensures))
+    (l .put-leaf .ensures ∙ ap (λ (n : ℕ). withLeaf (a .start) (a .leaf .place) (a .leaf .last) (a .leaf .entry) n (a .stop .at) (tables (a .bytes .now) (a .marks .now))) (m .missing-tables .ensures))
 
 pub map-at-spec : {M : Type 1} → statement M
 map-at-spec =
