@@ -55,3 +55,15 @@ lint() {
 
 # The lines between a page's ``` fences.
 quoted() { awk '/^```/ { quoted = !quoted; next } quoted' "$1"; }
+
+# The words of the bench image's definition, ADDRESS=WORD: those of a table stand one behind the other.
+bench_words() {
+    local at words word
+    sed -nE 's/^ .*\(0x([0-9A-F]{4}), (0x[0-9A-F]+ .*)\[\]\)$/\1 \2/p' crates/cases/specs/Bench.antt | while read -r at words; do
+        for word in ${words//∷/}; do
+            word=${word#0x}
+            printf '%s=%s\n' "$at" "${word#"${word%%[!0]*}"}"
+            at=$(printf %04X "$((0x$at + 8))")
+        done
+    done | sort
+}
