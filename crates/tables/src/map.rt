@@ -66,10 +66,11 @@ fn map_at(bytes: &mut [u8], marks: &mut [u8], start: u64, leaf: Leaf, stop: Stop
     requires { ⌜ (start + 4096 * length (now marks) < 2 ^ 53) × (stop .below < 5) × (leaf .last < 2) ⌝ }
     ensures { λ r. ⌜ (r, tables (now (bytes .exit)) (now (marks .exit))) ≡ mapAt start (leaf .place) (leaf .last) (leaf .entry) stop (tables (now (bytes .entry)) (now (marks .entry))) ⌝ }
 {
+    let last = leaf.last;
     if is_present(stop.entry) {
         return 6;
     }
-    let missing = missing_tables(stop.below, leaf.last);
+    let missing = missing_tables(stop.below, last);
     if count_free(marks) < missing as usize {
         return 7;
     }
