@@ -3,6 +3,7 @@ pub mod Choices
 pub mod Fields
 pub mod FlatWindow
 pub mod Forks
+pub mod Halves
 pub mod Isolated
 pub mod Local
 pub mod Longer

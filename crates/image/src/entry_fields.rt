@@ -73,6 +73,12 @@ pub fn bits64(e: Entry64, high: u32, low: u32) -> u64
     field_in(word64(e, low / 64), high, low)
 }
 
+pub fn bit64(e: Entry64, place: u32) -> bool
+    ensures { λ r. ⌜ r ≡ bit (number64 e) place ⌝ }
+{
+    bits64(e, place, place) == 1
+}
+
 pub fn any_set64(e: Entry64, high: u32, low: u32) -> bool
     ensures { λ r. ⌜ r ≡ (if inOneWord high low then anySet (number64 e) high low else false) ⌝ }
 {

@@ -1,4 +1,4 @@
-// Guest memory as entries of 8, 16 and 64 bytes: fetched through windows on the one lent run, a table's page handed on as a part of
+// Guest memory as entries of 8, 16, 32 and 64 bytes: fetched through windows on the one lent run, a table's page handed on as a part of
 // it, and no page copied. Their fields, and words of plain buffers.
 ghost use mathlib.Core.Path.{_≡_};
 ghost use Rattle.image.specs.Bits.{bits, inPlace};
@@ -19,11 +19,13 @@ pub use entries::page_entry8;
 pub use entries::page_entry8_by;
 pub use entries::page_entry16;
 pub use entries::page_entry16_by;
+pub use entries::page_entry32;
 pub use entries::place64;
 pub use entries::table_page;
 pub use entry_fields::any_set16;
 pub use entry_fields::any_set64;
 pub use entry_fields::bit16;
+pub use entry_fields::bit64;
 pub use entry_fields::bits16;
 pub use entry_fields::bits64;
 pub use windows::bad_several;

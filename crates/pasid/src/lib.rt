@@ -13,7 +13,6 @@ pub use context::ScalableContext;
 pub use context::context_check;
 pub use directory::directory_check;
 pub use entry::TableAddress;
-pub use entry::bit64;
 pub use fault::ScalableFault;
 pub use fault::scalable_fault;
 pub use reason::ScalableReason;

@@ -5,7 +5,6 @@ ghost use Rattle.dma.specs.Context.{widthSupported};
 ghost use Rattle.pasid.specs.Answers.{tableChecked};
 ghost use Rattle.pasid.specs.Table.{typeSupported, modeSupported, tableInvalid, tableCheck};
 use crate::ScalableRegisters;
-use crate::entry::bit64;
 use crate::reason::ScalableReason;
 use crate::table::PasidEntry;
 use crate::table::address_width;
@@ -14,6 +13,7 @@ use crate::table::pasid_entry_of;
 use crate::table::table_reserved;
 use crate::table::translation_type;
 use image::Entry64;
+use image::bit64;
 use registers::Registers;
 
 pub enum TableCheck {

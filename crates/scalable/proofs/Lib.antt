@@ -4,6 +4,5 @@ pub mod Fifty
 pub mod Forks
 pub mod Found
 pub mod Isolation
-pub mod Pairs
 pub mod Tables
 pub mod Written

@@ -13,7 +13,6 @@ ghost use Rattle.nested.specs.Pages.{reached};
 ghost use Rattle.scalable.specs.Answers.{outcomeOf, entryOf, translationOf, TranslationNames, TranslationReachable};
 ghost use Rattle.scalable.specs.Requests.{translated, pasidTooWide, decision, takenRules, scalableAnswer, scalableAnswerPlace, scalableWritten};
 
-mod context32;
 mod lookup;
 mod translation;
 

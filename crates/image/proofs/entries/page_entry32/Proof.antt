@@ -1,13 +1,13 @@
 use Prim.Native.Nat.{ℕ, _+_, _*_, _/_, _%_}
 use mathlib.Core.Path.{_≡_, refl, ap, sym, _∙_}
 use native.Mathlib.Omega.{arith}
 use Rattle.image.specs.Windows.{ofWindows}
 use Rattle.image.specs.Memory.{missing, found, entry}
 use Rattle.image.specs.Entries.{fetched16}
-use Rattle.scalable.proofs.Pairs.{none-low, none-high, both}
+use Rattle.image.proofs.Halves.{none-low, none-high, both}
 use borrow.Author.Needs.{needs}
-use Rattle.scalable.proofs.context32.page_entry32.Statement.{statement}
-use Rattle.scalable.proofs.context32.page_entry32.Tie as tie
+use Rattle.image.proofs.entries.page_entry32.Statement.{statement}
+use Rattle.image.proofs.entries.page_entry32.Tie as tie
 
 page-entry16-requires : tie.Need-page-entry16-requires
 page-entry16-requires c κs = search needs

@@ -3,8 +3,8 @@ use Prim.Native.Nat.{_/_}
 use mathlib.Core.Path.{refl}
 use borrow.Author.Tests.{eq-eqb}
 use borrow.Author.Needs.{needs}
-use Rattle.pasid.proofs.entry.bit64.Statement.{statement}
-use Rattle.pasid.proofs.entry.bit64.Tie as tie
+use Rattle.image.proofs.entry_fields.bit64.Statement.{statement}
+use Rattle.image.proofs.entry_fields.bit64.Tie as tie
 
 bits64-requires : tie.Need-bits64-requires
 bits64-requires c κs = search needs
