@@ -21,7 +21,7 @@ reachable-by (pages.Reached frame level host count) flags h = h
 reachable-by (pages.Fault reason fpd at) flags h = tt
 
 pub turned : (r : Turn) (w : Walk) (s : Stage) (m : Memory) (before after : List ℕ) (q : Rules Pages) (here : Place)
-    → turnRules r w after ≡ q → TurnLast r here → TurnFits r (w .entry) (s .level)
+    → turnRules r w after ≡ q → TurnLast r here → TurnFits r (w .space .entry) (s .level)
     → run q m ≡ run (stageRules w s before) m
     → lastTried here q m ≡ lastTried (entryAt (s .last)) (stageRules w s before) m
     → TurnTells r w s m before after

@@ -55,7 +55,7 @@ PagesTell r q m before flags =
 -- the rules that are left at a stage
 abbrev pub stageRules : Walk → Stage → (flags : List ℕ) → Rules Pages
 stageRules w s flags =
-    restRules (w .registers) (w .entry) (w .asked .address) (w .asked .write) (s .level) (s .at) (handed (s .top) (take (s .count) flags))
+    restRules (w .space .registers) (w .space .entry) (w .asked .address) (w .asked .write) (s .level) (s .at) (handed (s .top) (take (s .count) flags))
 
 -- a stage as a walk comes to it. A level of the first level adds at most 8 flags: 5 + 1 of the second level, where D is one, and A and EA;
 -- 5 levels make 40, D of the page's entry 1 more. The page adds 5 + 1, so that 47 is the most
@@ -72,13 +72,13 @@ WayTells (way.Entry at writable count) w s m before after =
     × (at < 2 ^ 60)
     × (count ≤ s .count + 6)
     × (located at (record { top = s .top; writable = writable; flags = take count after })
-    ≡ run (locate (w .registers) (w .entry) (handed (s .top) (take (s .count) before)) (placeIn (w .asked .address) (s .at) (s .level - 1))) m)
+    ≡ run (locate (w .space .registers) (w .space .entry) (handed (s .top) (take (s .count) before)) (placeIn (w .asked .address) (s .at) (s .level - 1))) m)
 WayTells (way.Done r) w s m before after = PagesTell r (stageRules w s before) m (entryAt (s .last)) after
 
 -- a turn leaves the same to be answered, and the same entry to stop at
 abbrev pub TurnTells : Turn → Walk → Stage → Memory → (before after : List ℕ) → Type 0
 TurnTells (turn.On next) w s m before after =
-    Fits (w .entry) next
+    Fits (w .space .entry) next
     × (next .level < s .level)
     × (run (stageRules w next after) m ≡ run (stageRules w s before) m)
     × (lastTried (entryAt (next .last)) (stageRules w next after) m ≡ lastTried (entryAt (s .last)) (stageRules w s before) m)

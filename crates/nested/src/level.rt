@@ -88,19 +88,27 @@ fn level_step(
     count: usize,
 ) -> Level
     requires { ⌜ (0 < level) × (at < 2 ^ 60) × (count + 3 ≤ length (now flags)) ⌝ }
-    ensures { λ r. ⌜ ((top : Bool) → levelOf r (walk .asked .address) (now (flags .exit)) ≡ walkStep (walk .registers) (walk .entry) (walk .asked .address) (walk .asked .write) level at (record { top = top; writable = writable; flags = take count (now (flags .entry)) }) e) ⌝ }
+    ensures { λ r. ⌜ ((top : Bool) → levelOf r (walk .asked .address) (now (flags .exit)) ≡ walkStep (walk .space .registers) (walk .space .entry) (walk .asked .address) (walk .asked .write) level at (record { top = top; writable = writable; flags = take count (now (flags .entry)) }) e) ⌝ }
     ensures { λ r. ⌜ levelPlace r ≡ entryAt at ⌝ }
     ensures { λ r. ⌜ LevelReachable r level ⌝ }
     ensures { λ r. ⌜ LevelGrows r (count + 2) ⌝ }
 {
     let write = walk.asked.write;
-    match first_step(walk.registers, walk.entry, write, writable, level, at, e) {
+    match first_step(
+        walk.space.registers,
+        walk.space.entry,
+        write,
+        writable,
+        level,
+        at,
+        e,
+    ) {
         FirstStep::Down(table) => {
-            let used = push_entry(flags, count, walk.entry, false, at, e);
+            let used = push_entry(flags, count, walk.space.entry, false, at, e);
             Level::Down(table, at, used)
         }
         FirstStep::Page(frame, of) => {
-            let used = push_entry(flags, count, walk.entry, write, at, e);
+            let used = push_entry(flags, count, walk.space.entry, write, at, e);
             Level::Page(frame, of, at, used)
         }
         FirstStep::Fault(reason, fpd, place) => Level::Fault(reason, fpd, place),
@@ -118,15 +126,16 @@ pub(crate) fn level_entry(
     flags: &mut [u64],
     count: usize,
 ) -> Level
-    requires { ⌜ Opened (walk .first) (now windows) (length (now image)) × (0 < stage .level) × (at % 8 ≡ 0) × (at < 2 ^ 60) × (count + 3 ≤ length (now flags)) ⌝ }
-    ensures { λ r. ⌜ levelOf r (walk .asked .address) (now (flags .exit)) ≡ entryOver (walk .registers) (walk .entry) (walk .asked .address) (walk .asked .write) (ofWindows (now (windows .entry)) (now (image .entry))) (stage .level) at (record { top = stage .top; writable = writable; flags = take count (now (flags .entry)) }) ⌝ }
+    requires { ⌜ Opened (walk .space .first) (now windows) (length (now image)) × (0 < stage .level) × (at % 8 ≡ 0) × (at < 2 ^ 60) × (count + 3 ≤ length (now flags)) ⌝ }
+    ensures { λ r. ⌜ levelOf r (walk .asked .address) (now (flags .exit)) ≡ entryOver (walk .space .registers) (walk .space .entry) (walk .asked .address) (walk .asked .write) (ofWindows (now (windows .entry)) (now (image .entry))) (stage .level) at (record { top = stage .top; writable = writable; flags = take count (now (flags .entry)) }) ⌝ }
     ensures { λ r. ⌜ levelPlace r ≡ entryAt at ⌝ }
     ensures { λ r. ⌜ LevelReachable r (stage .level) ⌝ }
     ensures { λ r. ⌜ LevelGrows r (count + 2) ⌝ }
 {
     let offset = at % 4096;
-    let Found8::Entry(e) = page_entry8_by(walk.first, windows, image, at - offset, offset) else {
-        return Level::Fault(unfetchable(stage.top), walk.entry.fpd, at);
+    let Found8::Entry(e) = page_entry8_by(walk.space.first, windows, image, at - offset, offset)
+    else {
+        return Level::Fault(unfetchable(stage.top), walk.space.entry.fpd, at);
     };
     level_step(walk, stage.level, writable, at, e, flags, count)
 }

@@ -1,11 +1,12 @@
 // First-level and nested translation: the walk by levels whose entries, in a nested translation, are found through the second level.
-ghost use mathlib.Core.Bool.{Bool, false};
+ghost use mathlib.Core.Bool.{Bool};
 ghost use mathlib.Core.List.{List};
 ghost use mathlib.Core.Path.{_≡_};
 ghost use lib.ListN.{length, take};
 ghost use Prim.Native.Nat.{ℕ, _≤_};
 ghost use Rattle.image.specs.Place.{entryAt};
-ghost use Rattle.image.specs.Windows.{ofWindows, badWindows};
+ghost use Rattle.image.specs.Spans.{Opened};
+ghost use Rattle.image.specs.Windows.{ofWindows};
 ghost use Rattle.nested.specs.Pages.{handed, PagesWalkable};
 ghost use Rattle.nested.specs.Stages.{kindRules, restRules, PagesTell, Fits};
 
@@ -14,13 +15,12 @@ mod stage;
 mod turn;
 mod way;
 
-use image::first_span;
 use pasid::PasidEntry;
 use pasid::ScalableReason;
 use pasid::ScalableRegisters;
 pub use stage::Asked;
 use stage::Stage;
-use stage::Walk;
+pub use stage::Walk;
 use turn::Turn;
 use turn::take_turn;
 
@@ -56,25 +56,11 @@ fn first_stage(entry: PasidEntry, at: u64, address: u64) -> Stage
 }
 
 // By PGTT, where it is none that passes through. at: the host address of the PASID table entry, which was tried last.
-pub fn walk_pages(
-    windows: &[u64],
-    image: &[u8],
-    registers: ScalableRegisters,
-    entry: PasidEntry,
-    at: u64,
-    asked: Asked,
-    flags: &mut [u64],
-) -> Pages
-    requires { ⌜ (badWindows (now windows) (length (now image)) ≡ false) × PagesWalkable entry × (47 ≤ length (now flags)) ⌝ }
-    ensures { λ r. ⌜ PagesTell r (kindRules registers entry (asked .address) (asked .write)) (ofWindows (now (windows .entry)) (now (image .entry))) (entryAt at) (now (flags .exit)) ⌝ }
+pub fn walk_pages(windows: &[u64], image: &[u8], walk: Walk, at: u64, flags: &mut [u64]) -> Pages
+    requires { ⌜ Opened (walk .space .first) (now windows) (length (now image)) × PagesWalkable (walk .space .entry) × (47 ≤ length (now flags)) ⌝ }
+    ensures { λ r. ⌜ PagesTell r (kindRules (walk .space .registers) (walk .space .entry) (walk .asked .address) (walk .asked .write)) (ofWindows (now (windows .entry)) (now (image .entry))) (entryAt at) (now (flags .exit)) ⌝ }
 {
-    let walk = Walk {
-        first: first_span(windows),
-        registers,
-        entry,
-        asked,
-    };
-    let mut stage = first_stage(entry, at, asked.address);
+    let mut stage = first_stage(walk.space.entry, at, walk.asked.address);
     loop {
         match take_turn(windows, image, walk, stage, flags) {
             Turn::On(next) => stage = next,

@@ -1,7 +1,5 @@
 // What a walk is given, and where it stands.
-use image::Span;
-use pasid::PasidEntry;
-use pasid::ScalableRegisters;
+use second::Space;
 
 // What a walk is for: the request's address, and whether it is a write.
 pub struct Asked {
@@ -9,11 +7,9 @@ pub struct Asked {
     pub write: bool,
 }
 
-// The same for all of its turns; first: the first window.
+// What is the same for all of its turns.
 pub struct Walk {
-    pub first: Span,
-    pub registers: ScalableRegisters,
-    pub entry: PasidEntry,
+    pub space: Space,
     pub asked: Asked,
 }
 

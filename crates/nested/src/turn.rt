@@ -25,10 +25,10 @@ pub enum Turn {
 
 // What comes after an entry of a level. In a nested translation the page is at an intermediate address.
 fn after_level(walk: Walk, level: u32, step: Level) -> Turn
-    requires { ⌜ FirstWalkable (walk .entry) × (0 < level) × (level ≤ 5) × LevelReachable step level × LevelGrows step (40 - 8 * (level - 1)) ⌝ }
-    ensures { λ r. ⌜ ((flags : List ℕ) → turnRules r walk flags ≡ onStep (levelOf step (walk .asked .address) flags) (pageRules (walk .registers) (walk .entry) (walk .asked .write)) (restRules (walk .registers) (walk .entry) (walk .asked .address) (walk .asked .write) (level - 1))) ⌝ }
+    requires { ⌜ FirstWalkable (walk .space .entry) × (0 < level) × (level ≤ 5) × LevelReachable step level × LevelGrows step (40 - 8 * (level - 1)) ⌝ }
+    ensures { λ r. ⌜ ((flags : List ℕ) → turnRules r walk flags ≡ onStep (levelOf step (walk .asked .address) flags) (pageRules (walk .space .registers) (walk .space .entry) (walk .asked .write)) (restRules (walk .space .registers) (walk .space .entry) (walk .asked .address) (walk .asked .write) (level - 1))) ⌝ }
     ensures { λ r. ⌜ TurnLast r (levelPlace step) ⌝ }
-    ensures { λ r. ⌜ TurnFits r (walk .entry) level ⌝ }
+    ensures { λ r. ⌜ TurnFits r (walk .space .entry) level ⌝ }
 {
     match step {
         Level::Down(table, last, count) => Turn::On(Stage {
@@ -40,7 +40,7 @@ fn after_level(walk: Walk, level: u32, step: Level) -> Turn
         }),
         Level::Page(frame, of, last, count) => {
             let host = host_address(of, frame, walk.asked.address);
-            if walk.entry.kind != 3 {
+            if walk.space.entry.kind != 3 {
                 return Turn::Done(Pages::Reached(frame, of, host, count));
             }
             Turn::On(Stage {
@@ -62,7 +62,7 @@ pub(crate) fn take_turn(
     stage: Stage,
     flags: &mut [u64],
 ) -> Turn
-    requires { ⌜ Opened (walk .first) (now windows) (length (now image)) × Fits (walk .entry) stage × (47 ≤ length (now flags)) ⌝ }
+    requires { ⌜ Opened (walk .space .first) (now windows) (length (now image)) × Fits (walk .space .entry) stage × (47 ≤ length (now flags)) ⌝ }
     ensures { λ r. ⌜ TurnTells r walk stage (ofWindows (now (windows .entry)) (now (image .entry))) (now (flags .entry)) (now (flags .exit)) ⌝ }
 {
     match locate(windows, image, walk, stage, flags) {

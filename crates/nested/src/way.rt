@@ -75,26 +75,25 @@ fn intermediate(
     address: u64,
     flags: &mut [u64],
 ) -> Walked
-    requires { ⌜ Opened (walk .first) (now windows) (length (now image)) × SecondWalkable (walk .entry) × (stage .count + 6 ≤ length (now flags)) ⌝ }
-    ensures { λ r. ⌜ walkedOf r (now (flags .exit)) ≡ run (intermediateRules (walk .registers) (walk .entry) (wantedAt (walk .entry) (walk .asked .write) (stage .level)) address (take (stage .count) (now (flags .entry)))) (ofWindows (now (windows .entry)) (now (image .entry))) ⌝ }
-    ensures { λ r. ⌜ Names r (lastTried (entryAt (stage .last)) (intermediateRules (walk .registers) (walk .entry) (wantedAt (walk .entry) (walk .asked .write) (stage .level)) address (take (stage .count) (now (flags .entry)))) (ofWindows (now (windows .entry)) (now (image .entry)))) ⌝ }
+    requires { ⌜ Opened (walk .space .first) (now windows) (length (now image)) × SecondWalkable (walk .space .entry) × (stage .count + 6 ≤ length (now flags)) ⌝ }
+    ensures { λ r. ⌜ walkedOf r (now (flags .exit)) ≡ run (intermediateRules (walk .space .registers) (walk .space .entry) (wantedAt (walk .space .entry) (walk .asked .write) (stage .level)) address (take (stage .count) (now (flags .entry)))) (ofWindows (now (windows .entry)) (now (image .entry))) ⌝ }
+    ensures { λ r. ⌜ Names r (lastTried (entryAt (stage .last)) (intermediateRules (walk .space .registers) (walk .space .entry) (wantedAt (walk .space .entry) (walk .asked .write) (stage .level)) address (take (stage .count) (now (flags .entry)))) (ofWindows (now (windows .entry)) (now (image .entry)))) ⌝ }
     ensures { λ r. ⌜ Reachable (walkedOf r (now (flags .exit))) ⌝ }
     ensures { λ r. ⌜ Grown r (stage .count) (stage .count + 6) ⌝ }
 {
-    if overflows(walk.registers.base, walk.entry.second_levels, address) {
+    let space = walk.space;
+    if overflows(space.registers.base, space.entry.second_levels, address) {
         return Walked::Fault(
             ScalableReason::IntermediateOverflow,
-            walk.entry.fpd,
+            space.entry.fpd,
             stage.last,
         );
     }
-    let wanted = wanted_at(walk.entry, walk.asked.write, stage.level);
+    let wanted = wanted_at(space.entry, walk.asked.write, stage.level);
     second_walk(
-        walk.first,
         windows,
         image,
-        walk.registers,
-        walk.entry,
+        walk.space,
         wanted,
         address,
         flags,
@@ -109,11 +108,11 @@ pub(crate) fn locate(
     stage: Stage,
     flags: &mut [u64],
 ) -> Way
-    requires { ⌜ Opened (walk .first) (now windows) (length (now image)) × Fits (walk .entry) stage × (47 ≤ length (now flags)) ⌝ }
+    requires { ⌜ Opened (walk .space .first) (now windows) (length (now image)) × Fits (walk .space .entry) stage × (47 ≤ length (now flags)) ⌝ }
     ensures { λ r. ⌜ WayTells r walk stage (ofWindows (now (windows .entry)) (now (image .entry))) (now (flags .entry)) (now (flags .exit)) ⌝ }
 {
     let place = place_of(walk.asked.address, stage.level, stage.at);
-    if !through_second(walk.entry.kind, stage.level) {
+    if !through_second(walk.space.entry.kind, stage.level) {
         return Way::Entry(place, true, stage.count);
     }
     match intermediate(windows, image, walk, stage, place, flags) {

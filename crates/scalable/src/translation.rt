@@ -5,6 +5,7 @@ ghost use lib.ListN.{length};
 ghost use Prim.Native.Nat.{_%_, _≤_};
 ghost use Rattle.image.specs.Place.{entryAt, lastTried, stoppedAt};
 ghost use Rattle.image.specs.Rules.{run};
+ghost use Rattle.image.specs.Spans.{Opened};
 ghost use Rattle.image.specs.Windows.{ofWindows, badWindows};
 ghost use Rattle.nested.specs.Answers.{pagesOf, PagesNames, PagesGrows};
 ghost use Rattle.nested.specs.Pages.{Reachable, PagesWalkable};
@@ -15,12 +16,14 @@ use crate::lookup::PasidLookup;
 use crate::lookup::find_pasid_entry;
 use dma::overflows;
 use first::not_canonical;
+use image::first_span;
 use nested::Asked;
 use nested::Pages;
+use nested::Walk;
 use nested::walk_pages;
-use pasid::PasidEntry;
 use pasid::ScalableReason;
 use pasid::ScalableRegisters;
+use second::Space;
 
 pub enum Translation {
     // The address itself.
@@ -32,48 +35,41 @@ pub enum Translation {
 }
 
 // By PGTT, where it is none that passes through.
-fn find_pages(
-    windows: &[u64],
-    image: &[u8],
-    registers: ScalableRegisters,
-    entry: PasidEntry,
-    at: u64,
-    asked: Asked,
-    flags: &mut [u64],
-) -> Pages
-    requires { ⌜ (badWindows (now windows) (length (now image)) ≡ false) × PagesWalkable entry × (47 ≤ length (now flags)) ⌝ }
-    ensures { λ r. ⌜ pagesOf r (now (flags .exit)) ≡ run (pagedRules registers (asked .address) (asked .write) entry) (ofWindows (now (windows .entry)) (now (image .entry))) ⌝ }
-    ensures { λ r. ⌜ PagesNames r (lastTried (entryAt at) (pagedRules registers (asked .address) (asked .write) entry) (ofWindows (now (windows .entry)) (now (image .entry)))) ⌝ }
+fn find_pages(windows: &[u64], image: &[u8], walk: Walk, at: u64, flags: &mut [u64]) -> Pages
+    requires { ⌜ Opened (walk .space .first) (now windows) (length (now image)) × PagesWalkable (walk .space .entry) × (47 ≤ length (now flags)) ⌝ }
+    ensures { λ r. ⌜ pagesOf r (now (flags .exit)) ≡ run (pagedRules (walk .space .registers) (walk .asked .address) (walk .asked .write) (walk .space .entry)) (ofWindows (now (windows .entry)) (now (image .entry))) ⌝ }
+    ensures { λ r. ⌜ PagesNames r (lastTried (entryAt at) (pagedRules (walk .space .registers) (walk .asked .address) (walk .asked .write) (walk .space .entry)) (ofWindows (now (windows .entry)) (now (image .entry)))) ⌝ }
     ensures { λ r. ⌜ Reachable (pagesOf r (now (flags .exit))) × PagesGrows r 47 ⌝ }
 {
+    let entry = walk.space.entry;
+    let address = walk.asked.address;
     if entry.kind == 2 {
-        if overflows(registers.base, entry.second_levels, asked.address) {
+        if overflows(walk.space.registers.base, entry.second_levels, address) {
             return Pages::Fault(ScalableReason::AddressOverflow, entry.fpd, at);
         }
-    } else if not_canonical(entry.first_levels, asked.address) {
+    } else if not_canonical(entry.first_levels, address) {
         return Pages::Fault(ScalableReason::NotCanonical, entry.fpd, at);
     }
-    walk_pages(windows, image, registers, entry, at, asked, flags)
+    walk_pages(windows, image, walk, at, flags)
 }
 
+// at: the host address of the PASID table entry.
 fn translate_in(
     windows: &[u64],
     image: &[u8],
-    registers: ScalableRegisters,
-    entry: PasidEntry,
+    walk: Walk,
     at: u64,
-    asked: Asked,
     flags: &mut [u64],
 ) -> Translation
-    requires { ⌜ (badWindows (now windows) (length (now image)) ≡ false) × Walkable entry × (47 ≤ length (now flags)) ⌝ }
-    ensures { λ r. ⌜ translationOf r (now (flags .exit)) ≡ run (typeRules registers (asked .address) (asked .write) entry) (ofWindows (now (windows .entry)) (now (image .entry))) ⌝ }
-    ensures { λ r. ⌜ TranslationNames r (lastTried (entryAt at) (typeRules registers (asked .address) (asked .write) entry) (ofWindows (now (windows .entry)) (now (image .entry)))) ⌝ }
+    requires { ⌜ Opened (walk .space .first) (now windows) (length (now image)) × Walkable (walk .space .entry) × (47 ≤ length (now flags)) ⌝ }
+    ensures { λ r. ⌜ translationOf r (now (flags .exit)) ≡ run (typeRules (walk .space .registers) (walk .asked .address) (walk .asked .write) (walk .space .entry)) (ofWindows (now (windows .entry)) (now (image .entry))) ⌝ }
+    ensures { λ r. ⌜ TranslationNames r (lastTried (entryAt at) (typeRules (walk .space .registers) (walk .asked .address) (walk .asked .write) (walk .space .entry)) (ofWindows (now (windows .entry)) (now (image .entry)))) ⌝ }
     ensures { λ r. ⌜ TranslationReachable r ⌝ }
 {
-    if entry.kind == 4 {
+    if walk.space.entry.kind == 4 {
         return Translation::Through;
     }
-    let pages = find_pages(windows, image, registers, entry, at, asked, flags);
+    let pages = find_pages(windows, image, walk, at, flags);
     match pages {
         Pages::Reached(frame, level, host, count) => Translation::Page(frame, level, host, count),
         Pages::Fault(reason, fpd, place) => Translation::Fault(reason, fpd, place),
@@ -98,7 +94,13 @@ pub(crate) fn translate(
     };
     match find_pasid_entry(windows, image, registers, request.source, request.pasid) {
         PasidLookup::Found(at, entry) => {
-            translate_in(windows, image, registers, entry, at, asked, flags)
+            let first = first_span(windows);
+            let space = Space {
+                first,
+                registers,
+                entry,
+            };
+            translate_in(windows, image, Walk { space, asked }, at, flags)
         }
         PasidLookup::Fault(at, reason, fpd) => Translation::Fault(reason, fpd, at),
     }

@@ -67,13 +67,28 @@ module _ (r : ScalableRegisters) (p : PasidEntry) (wanted : Wanted) where
               by false true h rest = refl
               by false false h rest = let z : _≡_ {A = ℕ} 0 1 = cc in absurd (omega arith)
 
-          module _ (all : (wanted .write && not (bit e 1) || wanted .read && not (bit e 0)) ≡ false) where
-            pub to-page : leafAt level e ≡ true
-                → done (page (inPlace e 51 12) level (writable above e) (above .flags ++ secondFlags p (wanted .write) place e)) ≡ secondStep r p wanted level place above e
-            to-page h = let each = neither (wanted .write && not (bit e 1)) (wanted .read && not (bit e 0)) all in rw (some, clear, snooped, each .0, each .1, h)
+    -- the entry is past them all
+    abbrev pub Passed : Type 0
+    Passed =
+        (not (readable above e || writable above e) ≡ false)
+        × (pageReserved (r .base) level e ≡ false)
+        × (flagsNotSnooped r p (wanted .write) level e ≡ false)
+        × ((wanted .write && not (bit e 1) || wanted .read && not (bit e 0)) ≡ false)
 
-            pub to-table : leafAt level e ≡ false → down (inPlace e 51 12) (handedOn above e (secondFlags p false place e)) ≡ secondStep r p wanted level place above e
-            to-table h = let each = neither (wanted .write && not (bit e 1)) (wanted .read && not (bit e 0)) all in rw (some, clear, snooped, each .0, each .1, h)
+    module _ (passed : Passed) where
+      used : secondStep r p wanted level place above e
+          ≡ (if leafAt level e then done (page (inPlace e 51 12) level (writable above e) (above .flags ++ secondFlags p (wanted .write) place e))
+          else down (inPlace e 51 12) (handedOn above e (secondFlags p false place e)))
+      used =
+          let each = neither (wanted .write && not (bit e 1)) (wanted .read && not (bit e 0)) (passed .3) in
+          rw (passed .0, passed .1, passed .2, each .0, each .1)
+
+      pub to-page : leafAt level e ≡ true
+          → done (page (inPlace e 51 12) level (writable above e) (above .flags ++ secondFlags p (wanted .write) place e)) ≡ secondStep r p wanted level place above e
+      to-page h = rw (used, h)
+
+      pub to-table : leafAt level e ≡ false → down (inPlace e 51 12) (handedOn above e (secondFlags p false place e)) ≡ secondStep r p wanted level place above e
+      to-table h = rw (used, h)
 
   module _ (address : ℕ) (m : Memory) (n table : ℕ) (above : Handed) where
     pub unfetched : missing ≡ entry 1 m (placeIn address table n) → done (unfetchable r p wanted above) ≡ secondOver r p wanted address m n table above

@@ -7,6 +7,7 @@ mod step;
 mod walk;
 
 use registers::Page4K;
+pub use step::Space;
 pub use step::Wanted;
 pub use walk::Walked;
 pub use walk::second_walk;

@@ -39,6 +39,14 @@ pub struct Wanted {
     pub write: bool,
 }
 
+// The address space of a PASID table entry, with what every walk in it goes by: the first window and the registers. A request makes it
+// once: made for each walk it costs instructions.
+pub struct Space {
+    pub first: Span,
+    pub registers: ScalableRegisters,
+    pub entry: PasidEntry,
+}
+
 pub enum SecondStep {
     // The next table, the joined rights, and how many flags are collected then.
     Down(u64, u64, usize),
@@ -132,8 +140,7 @@ fn collect(
 }
 
 fn second_step(
-    registers: ScalableRegisters,
-    entry: PasidEntry,
+    space: Space,
     wanted: Wanted,
     above: Above,
     level: u32,
@@ -142,40 +149,38 @@ fn second_step(
     flags: &mut [u64],
 ) -> SecondStep
     requires { ⌜ (0 < level) × (at < 2 ^ 60) × (above .count + 2 ≤ length (now flags)) ⌝ }
-    ensures { λ r. ⌜ stepOf r (now (flags .exit)) ≡ secondStep registers entry wanted level at (handedBy above (now (flags .entry))) e ⌝ }
+    ensures { λ r. ⌜ stepOf r (now (flags .exit)) ≡ secondStep (space .registers) (space .entry) wanted level at (handedBy above (now (flags .entry))) e ⌝ }
     ensures { λ r. ⌜ StepNames r (entryAt at) ⌝ }
     ensures { λ r. ⌜ StepReachable r × StepGrown r (above .count) ⌝ }
 {
     let rights = join(above.rights, e);
     if field(rights, 1, 0) == 0 {
-        return SecondStep::Fault(ScalableReason::SecondLevelNotPresent, entry.fpd, at);
+        return SecondStep::Fault(ScalableReason::SecondLevelNotPresent, space.entry.fpd, at);
     }
-    if page_reserved(registers.base, level, e) {
-        return SecondStep::Fault(ScalableReason::SecondLevelReserved, entry.fpd, at);
+    if page_reserved(space.registers.base, level, e) {
+        return SecondStep::Fault(ScalableReason::SecondLevelReserved, space.entry.fpd, at);
     }
-    if flags_not_snooped(registers, entry, wanted.write, level, e) {
-        return SecondStep::Fault(ScalableReason::FlagsNotSnooped, entry.fpd, at);
+    if flags_not_snooped(space.registers, space.entry, wanted.write, level, e) {
+        return SecondStep::Fault(ScalableReason::FlagsNotSnooped, space.entry.fpd, at);
     }
     if lacks(wanted, e) {
-        return SecondStep::Fault(denied(wanted, e), entry.fpd, at);
+        return SecondStep::Fault(denied(wanted, e), space.entry.fpd, at);
     }
     // The frame last: so the next table stays in a register of the machine code.
     if is_leaf(level, e) {
-        let n = collect(entry, wanted.write, at, e, flags, above.count);
+        let n = collect(space.entry, wanted.write, at, e, flags, above.count);
         let writable = field(rights, 1, 1) == 1;
         return SecondStep::Page(in_place(e, 51, 12), level, writable, n);
     }
-    let n = collect(entry, false, at, e, flags, above.count);
+    let n = collect(space.entry, false, at, e, flags, above.count);
     SecondStep::Down(in_place(e, 51, 12), rights, n)
 }
 
 // One level of the walk: below is how many levels come after it.
 pub(crate) fn second_entry(
-    first: Span,
     windows: &[u64],
     image: &[u8],
-    registers: ScalableRegisters,
-    entry: PasidEntry,
+    space: Space,
     wanted: Wanted,
     address: u64,
     below: u32,
@@ -183,15 +188,15 @@ pub(crate) fn second_entry(
     above: Above,
     flags: &mut [u64],
 ) -> SecondStep
-    requires { ⌜ Opened first (now windows) (length (now image)) × (below < 5) × (table % 4096 ≡ 0) × (table < 2 ^ 52) × (above .count + 2 ≤ length (now flags)) ⌝ }
-    ensures { λ r. ⌜ stepOf r (now (flags .exit)) ≡ secondOver registers entry wanted address (ofWindows (now (windows .entry)) (now (image .entry))) below table (handedBy above (now (flags .entry))) ⌝ }
+    requires { ⌜ Opened (space .first) (now windows) (length (now image)) × (below < 5) × (table % 4096 ≡ 0) × (table < 2 ^ 52) × (above .count + 2 ≤ length (now flags)) ⌝ }
+    ensures { λ r. ⌜ stepOf r (now (flags .exit)) ≡ secondOver (space .registers) (space .entry) wanted address (ofWindows (now (windows .entry)) (now (image .entry))) below table (handedBy above (now (flags .entry))) ⌝ }
     ensures { λ r. ⌜ StepNames r (entryAt (placeIn address table below)) ⌝ }
     ensures { λ r. ⌜ StepReachable r × StepGrown r (above .count) ⌝ }
 {
     let offset = 8 * ((address >> (Page4K::SHIFT + 9 * below)) % 512);
     let at = table + offset;
-    let Found8::Entry(e) = page_entry8_by(first, windows, image, table, offset) else {
-        return SecondStep::Fault(unfetchable(above.top), entry.fpd, at);
+    let Found8::Entry(e) = page_entry8_by(space.first, windows, image, table, offset) else {
+        return SecondStep::Fault(unfetchable(above.top), space.entry.fpd, at);
     };
-    second_step(registers, entry, wanted, above, below + 1, at, e, flags)
+    second_step(space, wanted, above, below + 1, at, e, flags)
 }

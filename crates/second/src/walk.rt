@@ -10,12 +10,10 @@ ghost use Rattle.second.specs.Answers.{walkedOf, Names, Grown};
 ghost use Rattle.second.specs.Second.{Reachable, atTop, secondRules};
 use crate::step::Above;
 use crate::step::SecondStep;
+use crate::step::Space;
 use crate::step::Wanted;
 use crate::step::second_entry;
-use image::Span;
-use pasid::PasidEntry;
 use pasid::ScalableReason;
-use pasid::ScalableRegisters;
 
 pub enum Walked {
     // The frame of a page, the level of its entry, whether all entries had W, and how many flags are collected then.
@@ -26,38 +24,34 @@ pub enum Walked {
 
 // The flags are collected behind those that the buffer has already.
 pub fn second_walk(
-    first: Span,
     windows: &[u64],
     image: &[u8],
-    registers: ScalableRegisters,
-    entry: PasidEntry,
+    space: Space,
     wanted: Wanted,
     address: u64,
     flags: &mut [u64],
     count: usize,
 ) -> Walked
-    requires { ⌜ Opened first (now windows) (length (now image)) × (0 < entry .«second_levels») × (entry .«second_levels» ≤ 5) × (entry .«second_top» % 4096 ≡ 0) × (entry .«second_top» < 2 ^ 52) × (count + entry .«second_levels» + 1 ≤ length (now flags)) ⌝ }
-    ensures { λ r. ⌜ walkedOf r (now (flags .exit)) ≡ run (secondRules registers entry wanted address (entry .«second_levels») (entry .«second_top») (atTop (take count (now (flags .entry))))) (ofWindows (now (windows .entry)) (now (image .entry))) ⌝ }
-    ensures { λ r. ⌜ ((before : Place) → Names r (lastTried before (secondRules registers entry wanted address (entry .«second_levels») (entry .«second_top») (atTop (take count (now (flags .entry))))) (ofWindows (now (windows .entry)) (now (image .entry))))) ⌝ }
+    requires { ⌜ Opened (space .first) (now windows) (length (now image)) × (0 < space .entry .«second_levels») × (space .entry .«second_levels» ≤ 5) × (space .entry .«second_top» % 4096 ≡ 0) × (space .entry .«second_top» < 2 ^ 52) × (count + space .entry .«second_levels» + 1 ≤ length (now flags)) ⌝ }
+    ensures { λ r. ⌜ walkedOf r (now (flags .exit)) ≡ run (secondRules (space .registers) (space .entry) wanted address (space .entry .«second_levels») (space .entry .«second_top») (atTop (take count (now (flags .entry))))) (ofWindows (now (windows .entry)) (now (image .entry))) ⌝ }
+    ensures { λ r. ⌜ ((before : Place) → Names r (lastTried before (secondRules (space .registers) (space .entry) wanted address (space .entry .«second_levels») (space .entry .«second_top») (atTop (take count (now (flags .entry))))) (ofWindows (now (windows .entry)) (now (image .entry))))) ⌝ }
     ensures { λ r. ⌜ Reachable (walkedOf r (now (flags .exit))) ⌝ }
-    ensures { λ r. ⌜ Grown r count (count + entry .«second_levels» + 1) ⌝ }
+    ensures { λ r. ⌜ Grown r count (count + space .entry .«second_levels» + 1) ⌝ }
 {
-    let mut level = entry.second_levels;
-    let mut table = entry.second_top;
+    let mut level = space.entry.second_levels;
+    let mut table = space.entry.second_top;
     let mut rights = 3u64;
     let mut count = count;
     while 0 < level {
         let above = Above {
-            top: level == entry.second_levels,
+            top: level == space.entry.second_levels,
             rights,
             count,
         };
         let step = second_entry(
-            first,
             windows,
             image,
-            registers,
-            entry,
+            space,
             wanted,
             address,
             level - 1,
@@ -77,5 +71,5 @@ pub fn second_walk(
         }
     }
     // No step leads below level 1.
-    Walked::Fault(ScalableReason::SecondLevelAccess, entry.fpd, table)
+    Walked::Fault(ScalableReason::SecondLevelAccess, space.entry.fpd, table)
 }

@@ -7,7 +7,6 @@ use Rattle.image.specs.Place.{Place, entryAt, lastTried}
 use Rattle.image.specs.Rules.{Rules, run}
 use Rattle.image.specs.Spans.{Opened}
 use Rattle.image.specs.Windows.{ofWindows}
-use Rattle.image.proofs.GoodWindows.{three-each}
 use Rattle.nested.specs.Answers.{PagesNames}
 use Rattle.nested.specs.Pages.{Pages}
 use Rattle.nested.specs.Stages.{kindRules, stageRules, Fits}
@@ -17,15 +16,15 @@ use Rattle.nested.proofs.walk_pages.Statement.{statement}
 use Rattle.nested.proofs.walk_pages.Tie as tie
 
 abbrev whole : Walk → Rules Pages
-whole w = kindRules (w .registers) (w .entry) (w .asked .address) (w .asked .write)
+whole w = kindRules (w .space .registers) (w .space .entry) (w .asked .address) (w .asked .write)
 
 begun : (m : Memory) {last at : ℕ} {q q′ : Rules Pages} → last ≡ at → q ≡ q′ → lastTried (entryAt last) q m ≡ lastTried (entryAt at) q′ m
 begun m {last} {at} {q} same rules = ap (λ (place : ℕ). lastTried (entryAt place) q m) same ∙ ap (λ q. lastTried (entryAt at) q m) rules
 
 abbrev Inv-loop : tie.InvT-loop
-Inv-loop windows image at flags₀ walk stage₀ flags stage =
-    Opened (walk .first) windows (length image)
-    × Fits (walk .entry) stage
+Inv-loop windows image walk at flags₀ stage₀ flags stage =
+    Opened (walk .space .first) windows (length image)
+    × Fits (walk .space .entry) stage
     × (length flags ≡ length flags₀)
     × (47 ≤ length flags₀)
     × (run (stageRules walk stage flags) (ofWindows windows image) ≡ run (whole walk) (ofWindows windows image))
@@ -33,16 +32,16 @@ Inv-loop windows image at flags₀ walk stage₀ flags stage =
     ≡ lastTried (entryAt at) (whole walk) (ofWindows windows image))
 
 abbrev μ-loop : tie.MeasureT-loop
-μ-loop windows image at flags₀ walk stage₀ flags stage = stage .level
+μ-loop windows image walk at flags₀ stage₀ flags stage = stage .level
 
 loop-holds : tie.Need-loop-holds Inv-loop μ-loop
 loop-holds c =
-    let s = c .before .before .before .before .before in
+    let s = c .before .before .before .before in
     let a = s .args in
     let m = ofWindows (a .windows .now) (a .image .now) in
     let first = c .first-stage .ensures in
-    let rules = first .1 (a .registers) (a .asked .write) (a .flags .now) in (
-      (s .pre .0, c .before .first-span .ensures),
+    let rules = first .1 (a .walk .space .registers) (a .walk .asked .write) (a .flags .now) in (
+      s .pre .0,
       first .0 .0,
       refl,
       s .pre .2,
@@ -50,13 +49,8 @@ loop-holds c =
       begun m (first .0 .1) rules,
     )
 
-first-span-requires : tie.Need-first-span-requires Inv-loop μ-loop
-first-span-requires c κs =
-    let s = c .before .before .before in
-    three-each (s .args .windows .now) (length (s .args .image .now)) (s .pre .0) .1
-
 first-stage-requires : tie.Need-first-stage-requires Inv-loop μ-loop
-first-stage-requires c κs = c .before .before .before .before .pre .1
+first-stage-requires c κs = c .before .before .before .pre .1
 
 take-turn-requires : tie.Need-take-turn-requires Inv-loop μ-loop
 take-turn-requires c κs = let i = c .before .loop .inv in (i .0, i .1, omega (arith, i .2, i .3))
@@ -86,7 +80,6 @@ walk-pages-spec =
     (tie.spec
     Inv-loop
     μ-loop
-    first-span-requires
     first-stage-requires
     loop-holds
     take-turn-requires

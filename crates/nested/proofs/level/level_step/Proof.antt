@@ -32,9 +32,9 @@ returns c =
     let g = c .before .before .before .before .before .table .given in
     let told = rw (g .1) at (f .ensures .0) in
     let small = rw (g .1) at (f .ensures .1 .1) in
-    let deep = above-one (a .walk .registers) (a .walk .entry) (a .walk .asked .write) (a .writable) (a .level) (a .e) (c .before .before .before .before .before .before .before .before .before .pre .0) told in
+    let deep = above-one (a .walk .space .registers) (a .walk .space .entry) (a .walk .asked .write) (a .writable) (a .level) (a .e) (c .before .before .before .before .before .before .before .before .before .pre .0) told in
     let p = c .before .before .push-entry in
-    (λ top. rw (p .ensures .0) (down-told (a .walk .registers) (a .walk .entry) (a .walk .asked .address) (a .walk .asked .write) (a .level) (a .at) (record { top = top; writable = a .writable; flags = take (a .count) (a .flags .now) }) (a .e) told), (refl, ((deep, small .0, small .1), p .ensures .1 .1 refl)))
+    (λ top. rw (p .ensures .0) (down-told (a .walk .space .registers) (a .walk .space .entry) (a .walk .asked .address) (a .walk .asked .write) (a .level) (a .at) (record { top = top; writable = a .writable; flags = take (a .count) (a .flags .now) }) (a .e) told), (refl, ((deep, small .0, small .1), p .ensures .1 .1 refl)))
 
 same-length-2 : tie.Need-same-length-2
 same-length-2 c = search needs
@@ -47,7 +47,7 @@ returns-2 c =
     let told = rw (g .1) at (f .ensures .0) in
     let small = rw (g .1) at (f .ensures .1 .1) in
     let p = c .before .before .push-entry2 in
-    (λ top. rw (p .ensures .0) (page-told (a .walk .registers) (a .walk .entry) (a .walk .asked .address) (a .walk .asked .write) (a .level) (a .at) (record { top = top; writable = a .writable; flags = take (a .count) (a .flags .now) }) (a .e) told), (refl, (small, omega (arith, p .ensures .1 .0))))
+    (λ top. rw (p .ensures .0) (page-told (a .walk .space .registers) (a .walk .space .entry) (a .walk .asked .address) (a .walk .asked .write) (a .level) (a .at) (record { top = top; writable = a .writable; flags = take (a .count) (a .flags .now) }) (a .e) told), (refl, (small, omega (arith, p .ensures .1 .0))))
 
 returns-3 : tie.Need-returns-3
 returns-3 c =
@@ -56,7 +56,7 @@ returns-3 c =
     let g = c .before .reason .given in
     let told = rw (g .1) at (f .ensures .0) in
     let there = rw (g .1) at (f .ensures .1 .0) in
-    (λ top. fault-told (a .walk .registers) (a .walk .entry) (a .walk .asked .address) (a .walk .asked .write) (a .level) (a .at) (record { top = top; writable = a .writable; flags = take (a .count) (a .flags .now) }) (a .e) told, (there, (tt, tt)))
+    (λ top. fault-told (a .walk .space .registers) (a .walk .space .entry) (a .walk .asked .address) (a .walk .asked .write) (a .level) (a .at) (record { top = top; writable = a .writable; flags = take (a .count) (a .flags .now) }) (a .e) told, (there, (tt, tt)))
 
 pub level-step-spec : {M : Type 1} → statement M
 level-step-spec =

@@ -26,7 +26,7 @@ returns c =
     let page = rw (g .1) at (s .pre .3) in
     let grows = rw (g .1) at (s .pre .4) in
     let host = c .before .before .host-address .ensures in (
-      λ flags. rw (g .1, host) (page-last (w .registers) (w .entry) (w .asked .address) (w .asked .write) (n .0) (n .1 .0) (hostAddress (n .1 .0) (n .0) (w .asked .address)) (take (n .1 .1 .1 .0) flags) (c .if1 .taken)),
+      λ flags. rw (g .1, host) (page-last (w .space .registers) (w .space .entry) (w .asked .address) (w .asked .write) (n .0) (n .1 .0) (hostAddress (n .1 .0) (n .0) (w .asked .address)) (take (n .1 .1 .1 .0) flags) (c .if1 .taken)),
       (refl, ((page .0, page .1, page .2), omega (arith, grows))),
     )
 
@@ -59,7 +59,7 @@ returns-3 c =
     let n = g .0 in
     let grows = rw (g .1) at (s .pre .4) in
     let host = c .before .before .host-address .ensures in (
-      λ flags. rw (g .1, host) (page-next (w .registers) (w .entry) (w .asked .address) (w .asked .write) (n .0) (n .1 .0) (hostAddress (n .1 .0) (n .0) (w .asked .address)) (handed false (take (n .1 .1 .1 .0) flags)) (c .if1 .left)),
+      λ flags. rw (g .1, host) (page-next (w .space .registers) (w .space .entry) (w .asked .address) (w .asked .write) (n .0) (n .1 .0) (hostAddress (n .1 .0) (n .0) (w .asked .address)) (handed false (take (n .1 .1 .1 .0) flags)) (c .if1 .left)),
       (
         rw (g .1),
         (
@@ -74,7 +74,7 @@ returns-4 c =
     let s = c .before .before .before in
     let w = s .args .walk in
     let g = c .before .step3 .given in
-    (λ flags. rw (g .1) (fault-last (w .registers) (w .entry) (w .asked .address) (w .asked .write) _ _), (rw (g .1), (tt, tt)))
+    (λ flags. rw (g .1) (fault-last (w .space .registers) (w .space .entry) (w .asked .address) (w .asked .write) _ _), (rw (g .1), (tt, tt)))
 
 pub after-level-spec : {M : Type 1} → statement M
 after-level-spec =

@@ -53,12 +53,12 @@ returns c =
     let n = c .after-level in
     let handed-in = handed (a .stage .top) (take (a .stage .count) (a .flags .now)) in
     let this : a .stage .level ≡ suc (a .stage .level - 1) = omega (arith, told .0) in
-    let over = entered (w .registers) (w .entry) (w .asked .address) (w .asked .write) m (a .stage .level - 1) (a .stage .at) handed-in (told .4) in
+    let over = entered (w .space .registers) (w .space .entry) (w .asked .address) (w .asked .write) m (a .stage .level - 1) (a .stage .at) handed-in (told .4) in
     let stepped = rw this at (e .ensures .0) in
-    let there = entered-at (w .registers) (w .entry) (w .asked .address) (w .asked .write) m (a .stage .level - 1) (a .stage .at) handed-in (told .4) (entryAt (a .stage .last)) in
+    let there = entered-at (w .space .registers) (w .space .entry) (w .asked .address) (w .asked .write) m (a .stage .level - 1) (a .stage .at) handed-in (told .4) (entryAt (a .stage .last)) in
     turned (n .result) w (a .stage) m (a .flags .now) (e .last .1 .1 .1 .1 .1 .1 .0) _ (levelPlace (e .result)) (n .ensures .0 _) (n .ensures .1 .0) (n .ensures .1 .1)
-    (onward (w .registers) (w .entry) (w .asked .address) (w .asked .write) m (a .stage .level) (a .stage .at) handed-in (told .0) _ (stepped ∙ over))
-    (onward-at (w .registers) (w .entry) (w .asked .address) (w .asked .write) m (a .stage .level) (a .stage .at) handed-in (told .0) (entryAt (a .stage .last)) (e .ensures .1 .0 ∙ there) _ (stepped ∙ over))
+    (onward (w .space .registers) (w .space .entry) (w .asked .address) (w .asked .write) m (a .stage .level) (a .stage .at) handed-in (told .0) _ (stepped ∙ over))
+    (onward-at (w .space .registers) (w .space .entry) (w .asked .address) (w .asked .write) m (a .stage .level) (a .stage .at) handed-in (told .0) (entryAt (a .stage .last)) (e .ensures .1 .0 ∙ there) _ (stepped ∙ over))
 
 same-length-2 : tie.Need-same-length-2
 same-length-2 c = search needs

@@ -21,25 +21,25 @@ module _ (s : tie.Start) where
   memory = ofWindows (s .args .windows .now) (s .args .image .now)
 
   abbrev wanted : Wanted
-  wanted = wantedAt (s .args .walk .entry) (s .args .walk .asked .write) (s .args .stage .level)
+  wanted = wantedAt (s .args .walk .space .entry) (s .args .walk .asked .write) (s .args .stage .level)
 
   abbrev way : Wanted → Rules Walked
-  way w = intermediateRules (s .args .walk .registers) (s .args .walk .entry) w (s .args .address) (take (s .args .stage .count) (s .args .flags .now))
+  way w = intermediateRules (s .args .walk .space .registers) (s .args .walk .space .entry) w (s .args .address) (take (s .args .stage .count) (s .args .flags .now))
 
 overflows-requires : tie.Need-overflows-requires
-overflows-requires c κs = c .before .before .before .pre .1 .1
+overflows-requires c κs = c .before .before .before .before .pre .1 .1
 
 returns : tie.Need-returns
 returns c =
-    let s = c .before .before .before .before .before in
+    let s = c .before .before .before .before .before .before in
     let a = s .args in
     let over = sym (c .before .overflows .ensures) ∙ c .if1 .taken in
     let flags = take (a .stage .count) (a .flags .now) in
-    (beyond (a .walk .registers) (a .walk .entry) (wanted s) (a .address) flags (memory s) over, (beyond-at (a .walk .registers) (a .walk .entry) (wanted s) (a .address) flags (memory s) (entryAt (a .stage .last)) over, (tt, tt)))
+    (beyond (a .walk .space .registers) (a .walk .space .entry) (wanted s) (a .address) flags (memory s) over, (beyond-at (a .walk .space .registers) (a .walk .space .entry) (wanted s) (a .address) flags (memory s) (entryAt (a .stage .last)) over, (tt, tt)))
 
 second-walk-requires : tie.Need-second-walk-requires
 second-walk-requires c κs =
-    let pre = c .before .before .before .before .before .before .before .pre in
+    let pre = c .before .before .before .before .before .before .before .before .pre in
     (pre .0, pre .1 .0, pre .1 .1, pre .1 .2, pre .1 .3, omega (arith, pre .1 .1, pre .2))
 
 same-length : tie.Need-same-length
@@ -49,12 +49,12 @@ returns-2 : tie.Need-returns-2
 returns-2 c =
     let w = c .before .before .second-walk in
     let asked = c .before .before .before .before .wanted-at in
-    let s = c .before .before .before .before .before .before .before .before .before .before in
+    let s = c .before .before .before .before .before .before .before .before .before .before .before in
     let a = s .args in
     let inside = sym (c .before .before .before .before .before .before .overflows .ensures) ∙ c .before .before .before .before .before .if1 .left in
-    let same = within (a .walk .registers) (a .walk .entry) (asked .result) (a .address) (take (a .stage .count) (a .flags .now)) inside in
+    let same = within (a .walk .space .registers) (a .walk .space .entry) (asked .result) (a .address) (take (a .stage .count) (a .flags .now)) inside in
     let is = same ∙ ap (way s) (asked .ensures) in
-    (w .ensures .0 ∙ ap (λ q. run q (memory s)) is, (subst (λ q. Names (w .result) (lastTried (entryAt (a .stage .last)) q (memory s))) is (w .ensures .1 .0 (entryAt (a .stage .last))), (w .ensures .1 .1 .0, grown-more (w .result) (a .stage .count) (a .stage .count + a .walk .entry .«second_levels» + 1) (a .stage .count + 6) (omega (arith, s .pre .1 .1)) (w .ensures .1 .1 .1))))
+    (w .ensures .0 ∙ ap (λ q. run q (memory s)) is, (subst (λ q. Names (w .result) (lastTried (entryAt (a .stage .last)) q (memory s))) is (w .ensures .1 .0 (entryAt (a .stage .last))), (w .ensures .1 .1 .0, grown-more (w .result) (a .stage .count) (a .stage .count + a .walk .space .entry .«second_levels» + 1) (a .stage .count + 6) (omega (arith, s .pre .1 .1)) (w .ensures .1 .1 .1))))
 
 pub intermediate-spec : {M : Type 1} → statement M
 intermediate-spec =

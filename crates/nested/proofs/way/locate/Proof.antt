@@ -64,7 +64,7 @@ place-of-requires : tie.Need-place-of-requires
 place-of-requires c κs =
     let s = c .before .before .before in
     let fits = s .pre .1 in
-    (few (s .args .walk .entry) (s .args .stage) fits, λ more. (fits .0 more .2, fits .0 more .3))
+    (few (s .args .walk .space .entry) (s .args .stage) fits, λ more. (fits .0 more .2, fits .0 more .3))
 
 returns : tie.Need-returns
 returns c =
@@ -73,21 +73,21 @@ returns c =
     let at = c .before .before .place-of in
     let other = neither _ _ (sym (c .before .through-second .ensures) ∙ off (c .before .through-second .result) (c .if1 .taken)) in
     let more = some (s .args .stage .level) (eqb-false (s .args .stage .level) 0 (other .0)) in
-    let place = entry-place (w .registers) (w .entry) (w .asked .address) (w .asked .write) (memory s) (s .args .stage .level) (s .args .stage .at) (at .result) (given s) (at .ensures .0) more in
+    let place = entry-place (w .space .registers) (w .space .entry) (w .asked .address) (w .asked .write) (memory s) (s .args .stage .level) (s .args .stage .at) (at .result) (given s) (at .ensures .0) more in
     let fine = at .ensures .1 more in (
       more,
       fine .0,
       omega (arith, fine .1),
       omega arith,
-      itself (w .registers) (w .entry) (given s) (at .result) (memory s) (eqb-false (w .entry .kind) 3 (other .1))
-          ∙ ap (λ (x : ℕ). run (locate (w .registers) (w .entry) (given s) x) (memory s)) place,
+      itself (w .space .registers) (w .space .entry) (given s) (at .result) (memory s) (eqb-false (w .space .entry .kind) 3 (other .1))
+          ∙ ap (λ (x : ℕ). run (locate (w .space .registers) (w .space .entry) (given s) x) (memory s)) place,
     )
 
 intermediate-requires : tie.Need-intermediate-requires
 intermediate-requires c κs =
     let s = c .before .before .before .before .before .before .before in
     let second = sym (c .before .before .through-second .ensures) ∙ on (c .before .before .through-second .result) (c .before .if1 .left) in
-    let may = asks (s .args .walk .entry) (s .args .stage) (s .pre .1) second in
+    let may = asks (s .args .walk .space .entry) (s .args .stage) (s .pre .1) second in
     (s .pre .0, may .0, omega (arith, may .1, s .pre .2))
 
 host-address-requires : tie.Need-host-address-requires
@@ -110,9 +110,9 @@ returns-2 c =
     let page = rw (g .1) at (i .ensures .1 .1 .0) in
     let grown = rw (g .1) at (i .ensures .1 .1 .1) in
     let second = sym (c .before .before .before .before .before .before .before .before .before .before .before .through-second .ensures) ∙ on (c .before .before .before .before .before .before .before .before .before .before .before .through-second .result) (c .before .before .before .before .before .before .before .before .before .before .if1 .left) in
-    let may = asks (w .entry) (s .args .stage) (s .pre .1) second in (
+    let may = asks (w .space .entry) (s .args .stage) (s .pre .1) second in (
       rw (c .before .before .host-address .ensures)
-          (page-found (w .registers) (w .entry) (w .asked .address) (w .asked .write) (memory s) (s .args .stage .level) (s .args .stage .at) (at .result) (given s) (at .ensures .0) (c .if2 .taken) told),
+          (page-found (w .space .registers) (w .space .entry) (w .asked .address) (w .asked .write) (memory s) (s .args .stage .level) (s .args .stage .at) (at .result) (given s) (at .ensures .0) (c .if2 .taken) told),
       refl,
       (page .0, page .1, page .2),
       omega (arith, grown .1, may .1),
@@ -134,7 +134,7 @@ returns-3 c =
     let grown = rw (g .1) at (i .ensures .1 .1 .1) in
     let second = sym (c .before .before .before .before .before .before .before .before .before .before .before .through-second .ensures) ∙ on (c .before .before .before .before .before .before .before .before .before .before .before .through-second .result) (c .before .before .before .before .before .before .before .before .before .before .if1 .left) in
     let more = some (s .args .stage .level) (c .if2 .left) in
-    let three = nested (w .registers) (w .entry) (w .asked .address) (w .asked .write) (s .args .stage .level) (ne-eqb (s .args .stage .level) 0 (c .if2 .left)) second in
+    let three = nested (w .space .registers) (w .space .entry) (w .asked .address) (w .asked .write) (s .args .stage .level) (ne-eqb (s .args .stage .level) 0 (c .if2 .left)) second in
     let host = c .before .before .host-address .ensures in
     let fine = host-aligned (g .0 .1 .0) (g .0 .0) (at .result) (page .1) (page .2) (page .0) (page .3) (at .ensures .1 more .0) in (
       more,
@@ -142,7 +142,7 @@ returns-3 c =
       rw host (fine .1),
       grown .1,
       rw host
-          (entry-found (w .registers) (w .entry) (w .asked .address) (w .asked .write) (memory s) (s .args .stage .level) (s .args .stage .at) (at .result) (given s) (at .ensures .0) more three told),
+          (entry-found (w .space .registers) (w .space .entry) (w .asked .address) (w .asked .write) (memory s) (s .args .stage .level) (s .args .stage .at) (at .result) (given s) (at .ensures .0) more three told),
     )
 
 same-length-3 : tie.Need-same-length-3
@@ -158,8 +158,8 @@ returns-4 c =
     let told = rw (g .1) at (i .ensures .0) in
     let there = rw (g .1) at (i .ensures .1 .0) in
     let second = sym (c .before .before .before .before .before .before .before .before .through-second .ensures) ∙ on (c .before .before .before .before .before .before .before .before .through-second .result) (c .before .before .before .before .before .before .before .if1 .left) in (
-      faulted (w .registers) (w .entry) (w .asked .address) (w .asked .write) (memory s) (s .args .stage .level) (s .args .stage .at) (at .result) (given s) (at .ensures .0) second told,
-      faulted-at (w .registers) (w .entry) (w .asked .address) (w .asked .write) (memory s) (s .args .stage .level) (s .args .stage .at) (at .result) (given s) (at .ensures .0) second told (entryAt (s .args .stage .last)) there,
+      faulted (w .space .registers) (w .space .entry) (w .asked .address) (w .asked .write) (memory s) (s .args .stage .level) (s .args .stage .at) (at .result) (given s) (at .ensures .0) second told,
+      faulted-at (w .space .registers) (w .space .entry) (w .asked .address) (w .asked .write) (memory s) (s .args .stage .level) (s .args .stage .at) (at .result) (given s) (at .ensures .0) second told (entryAt (s .args .stage .last)) there,
       tt,
       tt,
     )

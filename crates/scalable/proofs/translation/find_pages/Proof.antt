@@ -33,7 +33,7 @@ module _ (r : ScalableRegisters) (p : PasidEntry) (address : ℕ) (write : Bool)
   first-too other fine = rw (ne-eqb (p .kind) 2 other, fine)
 
 overflows-requires : tie.Need-overflows-requires
-overflows-requires c κs = c .before .before .before .before .before .pre .1 .0 (c .if1 .taken) .1
+overflows-requires c κs = c .before .before .before .before .before .before .pre .1 .0 (c .if1 .taken) .1
 
 returns : tie.Need-returns
 unfolding pagedRules secondPages run lastTried
@@ -42,7 +42,7 @@ returns c =
     (rw (eq-eqb _ 2 (n .before .if1 .taken), ← n .overflows .ensures, c .if2 .taken), (rw (eq-eqb _ 2 (n .before .if1 .taken), ← n .overflows .ensures, c .if2 .taken), (tt, tt)))
 
 not-canonical-requires : tie.Need-not-canonical-requires
-not-canonical-requires c κs = c .before .before .before .before .before .pre .1 .1 (c .if1 .left) .1
+not-canonical-requires c κs = c .before .before .before .before .before .before .pre .1 .1 (c .if1 .left) .1
 
 returns-2 : tie.Need-returns-2
 unfolding pagedRules run lastTried
@@ -51,19 +51,23 @@ returns-2 c =
     (rw (ne-eqb _ _ (n .before .if1 .left), ← n .not-canonical .ensures, c .if3 .taken), (rw (ne-eqb _ _ (n .before .if1 .left), ← n .not-canonical .ensures, c .if3 .taken), (tt, tt)))
 
 walk-pages-requires : tie.Need-walk-pages-requires
-walk-pages-requires c κs = c .before .before .before .before .before .before .pre
+walk-pages-requires c κs = c .before .before .before .before .before .before .before .pre
 
 returns-3 : tie.Need-returns-3
 returns-3 c =
     let k = c .before .before in
     let t = k .before .before in
-    let s = t .before .before .before .before .before in
+    let s = t .before .before .before .before .before .before in
     let a = s .args in
     let m = ofWindows (a .windows .now) (a .image .now) in
     let e = k .walk-pages .ensures in
-    let same : kindRules (a .registers) (a .entry) (a .asked .address) (a .asked .write) ≡ pagedRules (a .registers) (a .asked .address) (a .asked .write) (a .entry) =
-    ⊎-elim (λ x. second-alone (a .registers) (a .entry) (a .asked .address) (a .asked .write) (x .0 .taken) (sym (x .1 .ensures) ∙ x .2 .left))
-    (λ x. first-too (a .registers) (a .entry) (a .asked .address) (a .asked .write) (x .0 .left) (sym (x .1 .ensures) ∙ x .2 .left)) (t .if1 .came) in
+    let r = a .walk .space .registers in
+    let p = a .walk .space .entry in
+    let address = a .walk .asked .address in
+    let write = a .walk .asked .write in
+    let same : kindRules r p address write ≡ pagedRules r address write p =
+    ⊎-elim (λ x. second-alone r p address write (x .0 .taken) (sym (x .1 .ensures) ∙ x .2 .left))
+    (λ x. first-too r p address write (x .0 .left) (sym (x .1 .ensures) ∙ x .2 .left)) (t .if1 .came) in
     (e .0 ∙ ap (λ q. run q m) same, (subst (λ q. PagesNames (k .walk-pages .result) (lastTried (entryAt (a .at)) q m)) same (e .1), (e .2, e .3)))
 
 pub find-pages-spec : {M : Type 1} → statement M

@@ -1,9 +1,11 @@
 use Prim.Native.Nat.{ℕ}
 use mathlib.Core.Path.{_≡_, refl, ap, sym, _∙_, subst}
+use lib.ListN.{length}
 use Rattle.image.specs.Memory.{Memory}
 use Rattle.image.specs.Place.{Place, noEntry, lastTried}
 use Rattle.image.specs.Rules.{Rules, run}
 use Rattle.image.specs.Windows.{ofWindows}
+use Rattle.image.proofs.GoodWindows.{three-each}
 use Rattle.pasid.specs.Reason.{numberOf}
 use Rattle.scalable.specs.Answers.{lookupOf, lookupPlace, TranslationNames}
 use Rattle.scalable.specs.Lookup.{Lookup, pasidEntry, noPasidEntry, lookupRules}
@@ -38,19 +40,24 @@ module _ (s : tie.Start) where
       ∙ ap (λ (x : Lookup). lastTried (lastTried noEntry first memory) (next x) memory) told
       ∙ sym (looked-up-at (s .args .registers) (s .args .request .address) (s .args .request .write) (s .args .request .pasid) (s .args .request .source .id) memory noEntry)
 
+first-span-requires : tie.Need-first-span-requires
+first-span-requires c κs =
+    let s = c .before .before .before .before .before .before .before in
+    three-each (s .args .windows .now) (length (s .args .image .now)) (s .pre .0) .1
+
 translate-in-requires : tie.Need-translate-in-requires
 translate-in-requires c κs =
-    let e = c .before .before in
+    let e = c .before .before .before in
     let f = e .before .before in
     let s = f .before .before .before .before in
     let told = sym (ap lookupOf (e .at .given .1)) ∙ f .find-pasid-entry .ensures .0 in
     let good = Finds (s .args .registers) (s .pre .2) in
-    (s .pre .0, subst good (sym told) (finds (s .args .registers) (s .pre .2) (s .args .request .pasid) (s .args .request .source .id) (memory s)), s .pre .3)
+    ((s .pre .0, c .before .first-span .ensures), subst good (sym told) (finds (s .args .registers) (s .pre .2) (s .args .request .pasid) (s .args .request .source .id) (memory s)), s .pre .3)
 
 returns : tie.Need-returns
 returns c =
     let k = c .before .before in
-    let e = k .before .before .before in
+    let e = k .before .before .before .before in
     let f = e .before .before in
     let s = f .before .before .before .before in
     let told = sym (ap lookupOf (e .at .given .1)) ∙ f .find-pasid-entry .ensures .0 in
@@ -75,6 +82,7 @@ translate-spec =
     (tie.spec
     (λ c κs. search needs)
     (λ c. search needs)
+    first-span-requires
     translate-in-requires
     (λ c. search needs)
     (λ c. search needs)

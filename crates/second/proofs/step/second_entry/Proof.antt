@@ -26,7 +26,7 @@ returns c =
     let m = ofWindows (a .windows .now) (a .image .now) in
     let none = sym (ap fetched8 (c .before .enum-told .given .1)) ∙ f .page-entry8-by .ensures .0
     ∙ ap (λ (i : ℕ). entry 1 m (a .table + 8 * i)) (index-of (a .address) (a .below)) in (
-      rw (c .unfetchable .ensures) (unfetched (a .registers) (a .entry) (a .wanted) (a .address) m (a .below) (a .table) (handedBy (a .above) (a .flags .now)) none),
+      rw (c .unfetchable .ensures) (unfetched (a .space .registers) (a .space .entry) (a .wanted) (a .address) m (a .below) (a .table) (handedBy (a .above) (a .flags .now)) none),
       (there s, (tt, tt)),
     )
 
@@ -40,7 +40,7 @@ returns-2 c =
     let m = ofWindows (a .windows .now) (a .image .now) in
     let here = sym (ap fetched8 (e .e .given .1)) ∙ f .page-entry8-by .ensures .0
     ∙ ap (λ (i : ℕ). entry 1 m (a .table + 8 * i)) (index-of (a .address) (a .below)) in
-    let stepped = fetched (a .registers) (a .entry) (a .wanted) (a .address) m (a .below) (a .table) (handedBy (a .above) (a .flags .now)) here in (
+    let stepped = fetched (a .space .registers) (a .space .entry) (a .wanted) (a .address) m (a .below) (a .table) (handedBy (a .above) (a .flags .now)) here in (
       k .second-step .ensures .0 ∙ rw (add-one (a .below), index-of (a .address) (a .below)) stepped,
       (subst (λ (p : Place). StepNames (k .second-step .result) p) (there s) (k .second-step .ensures .1 .0), k .second-step .ensures .1 .1),
     )

@@ -1,10 +1,9 @@
 use Prim.Native.Nat.{ℕ}
-use mathlib.Core.Bool.{true, false, not, _&&_, _||_}
+use mathlib.Core.Bool.{true, false, not, _||_}
 use mathlib.Core.List.{List, _++_}
 use mathlib.Core.Path.{_≡_, refl, ap, sym, _∙_}
 use native.Mathlib.Omega.{arith}
 use lib.Dec.{lit≤}
-use Rattle.image.specs.Bits.{bit}
 use Rattle.image.proofs.Fields.{in-place-lt}
 use Rattle.dma.specs.Page.{pageReserved}
 use Rattle.dma.proofs.Reserved.{low-leaf}
@@ -34,29 +33,36 @@ some c =
     let k = c .before .before in
     rw (← k .join .ensures .0, ← k .join .ensures .1) (rights.some-left (k .join .result) (λ z. c .if1 .left (c .before .field .ensures ∙ z)))
 
-clear : (c : tie.Else2) → let a = start (c .before .before .before .before) .args in pageReserved (a .registers .base) (a .level) (a .e) ≡ false
+clear : (c : tie.Else2) → let a = start (c .before .before .before .before) .args in pageReserved (a .space .registers .base) (a .level) (a .e) ≡ false
 clear c = sym (c .before .page-reserved .ensures) ∙ c .if2 .left
 
 snooped : (c : tie.Else3) → let a = start (c .before .before .before .before .before .before) .args in
-    flagsNotSnooped (a .registers) (a .entry) (a .wanted .write) (a .level) (a .e) ≡ false
+    flagsNotSnooped (a .space .registers) (a .space .entry) (a .wanted .write) (a .level) (a .e) ≡ false
 snooped c = sym (c .before .flags-not-snooped .ensures) ∙ c .if3 .left
 
-all : (c : tie.Else4) → let a = start (c .before .before .before .before .before .before .before .before) .args in
-    (a .wanted .write && not (bit (a .e) 1) || a .wanted .read && not (bit (a .e) 0)) ≡ false
-all c = sym (c .before .lacks .ensures) ∙ c .if4 .left
+abbrev joined : tie.Else4 → tie.After-join
+joined c = c .before .before .before .before .before .before .before .before
+
+passed : (c : tie.Else4) → let k = joined c in
+    let a = start k .args in
+    step.Passed (a .space .registers) (a .space .entry) (a .wanted) (a .level) (a .at) (above k) (a .e)
+passed c =
+    let e3 = c .before .before in
+    let e2 = e3 .before .before in
+    (some (e2 .before .before), clear e2, snooped e3, sym (c .before .lacks .ensures) ∙ c .if4 .left)
 
 returns : tie.Need-returns
 returns c =
     let k = c .before .before in
     let a = start k .args in
-    (step.none-left (a .registers) (a .entry) (a .wanted) (a .level) (a .at) (above k) (a .e) (none c), (refl, (tt, tt)))
+    (step.none-left (a .space .registers) (a .space .entry) (a .wanted) (a .level) (a .at) (above k) (a .e) (none c), (refl, (tt, tt)))
 
 returns-2 : tie.Need-returns-2
 returns-2 c =
     let e = c .before .before in
     let k = e .before .before in
     let a = start k .args in
-    (step.reserved (a .registers) (a .entry) (a .wanted) (a .level) (a .at) (above k) (a .e) (some e) (sym (c .before .page-reserved .ensures) ∙ c .if2 .taken), (refl, (tt, tt)))
+    (step.reserved (a .space .registers) (a .space .entry) (a .wanted) (a .level) (a .at) (above k) (a .e) (some e) (sym (c .before .page-reserved .ensures) ∙ c .if2 .taken), (refl, (tt, tt)))
 
 returns-3 : tie.Need-returns-3
 returns-3 c =
@@ -64,7 +70,7 @@ returns-3 c =
     let e1 = e2 .before .before in
     let k = e1 .before .before in
     let a = start k .args in (
-      step.not-snooped (a .registers) (a .entry) (a .wanted) (a .level) (a .at) (above k) (a .e) (some e1) (clear e2) (sym (c .before .flags-not-snooped .ensures) ∙ c .if3 .taken),
+      step.not-snooped (a .space .registers) (a .space .entry) (a .wanted) (a .level) (a .at) (above k) (a .e) (some e1) (clear e2) (sym (c .before .flags-not-snooped .ensures) ∙ c .if3 .taken),
       (refl, (tt, tt)),
     )
 
@@ -77,7 +83,7 @@ returns-4 c =
     let k = e1 .before .before in
     let a = start k .args in (
       rw (c .denied .ensures)
-          (step.lacking (a .registers) (a .entry) (a .wanted) (a .level) (a .at) (above k) (a .e) (some e1) (clear e2) (snooped e3)
+          (step.lacking (a .space .registers) (a .space .entry) (a .wanted) (a .level) (a .at) (above k) (a .e) (some e1) (clear e2) (snooped e3)
           (sym (l .lacks .ensures) ∙ c .before .if4 .taken)),
       (refl, (tt, tt)),
     )
@@ -90,17 +96,14 @@ returns-5 c =
     let frame = c .in-place .ensures in
     let leaf = sym (t .before .is-leaf .ensures) ∙ t .if5 .taken in
     let e4 = t .before .before in
-    let e3 = e4 .before .before in
-    let e2 = e3 .before .before in
-    let e1 = e2 .before .before in
-    let k = e1 .before .before in
+    let k = joined e4 in
     let a = start k .args in (
       rw (frame, f .field2 .ensures, k .join .ensures .1, collected .0)
-          (step.to-page (a .registers) (a .entry) (a .wanted) (a .level) (a .at) (above k) (a .e) (some e1) (clear e2) (snooped e3) (all e4) leaf),
+          (step.to-page (a .space .registers) (a .space .entry) (a .wanted) (a .level) (a .at) (above k) (a .e) (passed e4) leaf),
       (
         refl,
         (
-          (rw frame (in-place-lt (a .e) 51 12 (lit≤ tt)), start k .pre .0, low-leaf (a .registers .base) (a .level) (a .e) (clear e2) leaf, rw frame (omega arith)),
+          (rw frame (in-place-lt (a .e) 51 12 (lit≤ tt)), start k .pre .0, low-leaf (a .space .registers .base) (a .level) (a .e) (passed e4 .1) leaf, rw frame (omega arith)),
           (collected .1 .0, at-most-two (a .above .count) _ (a .wanted .write) (collected .1 .1)),
         ),
       ),
@@ -111,13 +114,10 @@ returns-6 c =
     let t = c .before .before .before .before .before in
     let collected = c .before .before .before .collect2 .ensures in
     let e4 = t .before .before in
-    let e3 = e4 .before .before in
-    let e2 = e3 .before .before in
-    let e1 = e2 .before .before in
-    let k = e1 .before .before in
+    let k = joined e4 in
     let a = start k .args in (
       rw (c .in-place2 .ensures, k .join .ensures .0, k .join .ensures .1, collected .0)
-          (step.to-table (a .registers) (a .entry) (a .wanted) (a .level) (a .at) (above k) (a .e) (some e1) (clear e2) (snooped e3) (all e4)
+          (step.to-table (a .space .registers) (a .space .entry) (a .wanted) (a .level) (a .at) (above k) (a .e) (passed e4)
           (sym (t .before .is-leaf .ensures) ∙ t .if5 .left)),
       (refl, (tt, collected .1)),
     )

@@ -19,22 +19,22 @@ use Rattle.second.proofs.walk.second_walk.Statement.{statement}
 use Rattle.second.proofs.walk.second_walk.Tie as tie
 
 abbrev Inv-loop : tie.InvT-loop
-Inv-loop first windows image registers entry wanted address flags₀ count₀ level₀ table₀ rights₀ n₀ flags level table rights n =
+Inv-loop windows image space wanted address flags₀ count₀ level₀ table₀ rights₀ n₀ flags level table rights n =
     (0 < level)
     × (level ≤ 5)
     × (table % 4096 ≡ 0)
     × (table < 2 ^ 52)
     × (count₀ ≤ n)
-    × (n + level ≤ count₀ + entry .«second_levels»)
+    × (n + level ≤ count₀ + space .entry .«second_levels»)
     × (length flags ≡ length flags₀)
-    × (run (secondRules registers entry wanted address level table (handed (eqb level (entry .«second_levels»)) rights (take n flags))) (ofWindows windows image)
-    ≡ run (secondRules registers entry wanted address (entry .«second_levels») (entry .«second_top») (atTop (take count₀ flags₀))) (ofWindows windows image))
+    × (run (secondRules (space .registers) (space .entry) wanted address level table (handed (eqb level (space .entry .«second_levels»)) rights (take n flags))) (ofWindows windows image)
+    ≡ run (secondRules (space .registers) (space .entry) wanted address (space .entry .«second_levels») (space .entry .«second_top») (atTop (take count₀ flags₀))) (ofWindows windows image))
     × ((before before′ : Place)
-    → lastTried before (secondRules registers entry wanted address level table (handed (eqb level (entry .«second_levels»)) rights (take n flags))) (ofWindows windows image)
-    ≡ lastTried before′ (secondRules registers entry wanted address (entry .«second_levels») (entry .«second_top») (atTop (take count₀ flags₀))) (ofWindows windows image))
+    → lastTried before (secondRules (space .registers) (space .entry) wanted address level table (handed (eqb level (space .entry .«second_levels»)) rights (take n flags))) (ofWindows windows image)
+    ≡ lastTried before′ (secondRules (space .registers) (space .entry) wanted address (space .entry .«second_levels») (space .entry .«second_top») (atTop (take count₀ flags₀))) (ofWindows windows image))
 
 abbrev μ-loop : tie.MeasureT-loop
-μ-loop first windows image registers entry wanted address flags₀ count₀ level₀ table₀ rights₀ n₀ flags level table rights n = level
+μ-loop windows image space wanted address flags₀ count₀ level₀ table₀ rights₀ n₀ flags level table rights n = level
 
 abbrev memory : tie.Start Inv-loop μ-loop → Memory
 memory s = ofWindows (s .args .windows .now) (s .args .image .now)
@@ -44,7 +44,7 @@ loop-holds c =
     let s = c .before .before .before in
     let a = s .args in
     let p = s .pre in
-    let top = from-top (a .entry .«second_levels») (take (a .count) (a .flags .now)) in (
+    let top = from-top (a .space .entry .«second_levels») (take (a .count) (a .flags .now)) in (
       p .1,
       p .2,
       p .3,
@@ -52,10 +52,10 @@ loop-holds c =
       omega arith,
       omega arith,
       refl,
-      ap (λ h. run (secondRules (a .registers) (a .entry) (a .wanted) (a .address) (a .entry .«second_levels») (a .entry .«second_top») h) (memory s)) top,
+      ap (λ h. run (secondRules (a .space .registers) (a .space .entry) (a .wanted) (a .address) (a .space .entry .«second_levels») (a .space .entry .«second_top») h) (memory s)) top,
       λ before before′.
-          ap (λ h. lastTried before (secondRules (a .registers) (a .entry) (a .wanted) (a .address) (a .entry .«second_levels») (a .entry .«second_top») h) (memory s)) top
-          ∙ anew (a .registers) (a .entry) (a .wanted) (a .address) (memory s) (a .entry .«second_levels») (a .entry .«second_top») (atTop (take (a .count) (a .flags .now))) (p .1) before before′,
+          ap (λ h. lastTried before (secondRules (a .space .registers) (a .space .entry) (a .wanted) (a .address) (a .space .entry .«second_levels») (a .space .entry .«second_top») h) (memory s)) top
+          ∙ anew (a .space .registers) (a .space .entry) (a .wanted) (a .address) (memory s) (a .space .entry .«second_levels») (a .space .entry .«second_top») (atTop (take (a .count) (a .flags .now))) (p .1) before before′,
     )
 
 second-entry-requires : tie.Need-second-entry-requires Inv-loop μ-loop
@@ -66,7 +66,7 @@ second-entry-requires c κs =
 
 -- the buffer after a turn
 abbrev after : tie.After-second-entry Inv-loop μ-loop → List ℕ
-after k = k .second-entry .last .1 .1 .1 .1 .1 .1 .1 .1 .1 .1 .0
+after k = k .second-entry .last .1 .1 .1 .1 .1 .1 .1 .1 .0
 
 -- a turn of the loop
 module _ (i : tie.In-loop Inv-loop μ-loop) where
@@ -76,7 +76,7 @@ module _ (i : tie.In-loop Inv-loop μ-loop) where
   abbrev above : Handed
   above =
       let l = i .before .loop in
-      handed (eqb (l .level) (s .args .entry .«second_levels»)) (l .rights) (take (l .count) (l .flags))
+      handed (eqb (l .level) (s .args .space .entry .«second_levels»)) (l .rights) (take (l .count) (l .flags))
 
 returns : tie.Need-returns Inv-loop μ-loop
 returns c =
@@ -86,7 +86,7 @@ returns c =
     let a = s i .args in
     let is = told (after k) (c .before .step .given .1) (k .second-entry .ensures .0) in
     let grown = subst (λ r. StepGrown r (l .count)) (c .before .step .given .1) (k .second-entry .ensures .1 .1 .1) in (
-      ended (a .registers) (a .entry) (a .wanted) (a .address) (memory (s i)) (l .level) (l .table) (above i) (l .inv .0) is ∙ l .inv .7,
+      ended (a .space .registers) (a .space .entry) (a .wanted) (a .address) (memory (s i)) (l .level) (l .table) (above i) (l .inv .0) is ∙ l .inv .7,
       (λ before. refl, (subst StepReachable (c .before .step .given .1) (k .second-entry .ensures .1 .1 .0), (omega (arith, grown .0, l .inv .4), omega (arith, grown .1, l .inv .5, l .inv .0)))),
     )
 
@@ -98,10 +98,10 @@ returns-2 c =
     let a = s i .args in
     let is = told (after k) (c .before .step2 .given .1) (k .second-entry .ensures .0) in
     let there = sym (ap (λ r. stepPlace r (entryAt (placeIn (a .address) (l .table) (l .level - 1)))) (c .before .step2 .given .1)) ∙ k .second-entry .ensures .1 .0 in (
-      ended (a .registers) (a .entry) (a .wanted) (a .address) (memory (s i)) (l .level) (l .table) (above i) (l .inv .0) is ∙ l .inv .7,
+      ended (a .space .registers) (a .space .entry) (a .wanted) (a .address) (memory (s i)) (l .level) (l .table) (above i) (l .inv .0) is ∙ l .inv .7,
       (
         λ before.
-            there ∙ sym (ended-at (a .registers) (a .entry) (a .wanted) (a .address) (memory (s i)) (l .level) (l .table) (above i) (l .inv .0) before is)
+            there ∙ sym (ended-at (a .space .registers) (a .space .entry) (a .wanted) (a .address) (memory (s i)) (l .level) (l .table) (above i) (l .inv .0) before is)
             ∙ l .inv .8 before before,
         (tt, tt),
       ),
@@ -114,10 +114,10 @@ loop-again c =
     let l = i .before .loop in
     let a = s i .args in
     let d = c .before .step3 .given .0 in
-    let below = under-top (l .level - 1) (a .entry .«second_levels») (d .1 .0) (take (d .1 .1 .0) (after k)) (omega (arith, l .inv .0, l .inv .4, l .inv .5)) in
+    let below = under-top (l .level - 1) (a .space .entry .«second_levels») (d .1 .0) (take (d .1 .1 .0) (after k)) (omega (arith, l .inv .0, l .inv .4, l .inv .5)) in
     let is = ap (down (d .0)) below ∙ told (after k) (c .before .step3 .given .1) (k .second-entry .ensures .0) in
     let grown = subst (λ r. StepGrown r (l .count)) (c .before .step3 .given .1) (k .second-entry .ensures .1 .1 .1) in
-    let next = down-to (a .registers) (a .entry) (a .wanted) (a .address) (memory (s i)) (l .level - 1) (l .table) (above i) is in (
+    let next = down-to (a .space .registers) (a .space .entry) (a .wanted) (a .address) (memory (s i)) (l .level - 1) (l .table) (above i) is in (
       next .2,
       omega (arith, l .inv .1),
       next .0,
@@ -125,10 +125,10 @@ loop-again c =
       omega (arith, grown .0, l .inv .4),
       omega (arith, grown .1, l .inv .5, l .inv .0),
       c .before .before .before .before .flags .given ∙ l .inv .6,
-      led (a .registers) (a .entry) (a .wanted) (a .address) (memory (s i)) (l .level) (l .table) (above i) (l .inv .0) is ∙ l .inv .7,
+      led (a .space .registers) (a .space .entry) (a .wanted) (a .address) (memory (s i)) (l .level) (l .table) (above i) (l .inv .0) is ∙ l .inv .7,
       λ before before′.
-          anew (a .registers) (a .entry) (a .wanted) (a .address) (memory (s i)) (l .level - 1) _ _ (next .2) before _
-          ∙ sym (led-at (a .registers) (a .entry) (a .wanted) (a .address) (memory (s i)) (l .level) (l .table) (above i) (l .inv .0) before is)
+          anew (a .space .registers) (a .space .entry) (a .wanted) (a .address) (memory (s i)) (l .level - 1) _ _ (next .2) before _
+          ∙ sym (led-at (a .space .registers) (a .space .entry) (a .wanted) (a .address) (memory (s i)) (l .level) (l .table) (above i) (l .inv .0) before is)
           ∙ l .inv .8 before before′,
     )
 
