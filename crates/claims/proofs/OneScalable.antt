@@ -5,8 +5,7 @@ use native.Mathlib.Omega.{arith}
 use lib.Dec.{eqb}
 use Rattle.image.specs.Choice.{if_then_else_}
 use Rattle.image.proofs.Places.{placeOf-injective}
-use Rattle.faults.specs.Record.{FaultAnswer}
-use Rattle.faults.proofs.Contents.{two-words-injective}
+use Rattle.faults.proofs.Contents.{one-fault}
 use Rattle.pasid.specs.Answers.{faultOf}
 use Rattle.pasid.specs.Reason.{numberOf}
 use Rattle.pasid.specs.declared.fault.ScalableFault.{ScalableFault}
@@ -89,14 +88,8 @@ numberOf-injective : (r s : ScalableReason) → numberOf r ≡ numberOf s → r 
 numberOf-injective r s same = sym (back r) ∙ ap reasonOf same ∙ back s
 
 faultOf-injective : (f g : ScalableFault) → f .low < 2 ^ 64 → g .low < 2 ^ 64 → faultOf f ≡ faultOf g → f ≡ g
-faultOf-injective f g hf hg e i =
-    let words = two-words-injective hf hg (ap (λ (a : FaultAnswer). a .contents) e) in
-    record {
-      reason = numberOf-injective (f .reason) (g .reason) (ap (λ (a : FaultAnswer). a .reason) e) i;
-      recordable = e i .recordable;
-      low = words .0 i;
-      high = words .1 i;
-    }
+faultOf-injective f g =
+    one-fault numberOf numberOf-injective (λ reason may low high. record { reason = reason; recordable = may; low = low; high = high })
 
 pub one-scalable-answer : OneScalableAnswer
 one-scalable-answer (Granted x) (Granted y) sr ss e p = cc

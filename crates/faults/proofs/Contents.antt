@@ -9,6 +9,7 @@ use Rattle.image.specs.Bits.{bits, inPlace}
 use Rattle.image.specs.Entries.{spell}
 use Rattle.faults.specs.declared.fault.Fault.{Fault}
 use Rattle.faults.specs.Answers.{faultOf, highWord}
+use Rattle.faults.specs.Reason.{numberOf}
 use Rattle.faults.proofs.Numbers.{numberOf-injective}
 use Rattle.faults.specs.Record.{FaultAnswer, fromBit64, recordable, silenced, memoryRecord, memoryFault, translationRecord, translationFault, indexField, interruptRecord, interruptFault}
 
@@ -27,16 +28,21 @@ two-words-injective {a} {b} {c} {d} ha hc e =
     let sums = sym (two-words a b) ∙ e ∙ two-words c d in
     (omega arith, omega arith)
 
--- a fault is told by its answer: no two structs stand for the same
+-- a struct of a fault, made of a reason and its record, is told by its answer where a reason is told by its number: no two stand for the same
+module _ {Reason Struct : Type 0} (number : Reason → ℕ) (told : (r s : Reason) → number r ≡ number s → r ≡ s)
+    (made : Reason → Bool → ℕ → ℕ → Struct) where
+  pub one-fault : {r s : Reason} {may may′ : Bool} {low high low′ high′ : ℕ} → low < 2 ^ 64 → low′ < 2 ^ 64
+      → _≡_ {A = FaultAnswer}
+      (record { reason = number r; recordable = may; contents = spell (low ∷ high ∷ []) })
+      (record { reason = number s; recordable = may′; contents = spell (low′ ∷ high′ ∷ []) })
+      → made r may low high ≡ made s may′ low′ high′
+  one-fault {r} {s} h h′ e i =
+      let words = two-words-injective h h′ (ap (λ (a : FaultAnswer). a .contents) e) in
+      made (told r s (ap (λ (a : FaultAnswer). a .reason) e) i) (e i .recordable) (words .0 i) (words .1 i)
+
 pub faultOf-injective : (f g : Fault) → f .low < 2 ^ 64 → g .low < 2 ^ 64 → faultOf f ≡ faultOf g → f ≡ g
-faultOf-injective f g hf hg e i =
-    let words = two-words-injective hf hg (ap (λ (a : FaultAnswer). a .contents) e) in
-    record {
-      reason = numberOf-injective (f .reason) (g .reason) (ap (λ (a : FaultAnswer). a .reason) e) i;
-      recordable = e i .recordable;
-      low = words .0 i;
-      high = words .1 i;
-    }
+faultOf-injective f g =
+    one-fault numberOf numberOf-injective (λ reason may low high. record { reason = reason; recordable = may; low = low; high = high })
 
 upper : (low source number : ℕ) (read : Bool)
     → spell (low ∷ highWord source number read ∷ []) ≡ low + fromBit64 source number read
