@@ -36,15 +36,13 @@ use denote.Triple.Call.{calls-from}
 use Rattle.faults.specs.declared.recorder.Recorder.{Recorder}
 use Rattle.faults.specs.declared.recorder.RecorderAnswer.{RecorderAnswer}
 use Rattle.faults.specs.declared.recorder.RecorderStep.{RecorderStep}
+use Rattle.faults.proofs.InPlace.{t-vals}
 use Rattle.faults.proofs.recorder.Recorder as T
 use Rattle.faults.proofs.recorder.Recorder.Laws as T′
 use Rattle.faults.proofs.recorder.RecorderAnswer as E
 use Rattle.faults.proofs.recorder.RecorderAnswer.Laws as E′
 use Rattle.faults.proofs.recorder.RecorderStep as S
 use Rattle.faults.proofs.recorder.RecorderStep.Laws as S′
-
-abbrev t-vals : Recorder → List Val
-t-vals = LL.vals T.the-type T′.the-laws
 
 abbrev pub made : RecorderAnswer → Recorder → RecorderStep
 made a t = record { answer = a; recorder = t }
