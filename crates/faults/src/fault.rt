@@ -1,6 +1,6 @@
 // A blocked request's answer, with its record.
 ghost use mathlib.Core.Path.{_≡_};
-ghost use Prim.Native.Nat.{_^_, _<_};
+ghost use Prim.Native.Nat.{_+_, _^_, _<_};
 ghost use Rattle.faults.specs.Answers.{faultOf, highWord};
 ghost use Rattle.faults.specs.Reason.{numberOf};
 ghost use Rattle.faults.specs.Record.{within, silenced, recordable, indexField, memoryFault, translationFault, interruptFault};
@@ -17,7 +17,8 @@ pub struct Fault {
     pub recordable: bool,
 }
 
-fn lies_within(low: u8, high: u8, n: u8) -> bool
+// For the numbers of reasons.
+pub fn lies_within(low: u8, high: u8, n: u8) -> bool
     ensures { λ r. ⌜ r ≡ within low high n ⌝ }
 {
     (low <= n) & (n <= high)
@@ -43,9 +44,9 @@ fn may_record(fpd: bool, number: u8) -> bool
     !is_silenced(number)
 }
 
-// Bits 127:64 of a record.
-fn high_word(source: u16, number: u8, read: bool) -> u64
-    ensures { λ r. ⌜ r ≡ highWord source number read ⌝ }
+// Bits 127:64 of a record. It leaves room for what is added in higher bits.
+pub fn high_word(source: u16, number: u8, read: bool) -> u64
+    ensures { λ r. ⌜ (r ≡ highWord source number read) × (r < 2 ^ 63 + 2 ^ 62 + 2 ^ 40) ⌝ }
 {
     let word = source as u64 + number as u64 * 0x1_0000_0000 + 0x8000_0000_0000_0000;
     if read {

@@ -7,7 +7,9 @@ mod recorder;
 mod slots;
 
 pub use fault::Fault;
+pub use fault::high_word;
 pub use fault::interrupt_fault;
+pub use fault::lies_within;
 pub use fault::memory_fault;
 pub use fault::translation_fault;
 pub use lent::clear;

@@ -1,13 +1,13 @@
 // A blocked request's answer, with its record.
 ghost use mathlib.Core.Path.{_≡_};
 ghost use Prim.Native.Nat.{_+_, _^_, _<_};
-ghost use Rattle.faults.specs.Answers.{highWord};
-ghost use Rattle.faults.specs.Record.{within};
 ghost use Rattle.pasid.specs.Answers.{faultOf};
 ghost use Rattle.pasid.specs.Reason.{numberOf};
 ghost use Rattle.pasid.specs.Record.{silenced, recordable, pasidWord, scalableFault};
 use crate::Pasid;
 use crate::reason::ScalableReason;
+use faults::high_word;
+use faults::lies_within;
 use registers::Page4K;
 use registers::SourceId;
 
@@ -19,12 +19,6 @@ pub struct ScalableFault {
     pub high: u64,
 }
 
-fn lies_within(low: u8, high: u8, n: u8) -> bool
-    ensures { λ r. ⌜ r ≡ within low high n ⌝ }
-{
-    (low <= n) & (n <= high)
-}
-
 // FPD silences neither faults of the root entry nor access faults of the tables.
 fn may_record(fpd: bool, number: u8) -> bool
     ensures { λ r. ⌜ r ≡ recordable fpd number ⌝ }
@@ -34,18 +28,6 @@ fn may_record(fpd: bool, number: u8) -> bool
             | lies_within(0x51, 0x52, number)
             | lies_within(0x59, 0x5D, number)
             | lies_within(0x70, 0x86, number)))
-}
-
-// Bits 127:64 of a record without PASID fields.
-fn high_word(source: u16, number: u8, read: bool) -> u64
-    ensures { λ r. ⌜ (r ≡ highWord source number read) × (r < 2 ^ 63 + 2 ^ 62 + 2 ^ 40) ⌝ }
-{
-    let word = source as u64 + number as u64 * 0x1_0000_0000 + 0x8000_0000_0000_0000;
-    if read {
-        word + 0x4000_0000_0000_0000
-    } else {
-        word
-    }
 }
 
 // PASID value in 123:104, PASID present in 95: bits 59:40 and 31 of the upper word.

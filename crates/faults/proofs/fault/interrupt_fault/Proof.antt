@@ -8,7 +8,7 @@ returns : tie.Need-returns
 returns c =
     let a = c .before .before .before .before .args in
     interrupt-answered (a .fpd) (a .source .id) (c .before .before .before .number .ensures)
-    (c .before .before .may-record .ensures) (a .index) (c .before .recorded-index .ensures .0) (c .high-word .ensures)
+    (c .before .before .may-record .ensures) (a .index) (c .before .recorded-index .ensures .0) (c .high-word .ensures .0)
 
 pub interrupt-fault-spec : {M : Type 1} → statement M
 interrupt-fault-spec =

@@ -8,7 +8,7 @@ returns : tie.Need-returns
 returns c =
     let s = c .before .before .before in
     memory-answered (s .args .fpd) (s .args .source .id) (c .before .before .number .ensures) (c .before .may-record .ensures)
-    (s .args .address) (s .args .write) (s .fits .address .fits) (c .high-word .ensures)
+    (s .args .address) (s .args .write) (s .fits .address .fits) (c .high-word .ensures .0)
 
 pub memory-fault-spec : {M : Type 1} → statement M
 memory-fault-spec =

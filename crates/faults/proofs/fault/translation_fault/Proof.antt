@@ -9,7 +9,7 @@ returns : tie.Need-returns
 returns c =
     let s = c .before .before .before in
     translation-answered (s .args .fpd) (s .args .source .id) (c .before .before .number .ensures) (c .before .may-record .ensures)
-    (s .args .address) (s .fits .address .fits) (c .high-word .ensures) refl
+    (s .args .address) (s .fits .address .fits) (c .high-word .ensures .0) refl
 
 pub translation-fault-spec : {M : Type 1} → statement M
 translation-fault-spec =
