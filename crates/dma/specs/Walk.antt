@@ -15,9 +15,12 @@ abbrev pub onStep {ℓ} : {S A : Type 0} {B : Type ℓ} → Step S A → (A → 
 onStep (done a) ended next = ended a
 onStep (down table s) ended next = next table s
 
--- an entry's place at level L = n + 1: table + 8 × address bits 12+9(L-1) to 20+9(L-1)
+-- an entry's place in its table, at level L = n + 1: 8 × address bits 12+9(L-1) to 20+9(L-1)
+abbrev pub offsetIn : (address n : ℕ) → ℕ
+offsetIn address n = 8 * bits address (20 + 9 * n) (12 + 9 * n)
+
 abbrev pub placeIn : (address table n : ℕ) → ℕ
-placeIn address table n = table + 8 * bits address (20 + 9 * n) (12 + 9 * n)
+placeIn address table n = table + offsetIn address n
 
 -- an entry that can't be fetched is answered by what was handed down; a step is given the level, the entry's place, what was handed
 -- down and the entry

@@ -58,7 +58,7 @@ fn domain(e: Entry16) -> u64
     bits16(e, 87, 72)
 }
 
-fn width_supported(registers: Registers, aw: u64) -> bool
+pub fn width_supported(registers: Registers, aw: u64) -> bool
     ensures { λ r. ⌜ r ≡ widthSupported registers aw ⌝ }
 {
     // All three are read first: a load chosen by AW would keep the registers in memory.

@@ -15,6 +15,8 @@ mod walk;
 
 pub use context::Context;
 pub use context::Lookup;
+pub use context::width_supported;
+pub use entry::entry_offset;
 pub use entry::table_address;
 use faults::Fault;
 use faults::memory_fault;
@@ -22,7 +24,8 @@ pub use image::EntryAddress;
 use image::bad_windows;
 use image::first_span;
 pub use lookup::find_context;
-use page::host_address;
+pub use page::Walk;
+pub use page::host_address;
 pub use page::is_leaf;
 pub use page::meets_interrupt_range;
 pub use page::page_reserved;

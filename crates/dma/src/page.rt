@@ -13,7 +13,7 @@ ghost use Rattle.faults.specs.Reason.{numberOf};
 ghost use Rattle.dma.specs.Answers.{stepOf, StepNames};
 ghost use Rattle.dma.specs.Translation.{leaf, Reachable, checked, pageOver};
 ghost use Rattle.dma.specs.Walk.{placeIn};
-use crate::MemoryRequest;
+use crate::entry::entry_offset;
 use faults::Reason;
 use image::Found8;
 use image::Span;
@@ -24,6 +24,13 @@ use registers::Page1G;
 use registers::Page4K;
 use registers::Registers;
 use registers::at_or_above_power;
+
+// What is the same at all levels of a walk, but for the registers, which would be kept in memory as a part of it. first: the first window.
+pub struct Walk {
+    pub first: Span,
+    pub address: u64,
+    pub fpd: bool,
+}
 
 // What the walk makes of an entry. No two variants hold fields of different sizes in one place.
 pub(crate) enum Step {
@@ -98,27 +105,25 @@ fn page_check(registers: Registers, write: bool, fpd: bool, level: u32, at: u64,
 
 // One level of the walk: below is how many levels come after it.
 pub(crate) fn page_step(
-    first: Span,
     windows: &[u64],
     image: &[u8],
     registers: Registers,
-    request: MemoryRequest,
-    fpd: bool,
+    walk: Walk,
+    write: bool,
     below: u32,
     table: u64,
 ) -> Step
-    requires { ⌜ Opened first (now windows) (length (now image)) × (below < 5) × (table % 4096 ≡ 0) ⌝ }
-    ensures { λ r. ⌜ stepOf r ≡ pageOver registers (request .address) (request .write) fpd (ofWindows (now (windows .entry)) (now (image .entry))) below table ⌝ }
-    ensures { λ r. ⌜ StepNames r (entryAt (placeIn (request .address) table below)) ⌝ }
+    requires { ⌜ Opened (walk .first) (now windows) (length (now image)) × (below < 5) × (table % 4096 ≡ 0) ⌝ }
+    ensures { λ r. ⌜ stepOf r ≡ pageOver registers (walk .address) write (walk .fpd) (ofWindows (now (windows .entry)) (now (image .entry))) below table ⌝ }
+    ensures { λ r. ⌜ StepNames r (entryAt (placeIn (walk .address) table below)) ⌝ }
 {
-    let address = request.address;
-    let offset = 8 * ((address >> (Page4K::SHIFT + 9 * below)) % 512);
+    let offset = entry_offset(walk.address, below);
     let at = table + offset;
-    let Found8::Entry(e) = page_entry8_by(first, windows, image, table, offset) else {
-        return Step::Fault(Reason::PageEntryAccess, fpd, at);
+    let Found8::Entry(e) = page_entry8_by(walk.first, windows, image, table, offset) else {
+        return Step::Fault(Reason::PageEntryAccess, walk.fpd, at);
     };
     let level = below + 1;
-    let check = page_check(registers, request.write, fpd, level, at, e);
+    let check = page_check(registers, write, walk.fpd, level, at, e);
     let Step::Down(frame) = check else {
         return check;
     };
@@ -129,7 +134,7 @@ pub(crate) fn page_step(
 }
 
 // The frame plus the address's low 12, 21 or 30 bits: a shift by the level, where a choice among the page sizes costs branches.
-pub(crate) fn host_address(level: u32, frame: u64, address: u64) -> u64
+pub fn host_address(level: u32, frame: u64, address: u64) -> u64
     requires { ⌜ Reachable (leaf frame level) ⌝ }
     ensures { λ r. ⌜ r ≡ hostAddress level frame address ⌝ }
 {

@@ -14,6 +14,7 @@ use crate::MemoryRequest;
 use crate::context::Context;
 use crate::context::Lookup;
 use crate::lookup::find_context;
+use crate::page::Walk;
 use crate::walk::walk;
 use faults::Reason;
 use image::Span;
@@ -68,13 +69,17 @@ pub fn translate_in(
     if context.translation_type == 2 {
         return Translation::Through;
     }
-    walk(
+    let given = Walk {
         first,
+        address: request.address,
+        fpd: context.fpd,
+    };
+    walk(
         windows,
         image,
         registers,
-        request,
-        context.fpd,
+        given,
+        request.write,
         levels,
         context.top,
     )

@@ -9,41 +9,30 @@ ghost use Rattle.image.specs.Spans.{Opened};
 ghost use Rattle.image.specs.Windows.{ofWindows};
 ghost use Rattle.dma.specs.Answers.{translationOf, Names};
 ghost use Rattle.dma.specs.Translation.{pageRules};
-use crate::MemoryRequest;
 use crate::page::Step;
+use crate::page::Walk;
 use crate::page::page_step;
 use crate::translation::Translation;
 use faults::Reason;
-use image::Span;
 use registers::Registers;
 
 pub(crate) fn walk(
-    first: Span,
     windows: &[u64],
     image: &[u8],
     registers: Registers,
-    request: MemoryRequest,
-    fpd: bool,
+    given: Walk,
+    write: bool,
     levels: u32,
     table: u64,
 ) -> Translation
-    requires { ⌜ Opened first (now windows) (length (now image)) × (0 < levels) × (levels ≤ 5) × (table % 4096 ≡ 0) ⌝ }
-    ensures { λ r. ⌜ translationOf r ≡ run (pageRules registers (request .address) (request .write) fpd levels table) (ofWindows (now (windows .entry)) (now (image .entry))) ⌝ }
-    ensures { λ r. ⌜ ((before : Place) → Names r (lastTried before (pageRules registers (request .address) (request .write) fpd levels table) (ofWindows (now (windows .entry)) (now (image .entry))))) ⌝ }
+    requires { ⌜ Opened (given .first) (now windows) (length (now image)) × (0 < levels) × (levels ≤ 5) × (table % 4096 ≡ 0) ⌝ }
+    ensures { λ r. ⌜ translationOf r ≡ run (pageRules registers (given .address) write (given .fpd) levels table) (ofWindows (now (windows .entry)) (now (image .entry))) ⌝ }
+    ensures { λ r. ⌜ ((before : Place) → Names r (lastTried before (pageRules registers (given .address) write (given .fpd) levels table) (ofWindows (now (windows .entry)) (now (image .entry))))) ⌝ }
 {
     let mut level = levels;
     let mut at = table;
     while 0 < level {
-        let step = page_step(
-            first,
-            windows,
-            image,
-            registers,
-            request,
-            fpd,
-            level - 1,
-            at,
-        );
+        let step = page_step(windows, image, registers, given, write, level - 1, at);
         match step {
             Step::Leaf(frame, of) => return Translation::Leaf(frame, of),
             Step::Fault(reason, fpd, entry) => return Translation::Fault(reason, fpd, entry),
@@ -54,5 +43,5 @@ pub(crate) fn walk(
         }
     }
     // No step leads below level 1.
-    Translation::Fault(Reason::PageEntryAccess, fpd, at)
+    Translation::Fault(Reason::PageEntryAccess, given.fpd, at)
 }

@@ -10,8 +10,8 @@ or-false : (a : Bool) → (a || false) ≡ a
 or-false true = refl
 or-false false = refl
 
--- AW: three values
-pub of-three : (n : ℕ) (a b c : Bool)
+-- three values
+of-three : (n : ℕ) (a b c : Bool)
     → (eqb n 1 && a || eqb n 2 && b || eqb n 3 && c) ≡ (if eqb n 1 then a else if eqb n 2 then b else if eqb n 3 then c else false)
 of-three n a b c = by (eqb n 1) refl (eqb n 2) refl (eqb n 3) refl
   where

@@ -1,7 +1,6 @@
 // The PASID table entry's check.
 ghost use mathlib.Core.Path.{_≡_};
 ghost use Rattle.image.specs.Entries.{number64};
-ghost use Rattle.dma.specs.Context.{widthSupported};
 ghost use Rattle.pasid.specs.Answers.{tableChecked};
 ghost use Rattle.pasid.specs.Table.{typeSupported, modeSupported, tableInvalid, tableCheck};
 use crate::ScalableRegisters;
@@ -12,9 +11,9 @@ use crate::table::paging_mode;
 use crate::table::pasid_entry_of;
 use crate::table::table_reserved;
 use crate::table::translation_type;
+use dma::width_supported;
 use image::Entry64;
 use image::bit64;
-use registers::Registers;
 
 pub enum TableCheck {
     // Why the request ends here.
@@ -30,14 +29,6 @@ fn type_supported(registers: ScalableRegisters, pgtt: u64) -> bool
         | ((pgtt == 2) & registers.slts)
         | ((pgtt == 3) & registers.nest)
         | ((pgtt == 4) & registers.pt)
-}
-
-fn width_supported(registers: Registers, aw: u64) -> bool
-    ensures { λ r. ⌜ r ≡ widthSupported registers aw ⌝ }
-{
-    ((aw == 1) & registers.levels3)
-        | ((aw == 2) & registers.levels4)
-        | ((aw == 3) & registers.levels5)
 }
 
 fn mode_supported(registers: ScalableRegisters, flpm: u64) -> bool

@@ -12,6 +12,7 @@ ghost use Rattle.regions.specs.Region.{ended, regionStep, regionIn};
 use crate::Region;
 use crate::Tables;
 use crate::What;
+use dma::Walk;
 use dma::meets_interrupt_range;
 use faults::Reason;
 use image::Held;
@@ -88,17 +89,12 @@ pub fn table_step(
     let first = first_span(windows);
     let below = at.level - 1;
     // FPD plays no part in a listing.
-    let step = entry_step(
+    let walk = Walk {
         first,
-        windows,
-        image,
-        registers,
         address,
-        false,
-        below,
-        at.table,
-        rights,
-    );
+        fpd: false,
+    };
+    let step = entry_step(windows, image, registers, walk, below, at.table, rights);
     match step {
         Step::Page(frame, of, read, write) => {
             Onward::Ended(page_region(frame, of, Rights { read, write }))

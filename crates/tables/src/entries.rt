@@ -4,12 +4,12 @@ ghost use Prim.Native.Nat.{_+_, _^_, _≤_, _<_};
 ghost use lib.ListN.{length};
 ghost use Rattle.dma.specs.Walk.{placeIn};
 ghost use Rattle.tables.specs.Tables.{entryOf, present, mapsPage, tableOf, emptyTable, zeroed};
+use dma::entry_offset;
 use image::Found8;
 use image::fetch8;
 use image::field;
 use image::in_place;
 use image::store8;
-use registers::Page4K;
 
 pub fn entry_of(bytes: &[u8], at: u64) -> u64
     ensures { λ r. ⌜ r ≡ entryOf (now (bytes .entry)) at ⌝ }
@@ -50,7 +50,7 @@ pub(crate) fn place_of(address: u64, table: u64, below: u32) -> u64
     requires { ⌜ (table < 2 ^ 63) × (below < 5) ⌝ }
     ensures { λ r. ⌜ (r ≡ placeIn address table below) × (r < table + 4096) ⌝ }
 {
-    table + 8 * ((address >> (Page4K::SHIFT + 9 * below)) % 512)
+    table + entry_offset(address, below)
 }
 
 // None of a table's entries is present.

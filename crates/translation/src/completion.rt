@@ -15,6 +15,7 @@ use crate::TranslationRequest;
 use crate::walk::walk;
 use dma::Context;
 use dma::Lookup;
+use dma::Walk;
 use dma::find_context;
 use dma::overflows;
 use faults::Reason;
@@ -49,13 +50,16 @@ fn complete_in(
     if overflows(registers, context.levels, address) {
         return Completion::Empty;
     }
-    walk(
+    let given = Walk {
         first,
+        address,
+        fpd: context.fpd,
+    };
+    walk(
         windows,
         image,
         registers,
-        address,
-        context.fpd,
+        given,
         context.levels,
         context.top,
     )

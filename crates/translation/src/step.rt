@@ -10,15 +10,15 @@ ghost use Rattle.dma.specs.Walk.{placeIn};
 ghost use Rattle.translation.specs.Answers.{stepOf, StepNames};
 ghost use Rattle.translation.specs.Completion.{entryStep, entryOver};
 use crate::Rights;
+use dma::Walk;
+use dma::entry_offset;
 use dma::is_leaf;
 use dma::page_reserved;
 use faults::Reason;
 use image::Found8;
-use image::Span;
 use image::field;
 use image::in_place;
 use image::page_entry8_by;
-use registers::Page4K;
 use registers::Registers;
 
 pub enum Step {
@@ -57,24 +57,22 @@ fn joined_step(registers: Registers, above: Rights, fpd: bool, level: u32, at: u
 
 // One level of the walk: below is how many levels come after it.
 pub fn entry_step(
-    first: Span,
     windows: &[u64],
     image: &[u8],
     registers: Registers,
-    address: u64,
-    fpd: bool,
+    walk: Walk,
     below: u32,
     table: u64,
     above: Rights,
 ) -> Step
-    requires { ⌜ Opened first (now windows) (length (now image)) × (below < 5) × (table % 4096 ≡ 0) ⌝ }
-    ensures { λ r. ⌜ stepOf r ≡ entryOver registers address fpd (ofWindows (now (windows .entry)) (now (image .entry))) below table above ⌝ }
-    ensures { λ r. ⌜ StepNames r (entryAt (placeIn address table below)) ⌝ }
+    requires { ⌜ Opened (walk .first) (now windows) (length (now image)) × (below < 5) × (table % 4096 ≡ 0) ⌝ }
+    ensures { λ r. ⌜ stepOf r ≡ entryOver registers (walk .address) (walk .fpd) (ofWindows (now (windows .entry)) (now (image .entry))) below table above ⌝ }
+    ensures { λ r. ⌜ StepNames r (entryAt (placeIn (walk .address) table below)) ⌝ }
 {
-    let offset = 8 * ((address >> (Page4K::SHIFT + 9 * below)) % 512);
+    let offset = entry_offset(walk.address, below);
     let at = table + offset;
-    let Found8::Entry(e) = page_entry8_by(first, windows, image, table, offset) else {
-        return Step::Fault(Reason::PageEntryAccess, fpd, at);
+    let Found8::Entry(e) = page_entry8_by(walk.first, windows, image, table, offset) else {
+        return Step::Fault(Reason::PageEntryAccess, walk.fpd, at);
     };
-    joined_step(registers, above, fpd, below + 1, at, e)
+    joined_step(registers, above, walk.fpd, below + 1, at, e)
 }

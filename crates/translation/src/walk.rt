@@ -14,23 +14,21 @@ use crate::Rights;
 use crate::completion::Completion;
 use crate::step::Step;
 use crate::step::entry_step;
+use dma::Walk;
 use faults::Reason;
-use image::Span;
 use registers::Registers;
 
 pub(crate) fn walk(
-    first: Span,
     windows: &[u64],
     image: &[u8],
     registers: Registers,
-    address: u64,
-    fpd: bool,
+    given: Walk,
     levels: u32,
     table: u64,
 ) -> Completion
-    requires { ⌜ Opened first (now windows) (length (now image)) × (0 < levels) × (levels ≤ 5) × (table % 4096 ≡ 0) ⌝ }
-    ensures { λ r. ⌜ completionOf r ≡ run (joinedRules registers address fpd levels table both) (ofWindows (now (windows .entry)) (now (image .entry))) ⌝ }
-    ensures { λ r. ⌜ ((before : Place) → Names r (lastTried before (joinedRules registers address fpd levels table both) (ofWindows (now (windows .entry)) (now (image .entry))))) ⌝ }
+    requires { ⌜ Opened (given .first) (now windows) (length (now image)) × (0 < levels) × (levels ≤ 5) × (table % 4096 ≡ 0) ⌝ }
+    ensures { λ r. ⌜ completionOf r ≡ run (joinedRules registers (given .address) (given .fpd) levels table both) (ofWindows (now (windows .entry)) (now (image .entry))) ⌝ }
+    ensures { λ r. ⌜ ((before : Place) → Names r (lastTried before (joinedRules registers (given .address) (given .fpd) levels table both) (ofWindows (now (windows .entry)) (now (image .entry))))) ⌝ }
 {
     let mut level = levels;
     let mut at = table;
@@ -38,12 +36,10 @@ pub(crate) fn walk(
     let mut write = true;
     while 0 < level {
         let step = entry_step(
-            first,
             windows,
             image,
             registers,
-            address,
-            fpd,
+            given,
             level - 1,
             at,
             Rights { read, write },
@@ -61,5 +57,5 @@ pub(crate) fn walk(
         }
     }
     // No step leads below level 1.
-    Completion::Fault(Reason::PageEntryAccess, fpd, at)
+    Completion::Fault(Reason::PageEntryAccess, given.fpd, at)
 }
