@@ -17,6 +17,14 @@ use Rattle.galitzaf.specs.Status.{ok, badMeters, metersRefused}
 use Rattle.meter.specs.declared.Gate.the-variants.{Off}
 use Rattle.galitzaf.specs.Meters.{meterOf, rowOf, loadsOf, malformed, told, tickMetersCall}
 
+-- one place for each meter in every array
+pub record Matched (ks : List ℕ) (ls hs xs : List Float) (cs bs : List ℕ) : Type 0 where
+  pub kinds : length ks ≡ length xs
+  pub lows : length ls ≡ length xs
+  pub highs : length hs ≡ length xs
+  pub counts : length cs ≡ length xs
+  pub bytes : length bs ≡ length xs
+
 -- a meter for a place that is never read
 abbrev none : Meter
 none = record { load = nought; gate = Off }
@@ -231,17 +239,19 @@ module _ (ks : List ℕ) (ls hs xs : List Float) (cs bs : List ℕ) where
   none-of true t e = refl
   none-of false t e = unlike e
 
-  pub shapes : malformed ks ls hs xs ≡ false → (length ks ≡ length xs) × (length ls ≡ length xs) × (length hs ≡ length xs)
-  shapes good =
+  pub matched : malformed ks ls hs xs ≡ false → (eqb (length cs) (length xs) && eqb (length bs) (length xs)) ≡ true → Matched ks ls hs xs cs bs
+  matched good e =
       let all = none-of (eqb (length ks) (length xs) && eqb (length ls) (length xs) && eqb (length hs) (length xs)) _ good in
-      let two = both-true (eqb (length ks) (length xs) && eqb (length ls) (length xs)) (eqb (length hs) (length xs)) all in
-      let one = both-true (eqb (length ks) (length xs)) (eqb (length ls) (length xs)) (two .0) in
-      (eqb→eq (length ks) (length xs) (holds _ (one .0)), eqb→eq (length ls) (length xs) (holds _ (one .1)), eqb→eq (length hs) (length xs) (holds _ (two .1)))
-
-  pub evens : (eqb (length cs) (length xs) && eqb (length bs) (length xs)) ≡ true → (length cs ≡ length xs) × (length bs ≡ length xs)
-  evens e =
-      let two = both-true (eqb (length cs) (length xs)) (eqb (length bs) (length xs)) e in
-      (eqb→eq (length cs) (length xs) (holds _ (two .0)), eqb→eq (length bs) (length xs) (holds _ (two .1)))
+      let three = both-true (eqb (length ks) (length xs) && eqb (length ls) (length xs)) (eqb (length hs) (length xs)) all in
+      let two = both-true (eqb (length ks) (length xs)) (eqb (length ls) (length xs)) (three .0) in
+      let others = both-true (eqb (length cs) (length xs)) (eqb (length bs) (length xs)) e in
+      record {
+        kinds = eqb→eq (length ks) (length xs) (holds _ (two .0));
+        lows = eqb→eq (length ls) (length xs) (holds _ (two .1));
+        highs = eqb→eq (length hs) (length xs) (holds _ (three .1));
+        counts = eqb→eq (length cs) (length xs) (holds _ (others .0));
+        bytes = eqb→eq (length bs) (length xs) (holds _ (others .1));
+      }
 
 pub taken : (t : Bool) → not t ≡ true → t ≡ false
 taken true e = unlike (sym e)

@@ -1,13 +1,10 @@
 // A row of meters, an array for each part of a meter.
 ghost use mathlib.Core.Path.{_≡_};
 ghost use mathlib.Core.Bool.{not, _||_};
-ghost use mathlib.Core.List.{map};
 ghost use lib.Dec.{ltb};
 ghost use lib.ListN.{length};
-ghost use Rattle.meter.specs.Meter.{byteOf};
 ghost use Rattle.meter.specs.Refused.{some, badCount, badMeter};
-ghost use Rattle.meter.specs.Row.{tickedAll};
-ghost use Rattle.galitzaf.specs.Meters.{gateOf, meterOf, rowOf, loadsOf, malformed, tickMetersCall, resetMetersCall};
+ghost use Rattle.galitzaf.specs.Meters.{gateOf, meterOf, rowOf, malformed, tickMetersCall, resetMetersCall};
 use crate::status::BAD_METERS;
 use crate::status::METERS_REFUSED;
 use crate::status::OK;
@@ -70,27 +67,6 @@ fn all_fit(kinds: &[u8], lows: &[f64], highs: &[f64], loads: &[f64], counts: &[u
     good
 }
 
-fn tick_all(
-    kinds: &[u8],
-    lows: &[f64],
-    highs: &[f64],
-    loads: &mut [f64],
-    counts: &[u32],
-    bytes: &mut [u8],
-)
-    requires { ⌜ (length (now kinds) ≡ length (now loads)) × (length (now lows) ≡ length (now loads)) × (length (now highs) ≡ length (now loads)) × (length (now counts) ≡ length (now loads)) × (length (now bytes) ≡ length (now loads)) ⌝ }
-    ensures { λ _. ⌜ (now (loads .exit) ≡ loadsOf (tickedAll (rowOf (now (kinds .entry)) (now (lows .entry)) (now (highs .entry)) (now (loads .entry))) (now (counts .entry))))
-        × (now (bytes .exit) ≡ map byteOf (tickedAll (rowOf (now (kinds .entry)) (now (lows .entry)) (now (highs .entry)) (now (loads .entry))) (now (counts .entry)))) ⌝ }
-{
-    let mut i = 0usize;
-    while i < loads.len() {
-        let ticked = tick(meter(kinds[i], lows[i], highs[i], loads[i]), counts[i]);
-        loads[i] = ticked.load;
-        bytes[i] = byte(ticked);
-        i += 1;
-    }
-}
-
 #[no_mangle]
 pub extern "C" fn galitzaf_tick_meters(
     kinds: &[u8],
@@ -111,7 +87,13 @@ pub extern "C" fn galitzaf_tick_meters(
     if !all_fit(kinds, lows, highs, loads, counts) {
         return METERS_REFUSED;
     }
-    tick_all(kinds, lows, highs, loads, counts, bytes);
+    let mut i = 0usize;
+    while i < loads.len() {
+        let ticked = tick(meter(kinds[i], lows[i], highs[i], loads[i]), counts[i]);
+        loads[i] = ticked.load;
+        bytes[i] = byte(ticked);
+        i += 1;
+    }
     OK
 }
 
