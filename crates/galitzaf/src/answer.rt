@@ -15,6 +15,8 @@ ghost use Rattle.interrupts.specs.Answers.{dueOf};
 ghost use Rattle.irte.specs.Answers.{remappedOf};
 ghost use Rattle.galitzaf.specs.Answer.{bytesOfPacked, blockedBytes, refusedBytes, memoryBytes, modes, remappedBytes, postedBytes, interruptBytes};
 use faults::Fault;
+use faults::FaultRecord;
+use faults::record_of;
 use image::EntryAddress;
 use image::store8;
 use unit::InterruptAnswer;
@@ -71,27 +73,21 @@ pub fn short(head: u64) -> Packed
 }
 
 // Byte 3 tells whether the last word is an entry's address.
-pub fn pack_blocked(
-    reason: u8,
-    recordable: bool,
-    low: u64,
-    high: u64,
-    entry: EntryAddress,
-) -> Packed
-    ensures { λ r. ⌜ bytesOfPacked r ≡ blockedBytes (record { reason = reason; recordable = recordable; contents = spell (low ∷ high ∷ []) }) (placeOf entry) ⌝ }
+pub fn pack_blocked(reason: u8, fault: FaultRecord, entry: EntryAddress) -> Packed
+    ensures { λ r. ⌜ bytesOfPacked r ≡ blockedBytes (record { reason = reason; recordable = fault .recordable; contents = spell (fault .low ∷ fault .high ∷ []) }) (placeOf entry) ⌝ }
 {
-    let told = flag(recordable);
+    let told = flag(fault.recordable);
     match entry {
         EntryAddress::NoEntry => Packed {
             head: head(BLOCKED, reason, told, 0, 0),
-            low,
-            high,
+            low: fault.low,
+            high: fault.high,
             last: 0,
         },
         EntryAddress::At(at) => Packed {
             head: head(BLOCKED, reason, told, 1, 0),
-            low,
-            high,
+            low: fault.low,
+            high: fault.high,
             last: at,
         },
     }
@@ -101,13 +97,7 @@ pub fn pack_fault(fault: Fault, entry: EntryAddress) -> Packed
     ensures { λ r. ⌜ bytesOfPacked r ≡ blockedBytes (faultOf fault) (placeOf entry) ⌝ }
 {
     let reason = fault.reason;
-    pack_blocked(
-        reason.number(),
-        fault.recordable,
-        fault.low,
-        fault.high,
-        entry,
-    )
+    pack_blocked(reason.number(), record_of(fault), entry)
 }
 
 pub fn pack_granted(address: u64) -> Packed
@@ -188,7 +178,7 @@ pub(crate) fn pack_interrupt(answer: InterruptAnswer) -> Packed
     }
 }
 
-pub fn store(buffer: &mut [u8], head: u64, low: u64, high: u64, last: u64)
+fn store_words(buffer: &mut [u8], head: u64, low: u64, high: u64, last: u64)
     requires { ⌜ length (now buffer) ≡ 32 ⌝ }
     ensures { λ _. ⌜ now (buffer .exit) ≡ bytesOf 8 head ++ bytesOf 16 (spell (low ∷ high ∷ [])) ++ bytesOf 8 last ⌝ }
 {
@@ -196,4 +186,19 @@ pub fn store(buffer: &mut [u8], head: u64, low: u64, high: u64, last: u64)
     store8(buffer, 8, low);
     store8(buffer, 16, high);
     store8(buffer, 24, last);
+}
+
+pub fn store(buffer: &mut [u8], answer: Packed)
+    requires { ⌜ length (now buffer) ≡ 32 ⌝ }
+    ensures { λ _. ⌜ now (buffer .exit) ≡ bytesOfPacked answer ⌝ }
+{
+    store_words(buffer, answer.head, answer.low, answer.high, answer.last);
+}
+
+// Of a memory request, whether it went through a cache or not.
+pub fn store_memory(buffer: &mut [u8], answer: MemoryAnswer)
+    requires { ⌜ length (now buffer) ≡ 32 ⌝ }
+    ensures { λ _. ⌜ now (buffer .exit) ≡ memoryBytes (dma.outcomeOf answer) (dma.entryOf answer) ⌝ }
+{
+    store(buffer, pack_memory(answer));
 }

@@ -2,8 +2,8 @@
 ghost use mathlib.Core.Path.{_≡_};
 ghost use Rattle.galitzaf.specs.Calls.{memoryCall, interruptCall};
 use crate::answer::pack_interrupt;
-use crate::answer::pack_memory;
 use crate::answer::store;
+use crate::answer::store_memory;
 use crate::arguments::bad_arguments;
 use crate::status::BAD_KIND;
 use crate::status::OK;
@@ -38,8 +38,10 @@ pub extern "C" fn galitzaf_memory_request(
         address,
         write: write == 1,
     };
-    let packed = pack_memory(memory_request(unpack(registers), windows, image, request));
-    store(answer, packed.head, packed.low, packed.high, packed.last);
+    store_memory(
+        answer,
+        memory_request(unpack(registers), windows, image, request),
+    );
     OK
 }
 
@@ -64,7 +66,9 @@ pub extern "C" fn galitzaf_interrupt_request(
         address,
         data,
     };
-    let packed = pack_interrupt(interrupt_request(unpack(registers), windows, image, request));
-    store(answer, packed.head, packed.low, packed.high, packed.last);
+    store(
+        answer,
+        pack_interrupt(interrupt_request(unpack(registers), windows, image, request)),
+    );
     OK
 }

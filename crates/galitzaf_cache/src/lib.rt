@@ -13,8 +13,7 @@ use galitzaf::BAD_REGISTERS;
 use galitzaf::BAD_WINDOWS;
 use galitzaf::OK;
 use galitzaf::malformed;
-use galitzaf::pack_memory;
-use galitzaf::store;
+use galitzaf::store_memory;
 use galitzaf::unpack;
 use places::WORDS;
 use registers::SourceId;
@@ -55,8 +54,10 @@ pub extern "C" fn galitzaf_cached_request(
         address,
         write: write == 1,
     };
-    let packed = pack_memory(cached_request(unpack(registers), windows, image, cache, request));
-    store(answer, packed.head, packed.low, packed.high, packed.last);
+    store_memory(
+        answer,
+        cached_request(unpack(registers), windows, image, cache, request),
+    );
     OK
 }
 

@@ -6,6 +6,7 @@ ghost use Rattle.galitzaf.specs.Registers.{malformedRegisters};
 ghost use Rattle.image.specs.Bits.{bit};
 ghost use Rattle.scalable.specs.Answers.{outcomeOf, entryOf};
 ghost use Rattle.galitzaf_scalable.specs.Scalable.{unpackedScalable, requestOf, scalableCall};
+use faults::FaultRecord;
 use galitzaf::BAD_ANSWER;
 use galitzaf::BAD_KIND;
 use galitzaf::BAD_REGISTERS;
@@ -74,13 +75,12 @@ fn pack_scalable(answer: ScalableAnswer) -> Packed
         ScalableAnswer::Granted(address) => pack_granted(address),
         ScalableAnswer::Blocked(fault, entry) => {
             let reason = fault.reason;
-            pack_blocked(
-                reason.number(),
-                fault.recordable,
-                fault.low,
-                fault.high,
-                entry,
-            )
+            let told = FaultRecord {
+                recordable: fault.recordable,
+                low: fault.low,
+                high: fault.high,
+            };
+            pack_blocked(reason.number(), told, entry)
         }
         ScalableAnswer::Refused(number) => pack_refusal(number),
     }
@@ -117,7 +117,9 @@ pub extern "C" fn galitzaf_scalable_request(
     }
     let unit = unpack_scalable(registers, capabilities);
     let request = request_of(source, address, kind, pasid);
-    let packed = pack_scalable(scalable_request(unit, windows, image, request));
-    store(answer, packed.head, packed.low, packed.high, packed.last);
+    store(
+        answer,
+        pack_scalable(scalable_request(unit, windows, image, request)),
+    );
     OK
 }

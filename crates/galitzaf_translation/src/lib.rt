@@ -77,7 +77,9 @@ pub extern "C" fn galitzaf_translation_request(
         source: SourceId::from_number(source),
         address,
     };
-    let packed = pack_translation(translation_request(unpack(registers), windows, image, request));
-    store(answer, packed.head, packed.low, packed.high, packed.last);
+    store(
+        answer,
+        pack_translation(translation_request(unpack(registers), windows, image, request)),
+    );
     OK
 }

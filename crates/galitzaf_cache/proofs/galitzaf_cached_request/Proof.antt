@@ -38,27 +38,26 @@ returns-5 c =
 
 unpack-requires : tie.Need-unpack-requires
 unpack-requires c κs =
-    let past = c .before .before .before .before .before in
+    let past = c .before .before .before .before .before .before in
     sym (past .before .malformed .ensures) ∙ past .if1 .left
 
 returns-6 : tie.Need-returns-6
 unfolding cachedCall
 returns-6 c =
     let stored = c .before .before in
-    let packed = stored .before .before in
-    let asked = packed .before .before .before in
+    let asked = stored .before .before .before in
     let unpacked = asked .before .before in
-    let source = unpacked .before in
+    let source = unpacked .before .before in
     let fifth = source .before in
     let fourth = fifth .before in
     let third = fourth .before in
     let second = third .before in
     let first = second .before in
-    rw (← first .before .malformed .ensures, first .if1 .left, eq-eqb _ _ (second .if2 .left), eq-eqb _ _ (third .if3 .left), eq-eqb _ _ (fourth .if4 .left), le-ltb _ _ (fifth .if5 .left), stored .store .ensures, packed .pack-memory .ensures, asked .cached-request .ensures .0, asked .cached-request .ensures .1 .0, asked .cached-request .ensures .1 .1, unpacked .unpack .ensures, source .from-number .ensures)
+    rw (← first .before .malformed .ensures, first .if1 .left, eq-eqb _ _ (second .if2 .left), eq-eqb _ _ (third .if3 .left), eq-eqb _ _ (fourth .if4 .left), le-ltb _ _ (fifth .if5 .left), stored .store-memory .ensures, asked .cached-request .ensures .0, asked .cached-request .ensures .1 .0, asked .cached-request .ensures .1 .1, unpacked .unpack .ensures, source .from-number .ensures)
 
 pub galitzaf-cached-request-spec : {M : Type 1} → statement M
 galitzaf-cached-request-spec =
     tie.close
     (tie.spec
     (λ c κs. search needs) returns returns-2 returns-3 returns-4 returns-5 (λ c κs. search needs) unpack-requires (λ c κs. search needs)
-    (λ c κs. search needs) (λ c κs. search needs) (λ c. search needs) (λ c. search needs) returns-6)
+    (λ c κs. search needs) (λ c. search needs) (λ c. search needs) returns-6)

@@ -47,9 +47,9 @@ returns-6 : tie.Need-returns-6
 unfolding scalableCall
 returns-6 c =
     let stored = c .before .before in
-    let packed = stored .before .before in
+    let packed = stored .before in
     let asked = packed .before .before .before in
-    let request = asked .before .before in
+    let request = asked .before .before .before in
     let unit = request .before in
     let fifth = unit .before in
     let fourth = fifth .before in

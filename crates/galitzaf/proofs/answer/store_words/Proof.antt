@@ -3,8 +3,8 @@ use mathlib.Core.Path.{_∙_}
 use borrow.Author.Needs.{needs}
 use denote.Ref.{now}
 use Rattle.galitzaf.proofs.FourWords.{four-stored}
-use Rattle.galitzaf.proofs.answer.store.Statement.{statement}
-use Rattle.galitzaf.proofs.answer.store.Tie as tie
+use Rattle.galitzaf.proofs.answer.store_words.Statement.{statement}
+use Rattle.galitzaf.proofs.answer.store_words.Tie as tie
 
 returns : tie.Need-returns
 returns c =
@@ -17,8 +17,8 @@ returns c =
     rw (fourth .store84 .ensures, third .store83 .ensures, second .store82 .ensures, first .store8 .ensures)
     (four-stored (now (s .args .buffer)) (s .args .head) (s .args .low) (s .args .high) (s .args .last) (s .pre) (f .head .fits) (f .low .fits) (f .high .fits) (f .last .fits))
 
-pub store-spec : {M : Type 1} → statement M
-store-spec =
+pub store-words-spec : {M : Type 1} → statement M
+store-words-spec =
     tie.close
     (tie.spec
     (λ c κs. search needs) (λ c κs. search needs) (λ c κs. search needs) (λ c κs. search needs) (λ c. search needs) returns)
