@@ -1,17 +1,9 @@
-use mathlib.Core.Path.{_∙_}
-use native.Mathlib.Omega.{arith}
 use borrow.Author.Needs.{needs}
-use Rattle.image.specs.Entries.{words16}
-use Rattle.image.proofs.Stores.{Words}
-use Rattle.image.proofs.WordFields.{in-word}
 use Rattle.image.proofs.entry_fields.bits16.Statement.{statement}
 use Rattle.image.proofs.entry_fields.bits16.Tie as tie
 
 returns : tie.Need-returns
-unfolding Words
-returns c =
-    let a = c .before .before .args in
-    c .field-in .ensures ∙ rw (c .before .word16 .ensures) (in-word (words16 (a .e)) (omega arith, (omega arith, tt)) (a .high) (a .low))
+returns c = rw (c .bits64 .ensures, c .before .widened .ensures)
 
 pub bits16-spec : {M : Type 1} → statement M
 bits16-spec = tie.close (tie.spec (λ c κs. search needs) (λ c κs. search needs) returns)
