@@ -1,7 +1,7 @@
 -- Laws of the lookup of a context, whatever follows it.
 use Prim.Native.Nat.{ℕ, _+_, _*_}
 use mathlib.Core.Bool.{Bool, false}
-use mathlib.Core.Path.{_≡_, refl, ap, sym, _∙_}
+use mathlib.Core.Path.{_≡_, refl, ap, sym, _∙_, subst}
 use native.Mathlib.Omega.{arith}
 use Rattle.image.specs.Check.{Check, stop, go, onCheck}
 use Rattle.image.specs.EntryKind.{EntryKind, rootEntry, contextEntry}
@@ -19,6 +19,8 @@ use Rattle.dma.specs.Root.{rootCheck}
 use Rattle.dma.specs.Answers.{lookupOf, lookupPlace}
 use Rattle.dma.specs.declared.context.Context.{Context}
 use Rattle.dma.specs.declared.context.Lookup.{Lookup as LookupCode}
+use Rattle.dma.specs.declared.context.Lookup.the-variants as lookup
+use Rattle.faults.specs.declared.reason.Reason.{Reason}
 use Rattle.dma.proofs.Stages.{usable}
 
 -- what holds of the forks and answers of a lookup and of what follows a context
@@ -195,19 +197,37 @@ finds registers source m =
     (λ c good. every-answer (λ kind at l. Finds l) Finds 0 (context c) good))
 
 -- the lookup as the code has it, and what follows: what is answered, where that stops, and that a context found is usable
-pub record Looked {A : Type 0} (registers : Registers) (faulted : (reason : ℕ) (fpd : Bool) → A) (next : Context → Rules A) (m : Memory) (source : ℕ) (l : LookupCode) : Type 0 where
+record Looked {A : Type 0} (registers : Registers) (faulted : (reason : ℕ) (fpd : Bool) → A) (next : Context → Rules A) (m : Memory) (source : ℕ) (l : LookupCode) : Type 0 where
   pub answers : onLookup (lookupOf l) faulted (λ c. run (next c) m) ≡ run (rootRules registers faulted next source) m
   pub stops : onLookup (lookupOf l) (λ reason fpd. lookupPlace l) (λ c. lastTried (lookupPlace l) (next c) m) ≡ stoppedAt (rootRules registers faulted next source) m
   pub finding : Finds (lookupOf l)
 
-pub looked : {A : Type 0} (registers : Registers) (faulted : (reason : ℕ) (fpd : Bool) → A) (next : Context → Rules A) (m : Memory) (source : ℕ) {l l′ : LookupCode}
-    → lookupOf l ≡ run (lookupRules registers source) m → lookupPlace l ≡ stoppedAt (lookupRules registers source) m → l ≡ l′
-    → Looked registers faulted next m source l′
-looked registers faulted next m source {l} {l′} says names is =
-    let found = sym (ap lookupOf is) ∙ says in
-    let tried = sym (ap lookupPlace is) ∙ names in
-    record {
-      answers = rw found (sym (looked-up registers faulted next m source));
-      stops = rw (found, tried) (sym (looked-up-at registers faulted next m source noEntry));
-      finding = rw found (finds registers source m);
-    }
+-- of a result of the code, by what it says and which entry it names
+module _ {A R : Type 0} (said : R → A) (Named : R → Place → Type 0) (registers : Registers) (faulted : (reason : ℕ) (fpd : Bool) → A)
+    (next : Context → Rules A) (m : Memory) (source : ℕ) {l : LookupCode}
+    (looks : (lookupOf l ≡ run (lookupRules registers source) m) × (lookupPlace l ≡ stoppedAt (lookupRules registers source) m)) where
+  looked : {l′ : LookupCode} → l ≡ l′ → Looked registers faulted next m source l′
+  looked is =
+      let found = sym (ap lookupOf is) ∙ looks .0 in
+      let tried = sym (ap lookupPlace is) ∙ looks .1 in
+      record {
+        answers = rw found (sym (looked-up registers faulted next m source));
+        stops = rw (found, tried) (sym (looked-up-at registers faulted next m source noEntry));
+        finding = rw found (finds registers source m);
+      }
+
+  -- a lookup that found no context is told as such
+  pub no-context-told : {reason : Reason} {fpd : Bool} {at : ℕ} (other : Context → A) (r : R) → l ≡ lookup.Fault reason fpd at
+      → (said r ≡ onLookup (lookupOf l) faulted other) × Named r (lookupPlace l)
+      → (said r ≡ run (rootRules registers faulted next source) m) × Named r (stoppedAt (rootRules registers faulted next source) m)
+  no-context-told other r is told =
+      (told .0 ∙ ap (λ l. onLookup (lookupOf l) faulted other) is ∙ looked is .answers, subst (Named r) (ap lookupPlace is ∙ looked is .stops) (told .1))
+
+  -- with a context what follows it is told
+  pub context-told : {c : Context} {at : ℕ} (r : R) → l ≡ lookup.Found c at
+      → (said r ≡ run (next c) m) × Named r (lastTried (entryAt at) (next c) m)
+      → (said r ≡ run (rootRules registers faulted next source) m) × Named r (stoppedAt (rootRules registers faulted next source) m)
+  context-told r is told = (told .0 ∙ looked is .answers, subst (Named r) (looked is .stops) (told .1))
+
+  pub context-usable : {c : Context} {at : ℕ} → l ≡ lookup.Found c at → Usable c
+  context-usable is = looked is .finding

@@ -4,6 +4,8 @@ ghost use mathlib.Core.Path.{_≡_};
 ghost use lib.ListN.{length};
 ghost use Prim.Native.Nat.{_+_, _*_, _-_, _%_, _^_, _<_, _≤_};
 ghost use Rattle.image.specs.Bits.{bits};
+ghost use Rattle.image.specs.Entries.{fetched8};
+ghost use Rattle.image.specs.Memory.{entry};
 ghost use Rattle.image.specs.Place.{entryAt};
 ghost use Rattle.image.specs.Spans.{Opened};
 ghost use Rattle.image.specs.Windows.{ofWindows};
@@ -30,6 +32,12 @@ pub struct Walk {
     pub first: Span,
     pub address: u64,
     pub fpd: bool,
+}
+
+// A page entry: its host address, and what is found there.
+pub struct Fetch {
+    pub at: u64,
+    pub found: Found8,
 }
 
 // What the walk makes of an entry. No two variants hold fields of different sizes in one place.
@@ -103,7 +111,19 @@ fn page_check(registers: Registers, write: bool, fpd: bool, level: u32, at: u64,
     Step::Down(in_place(e, 51, 12))
 }
 
-// One level of the walk: below is how many levels come after it.
+// The entry for the walk's address in a table: below is how many levels come after it.
+pub fn fetch_entry(windows: &[u64], image: &[u8], walk: Walk, below: u32, table: u64) -> Fetch
+    requires { ⌜ Opened (walk .first) (now windows) (length (now image)) × (below < 5) × (table % 4096 ≡ 0) ⌝ }
+    ensures { λ r. ⌜ r .at ≡ placeIn (walk .address) table below ⌝ }
+    ensures { λ r. ⌜ fetched8 (r .found) ≡ entry 1 (ofWindows (now (windows .entry)) (now (image .entry))) (placeIn (walk .address) table below) ⌝ }
+{
+    let offset = entry_offset(walk.address, below);
+    let at = table + offset;
+    let found = page_entry8_by(walk.first, windows, image, table, offset);
+    Fetch { at, found }
+}
+
+// One level of the walk.
 pub(crate) fn page_step(
     windows: &[u64],
     image: &[u8],
@@ -117,9 +137,8 @@ pub(crate) fn page_step(
     ensures { λ r. ⌜ stepOf r ≡ pageOver registers (walk .address) write (walk .fpd) (ofWindows (now (windows .entry)) (now (image .entry))) below table ⌝ }
     ensures { λ r. ⌜ StepNames r (entryAt (placeIn (walk .address) table below)) ⌝ }
 {
-    let offset = entry_offset(walk.address, below);
-    let at = table + offset;
-    let Found8::Entry(e) = page_entry8_by(walk.first, windows, image, table, offset) else {
+    let Fetch { at, found } = fetch_entry(windows, image, walk, below, table);
+    let Found8::Entry(e) = found else {
         return Step::Fault(Reason::PageEntryAccess, walk.fpd, at);
     };
     let level = below + 1;

@@ -62,8 +62,7 @@ pub fn translate_in(
     ensures { λ r. ⌜ translationOf r ≡ run (widthRules registers (request .address) (request .write) context) (ofWindows (now (windows .entry)) (now (image .entry))) ⌝ }
     ensures { λ r. ⌜ Names r (lastTried (entryAt at) (widthRules registers (request .address) (request .write) context) (ofWindows (now (windows .entry)) (now (image .entry)))) ⌝ }
 {
-    let levels = context.levels;
-    if overflows(registers, levels, request.address) {
+    if overflows(registers, context.levels, request.address) {
         return Translation::Fault(Reason::AddressOverflow, context.fpd, at);
     }
     if context.translation_type == 2 {
@@ -74,15 +73,7 @@ pub fn translate_in(
         address: request.address,
         fpd: context.fpd,
     };
-    walk(
-        windows,
-        image,
-        registers,
-        given,
-        request.write,
-        levels,
-        context.top,
-    )
+    walk(windows, image, registers, given, request.write, context)
 }
 
 // A lookup that found no context, told as a translation. The other arm is never taken.

@@ -2,13 +2,14 @@
 ghost use mathlib.Core.Bool.{false};
 ghost use mathlib.Core.Path.{_≡_};
 ghost use lib.ListN.{length};
-ghost use Prim.Native.Nat.{_%_, _<_, _≤_};
 ghost use Rattle.image.specs.Place.{Place, lastTried};
 ghost use Rattle.image.specs.Rules.{run};
 ghost use Rattle.image.specs.Spans.{Opened};
 ghost use Rattle.image.specs.Windows.{ofWindows};
 ghost use Rattle.dma.specs.Answers.{translationOf, Names};
+ghost use Rattle.dma.specs.Context.{Usable};
 ghost use Rattle.dma.specs.Translation.{pageRules};
+use crate::context::Context;
 use crate::page::Step;
 use crate::page::Walk;
 use crate::page::page_step;
@@ -22,15 +23,14 @@ pub(crate) fn walk(
     registers: Registers,
     given: Walk,
     write: bool,
-    levels: u32,
-    table: u64,
+    context: Context,
 ) -> Translation
-    requires { ⌜ Opened (given .first) (now windows) (length (now image)) × (0 < levels) × (levels ≤ 5) × (table % 4096 ≡ 0) ⌝ }
-    ensures { λ r. ⌜ translationOf r ≡ run (pageRules registers (given .address) write (given .fpd) levels table) (ofWindows (now (windows .entry)) (now (image .entry))) ⌝ }
-    ensures { λ r. ⌜ ((before : Place) → Names r (lastTried before (pageRules registers (given .address) write (given .fpd) levels table) (ofWindows (now (windows .entry)) (now (image .entry))))) ⌝ }
+    requires { ⌜ Opened (given .first) (now windows) (length (now image)) × Usable context ⌝ }
+    ensures { λ r. ⌜ translationOf r ≡ run (pageRules registers (given .address) write (given .fpd) (context .levels) (context .top)) (ofWindows (now (windows .entry)) (now (image .entry))) ⌝ }
+    ensures { λ r. ⌜ ((before : Place) → Names r (lastTried before (pageRules registers (given .address) write (given .fpd) (context .levels) (context .top)) (ofWindows (now (windows .entry)) (now (image .entry))))) ⌝ }
 {
-    let mut level = levels;
-    let mut at = table;
+    let mut level = context.levels;
+    let mut at = context.top;
     while 0 < level {
         let step = page_step(windows, image, registers, given, write, level - 1, at);
         match step {

@@ -55,14 +55,7 @@ fn complete_in(
         address,
         fpd: context.fpd,
     };
-    walk(
-        windows,
-        image,
-        registers,
-        given,
-        context.levels,
-        context.top,
-    )
+    walk(windows, image, registers, given, context)
 }
 
 // A lookup that found no context, told as a completion. The other arm is never taken.

@@ -10,15 +10,15 @@ ghost use Rattle.dma.specs.Walk.{placeIn};
 ghost use Rattle.translation.specs.Answers.{stepOf, StepNames};
 ghost use Rattle.translation.specs.Completion.{entryStep, entryOver};
 use crate::Rights;
+use dma::Fetch;
 use dma::Walk;
-use dma::entry_offset;
+use dma::fetch_entry;
 use dma::is_leaf;
 use dma::page_reserved;
 use faults::Reason;
 use image::Found8;
 use image::field;
 use image::in_place;
-use image::page_entry8_by;
 use registers::Registers;
 
 pub enum Step {
@@ -69,9 +69,8 @@ pub fn entry_step(
     ensures { λ r. ⌜ stepOf r ≡ entryOver registers (walk .address) (walk .fpd) (ofWindows (now (windows .entry)) (now (image .entry))) below table above ⌝ }
     ensures { λ r. ⌜ StepNames r (entryAt (placeIn (walk .address) table below)) ⌝ }
 {
-    let offset = entry_offset(walk.address, below);
-    let at = table + offset;
-    let Found8::Entry(e) = page_entry8_by(walk.first, windows, image, table, offset) else {
+    let Fetch { at, found } = fetch_entry(windows, image, walk, below, table);
+    let Found8::Entry(e) = found else {
         return Step::Fault(Reason::PageEntryAccess, walk.fpd, at);
     };
     joined_step(registers, above, walk.fpd, below + 1, at, e)

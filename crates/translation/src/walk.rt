@@ -2,11 +2,11 @@
 ghost use mathlib.Core.Bool.{false};
 ghost use mathlib.Core.Path.{_≡_};
 ghost use lib.ListN.{length};
-ghost use Prim.Native.Nat.{_%_, _<_, _≤_};
 ghost use Rattle.image.specs.Place.{Place, lastTried};
 ghost use Rattle.image.specs.Rules.{run};
 ghost use Rattle.image.specs.Spans.{Opened};
 ghost use Rattle.image.specs.Windows.{ofWindows};
+ghost use Rattle.dma.specs.Context.{Usable};
 ghost use Rattle.translation.specs.Answers.{completionOf, Names};
 ghost use Rattle.translation.specs.Completion.{joinedRules};
 ghost use Rattle.translation.specs.Rights.{both};
@@ -14,6 +14,7 @@ use crate::Rights;
 use crate::completion::Completion;
 use crate::step::Step;
 use crate::step::entry_step;
+use dma::Context;
 use dma::Walk;
 use faults::Reason;
 use registers::Registers;
@@ -23,15 +24,14 @@ pub(crate) fn walk(
     image: &[u8],
     registers: Registers,
     given: Walk,
-    levels: u32,
-    table: u64,
+    context: Context,
 ) -> Completion
-    requires { ⌜ Opened (given .first) (now windows) (length (now image)) × (0 < levels) × (levels ≤ 5) × (table % 4096 ≡ 0) ⌝ }
-    ensures { λ r. ⌜ completionOf r ≡ run (joinedRules registers (given .address) (given .fpd) levels table both) (ofWindows (now (windows .entry)) (now (image .entry))) ⌝ }
-    ensures { λ r. ⌜ ((before : Place) → Names r (lastTried before (joinedRules registers (given .address) (given .fpd) levels table both) (ofWindows (now (windows .entry)) (now (image .entry))))) ⌝ }
+    requires { ⌜ Opened (given .first) (now windows) (length (now image)) × Usable context ⌝ }
+    ensures { λ r. ⌜ completionOf r ≡ run (joinedRules registers (given .address) (given .fpd) (context .levels) (context .top) both) (ofWindows (now (windows .entry)) (now (image .entry))) ⌝ }
+    ensures { λ r. ⌜ ((before : Place) → Names r (lastTried before (joinedRules registers (given .address) (given .fpd) (context .levels) (context .top) both) (ofWindows (now (windows .entry)) (now (image .entry))))) ⌝ }
 {
-    let mut level = levels;
-    let mut at = table;
+    let mut level = context.levels;
+    let mut at = context.top;
     let mut read = true;
     let mut write = true;
     while 0 < level {

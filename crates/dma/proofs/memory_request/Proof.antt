@@ -1,12 +1,11 @@
 use mathlib.Core.Bool.{false}
 use mathlib.Core.Path.{_≡_, refl, ap, sym, _∙_}
 use lib.ListN.{length}
+use Rattle.registers.specs.Admission.{takenUp, admission}
 use Rattle.registers.specs.Answers.{admittedOf}
 use Rattle.image.specs.Windows.{ofWindows, badWindows}
 use Rattle.image.proofs.GoodWindows.{three-each}
-use Rattle.dma.specs.Requests.{memoryOutcome}
-use Rattle.dma.proofs.Admissions.{taken-root, refuses-bad, refuses, passes, takes, takes-at, memory-told}
-use Rattle.dma.proofs.Stepped.{renamed}
+use Rattle.dma.proofs.Admissions.{taken-root, refuses-bad, refuses, passes, memory-told, memory-taken}
 use Rattle.dma.proofs.Forks.{reachable}
 use borrow.Author.Needs.{needs}
 use Rattle.dma.proofs.memory_request.Statement.{statement}
@@ -54,19 +53,18 @@ first-span-requires c κs =
     let a = k .before .before .before .before .before .before .before .before .args in
     three-each (a .windows .now) (length (a .image .now)) (fine (k .before .before .before .before)) .1
 
+-- the request is taken up
+taken : (c : tie.After-first-span) → let k = c .before .before .before in
+    takenUp ≡ admission (k .before .before .before .before .before .before .before .before .args .registers) (k .before .in-interrupt-range .result) (k .before .before .before .before .before .before .before .before .args .registers .te)
+taken c = sym (ap admittedOf (c .before .enum-told2 .given .1)) ∙ c .before .before .before .admit .ensures
+
 translate-requires : tie.Need-translate-requires
-translate-requires c κs =
-    let k = c .before .before .before in (
-      (fine (k .before .before .before .before), c .first-span .ensures),
-      taken-root (k .before .before .before .before .before .before .before .before .args .registers) _ _ (sym (ap admittedOf (c .before .enum-told2 .given .1)) ∙ k .admit .ensures),
-    )
+translate-requires c κs = ((fine (c .before .before .before .before .before .before .before), c .first-span .ensures), taken-root _ _ _ (taken c))
 
 answer-requires : tie.Need-answer-requires
 answer-requires c κs =
-    let k = c .before .before .before .before in
-    let a = k .before .before .before .before .before .before .before .before .args in
-    let taken = sym (ap admittedOf (c .before .before .enum-told2 .given .1)) ∙ k .admit .ensures in
-    rw (c .translate .ensures .0) (reachable (a .registers) (a .request) (ofWindows (a .windows .now) (a .image .now)) (taken-root (a .registers) _ _ taken))
+    let a = c .before .before .before .before .before .before .before .before .before .before .before .before .args in
+    rw (c .translate .ensures .0) (reachable (a .registers) (a .request) (ofWindows (a .windows .now) (a .image .now)) (taken-root _ _ _ (taken (c .before))))
 
 returns-3 : tie.Need-returns-3
 returns-3 c =
@@ -86,13 +84,9 @@ returns-5 : tie.Need-returns-5
 returns-5 c =
     let k = c .before .before .before .before .before in
     let a = k .before .before .before .before .before .before .before .before .args in
-    let m = ofWindows (a .windows .now) (a .image .now) in
-    let kind = k .before .in-interrupt-range .ensures in
-    let taken = sym (ap admittedOf (c .before .before .before .enum-told2 .given .1)) ∙ k .admit .ensures in
-    let is = c .answer .ensures .0 ∙ ap (memoryOutcome (a .request)) (c .before .translate .ensures .0) ∙ takes (a .registers) (a .request) m kind taken in
-    let there = renamed (c .before .translate .result) (takes-at (a .registers) (a .request) m kind taken) (c .before .translate .ensures .1) in
-    let says = memory-told (a .registers) (a .request) (a .windows .now) (a .image .now) (fine (k .before .before .before .before)) is in
-    (says .0, c .answer .ensures .1 _ there ∙ says .1)
+    memory-taken (a .registers) (a .request) (a .windows .now) (a .image .now) (fine (k .before .before .before .before))
+    (k .before .in-interrupt-range .ensures) (taken (c .before .before))
+    (c .answer .result) (c .before .translate .result) (c .answer .ensures) (c .before .translate .ensures)
 
 pub memory-request-spec : {M : Type 1} → statement M
 memory-request-spec =

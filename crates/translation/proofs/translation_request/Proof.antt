@@ -1,13 +1,12 @@
 use mathlib.Core.Bool.{false}
 use mathlib.Core.Path.{_≡_, refl, ap, sym, _∙_}
 use lib.ListN.{length}
+use Rattle.registers.specs.Admission.{takenUp, admission}
 use Rattle.registers.specs.Answers.{admittedOf}
 use Rattle.image.specs.Windows.{ofWindows, badWindows}
 use Rattle.image.proofs.GoodWindows.{three-each}
-use Rattle.translation.specs.Requests.{translationOutcome}
 use Rattle.dma.proofs.Admissions.{taken-root}
-use Rattle.translation.proofs.Admissions.{refuses-bad, refuses, passes, takes, takes-at, translation-told}
-use Rattle.translation.proofs.Stepped.{renamed}
+use Rattle.translation.proofs.Admissions.{refuses-bad, refuses, passes, translation-told, translation-taken}
 use Rattle.translation.proofs.Forks.{reachable}
 use borrow.Author.Needs.{needs}
 use Rattle.translation.proofs.translation_request.Statement.{statement}
@@ -55,19 +54,18 @@ first-span-requires c κs =
     let a = k .before .before .before .before .before .before .before .before .args in
     three-each (a .windows .now) (length (a .image .now)) (windows-good (k .before .before .before .before)) .1
 
+-- the request is taken up
+taken : (c : tie.After-first-span) → let k = c .before .before .before in
+    takenUp ≡ admission (k .before .before .before .before .before .before .before .before .args .registers) (k .before .in-interrupt-range .result) (k .before .before .before .before .before .before .before .before .args .registers .te)
+taken c = sym (ap admittedOf (c .before .enum-told2 .given .1)) ∙ c .before .before .before .admit .ensures
+
 complete-requires : tie.Need-complete-requires
-complete-requires c κs =
-    let k = c .before .before .before in (
-      (windows-good (k .before .before .before .before), c .first-span .ensures),
-      taken-root (k .before .before .before .before .before .before .before .before .args .registers) _ _ (sym (ap admittedOf (c .before .enum-told2 .given .1)) ∙ k .admit .ensures),
-    )
+complete-requires c κs = ((windows-good (c .before .before .before .before .before .before .before), c .first-span .ensures), taken-root _ _ _ (taken c))
 
 answer-requires : tie.Need-answer-requires
 answer-requires c κs =
-    let k = c .before .before .before .before in
-    let taken = sym (ap admittedOf (c .before .before .enum-told2 .given .1)) ∙ k .admit .ensures in
-    let a = k .before .before .before .before .before .before .before .before .args in
-    rw (c .complete .ensures .0) (reachable (a .registers) (a .request) (ofWindows (a .windows .now) (a .image .now)) (taken-root (a .registers) _ _ taken))
+    let a = c .before .before .before .before .before .before .before .before .before .before .before .before .args in
+    rw (c .complete .ensures .0) (reachable (a .registers) (a .request) (ofWindows (a .windows .now) (a .image .now)) (taken-root _ _ _ (taken (c .before))))
 
 returns-3 : tie.Need-returns-3
 returns-3 c =
@@ -87,13 +85,9 @@ returns-5 : tie.Need-returns-5
 returns-5 c =
     let k = c .before .before .before .before .before in
     let a = k .before .before .before .before .before .before .before .before .args in
-    let m = ofWindows (a .windows .now) (a .image .now) in
-    let taken = sym (ap admittedOf (c .before .before .before .enum-told2 .given .1)) ∙ k .admit .ensures in
-    let kind = k .before .in-interrupt-range .ensures in
-    let is = c .answer .ensures .0 ∙ ap (translationOutcome (a .request)) (c .before .complete .ensures .0) ∙ takes (a .registers) (a .request) m kind taken in
-    let there = renamed (c .before .complete .result) (takes-at (a .registers) (a .request) m kind taken) (c .before .complete .ensures .1) in
-    let says = translation-told (a .registers) (a .request) (a .windows .now) (a .image .now) (windows-good (k .before .before .before .before)) is in
-    (says .0, c .answer .ensures .1 _ there ∙ says .1)
+    translation-taken (a .registers) (a .request) (a .windows .now) (a .image .now) (windows-good (k .before .before .before .before))
+    (k .before .in-interrupt-range .ensures) (taken (c .before .before))
+    (c .answer .result) (c .before .complete .result) (c .answer .ensures) (c .before .complete .ensures)
 
 pub translation-request-spec : {M : Type 1} → statement M
 translation-request-spec =

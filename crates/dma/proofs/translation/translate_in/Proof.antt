@@ -21,7 +21,7 @@ unfolding widthRules run lastTried
 returns-2 c = (rw (← c .before .before .before .overflows .ensures, c .before .before .if1 .left, eq-eqb _ 2 (c .if2 .taken)), refl)
 
 walk-requires : tie.Need-walk-requires
-walk-requires c κs = let p = c .before .before .before .before .before .before .pre in (p .0, p .1 .0, p .1 .1, p .1 .2)
+walk-requires c κs = c .before .before .before .before .before .before .pre
 
 returns-3 : tie.Need-returns-3
 unfolding widthRules run lastTried

@@ -16,25 +16,25 @@ use Rattle.dma.proofs.walk.walk.Statement.{statement}
 use Rattle.dma.proofs.walk.walk.Tie as tie
 
 abbrev Inv-loop : tie.InvT-loop
-Inv-loop windows image registers given write levels table level₀ at₀ level at =
+Inv-loop windows image registers given write level₀ at₀ level at =
     Opened (given .first) windows (length image)
     × (0 < level)
     × (level ≤ 5)
     × (at % 4096 ≡ 0)
     × (run (pageRules registers (given .address) write (given .fpd) level at) (ofWindows windows image)
-    ≡ run (pageRules registers (given .address) write (given .fpd) levels table) (ofWindows windows image))
+    ≡ run (pageRules registers (given .address) write (given .fpd) level₀ at₀) (ofWindows windows image))
     × ((before before′ : Place)
     → lastTried before (pageRules registers (given .address) write (given .fpd) level at) (ofWindows windows image)
-    ≡ lastTried before′ (pageRules registers (given .address) write (given .fpd) levels table) (ofWindows windows image))
+    ≡ lastTried before′ (pageRules registers (given .address) write (given .fpd) level₀ at₀) (ofWindows windows image))
 
 abbrev μ-loop : tie.MeasureT-loop
-μ-loop windows image registers given write levels table level₀ at₀ level at = level
+μ-loop windows image registers given write level₀ at₀ level at = level
 
 loop-holds : tie.Need-loop-holds Inv-loop μ-loop
 loop-holds c =
     let a = c .before .before .args in
     let pre = c .before .before .pre in
-    (pre .0, pre .1, pre .2, pre .3, refl, anew (a .registers) (a .given .address) (a .write) (a .given .fpd) (ofWindows (a .windows .now) (a .image .now)) (a .levels) (a .table) (pre .1))
+    (pre .0, pre .1 .0, pre .1 .1, pre .1 .2, refl, anew (a .registers) (a .given .address) (a .write) (a .given .fpd) (ofWindows (a .windows .now) (a .image .now)) (a .context .levels) (a .context .top) (pre .1 .0))
 
 sub-page-step : tie.Need-sub-page-step Inv-loop μ-loop
 sub-page-step c = search needs

@@ -1,32 +1,35 @@
 -- The lookup, then what follows a context.
-use mathlib.Core.Path.{_≡_, ap, _∙_}
 use Rattle.image.specs.Windows.{ofWindows}
-use Rattle.dma.specs.Answers.{lookupOf, lookupPlace}
-use Rattle.dma.specs.declared.context.Lookup.{Lookup}
-use Rattle.translation.specs.Completion.{fault, typeRules, withoutContext}
-use Rattle.dma.proofs.Lookups.{Looked, looked}
-use Rattle.translation.proofs.Stepped.{renamed}
+use Rattle.dma.proofs.Lookups.{no-context-told, context-told, context-usable}
+use Rattle.translation.specs.Answers.{completionOf, Names}
+use Rattle.translation.specs.Completion.{empty, fault, typeRules}
 use borrow.Author.Needs.{needs}
 use Rattle.translation.proofs.completion.complete.Statement.{statement}
 use Rattle.translation.proofs.completion.complete.Tie as tie
 
-looks : (c : tie.After-find-context) {l : Lookup} → c .find-context .result ≡ l → let a = c .before .before .before .args in
-    Looked (a .registers) fault (typeRules (a .registers) (a .request .address)) (ofWindows (a .windows .now) (a .image .now)) (a .request .source .id) l
-looks c = looked _ _ _ _ _ (c .find-context .ensures .0) (c .find-context .ensures .1)
-
 returns : tie.Need-returns
 returns c =
-    let is = c .before .enum-told .given .1 in
-    let l = looks (c .before .before .before) is in
-    (c .without-context .ensures .0 ∙ ap (λ l. withoutContext (lookupOf l)) is ∙ l .answers, renamed (c .without-context .result) (ap lookupPlace is ∙ l .stops) (c .without-context .ensures .1))
+    let f = c .before .before .before in
+    let a = f .before .before .before .args in
+    no-context-told completionOf Names (a .registers) fault (typeRules (a .registers) (a .request .address)) (ofWindows (a .windows .now) (a .image .now))
+    (a .request .source .id) (f .find-context .ensures) (λ x. empty) (c .without-context .result) (c .before .enum-told .given .1) (c .without-context .ensures)
 
 complete-in-requires : tie.Need-complete-in-requires
-complete-in-requires c κs = (c .before .before .before .before .before .before .pre .0, looks (c .before .before .before) (c .before .found .given .1) .finding)
+complete-in-requires c κs =
+    let f = c .before .before .before in
+    let k = f .before .before .before in
+    let a = k .args in (
+      k .pre .0,
+      context-usable completionOf Names (a .registers) fault (typeRules (a .registers) (a .request .address)) (ofWindows (a .windows .now) (a .image .now))
+          (a .request .source .id) (f .find-context .ensures) (c .before .found .given .1),
+    )
 
 returns-2 : tie.Need-returns-2
 returns-2 c =
-    let l = looks (c .before .before .before .before) (c .before .before .found .given .1) in
-    (c .complete-in .ensures .0 ∙ l .answers, renamed (c .complete-in .result) (l .stops) (c .complete-in .ensures .1))
+    let f = c .before .before .before .before in
+    let a = f .before .before .before .args in
+    context-told completionOf Names (a .registers) fault (typeRules (a .registers) (a .request .address)) (ofWindows (a .windows .now) (a .image .now))
+    (a .request .source .id) (f .find-context .ensures) (c .complete-in .result) (c .before .before .found .given .1) (c .complete-in .ensures)
 
 pub complete-spec : {M : Type 1} → statement M
 complete-spec = tie.close (tie.spec

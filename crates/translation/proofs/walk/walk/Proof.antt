@@ -17,25 +17,25 @@ use Rattle.translation.proofs.walk.walk.Statement.{statement}
 use Rattle.translation.proofs.walk.walk.Tie as tie
 
 abbrev Inv-loop : tie.InvT-loop
-Inv-loop windows image registers given levels table level₀ at₀ read₀ write₀ level at read write =
+Inv-loop windows image registers given level₀ at₀ read₀ write₀ level at read write =
     Opened (given .first) windows (length image)
     × (0 < level)
     × (level ≤ 5)
     × (at % 4096 ≡ 0)
     × (run (joinedRules registers (given .address) (given .fpd) level at (record { read = read; write = write })) (ofWindows windows image)
-    ≡ run (joinedRules registers (given .address) (given .fpd) levels table both) (ofWindows windows image))
+    ≡ run (joinedRules registers (given .address) (given .fpd) level₀ at₀ both) (ofWindows windows image))
     × ((before before′ : Place)
     → lastTried before (joinedRules registers (given .address) (given .fpd) level at (record { read = read; write = write })) (ofWindows windows image)
-    ≡ lastTried before′ (joinedRules registers (given .address) (given .fpd) levels table both) (ofWindows windows image))
+    ≡ lastTried before′ (joinedRules registers (given .address) (given .fpd) level₀ at₀ both) (ofWindows windows image))
 
 abbrev μ-loop : tie.MeasureT-loop
-μ-loop windows image registers given levels table level₀ at₀ read₀ write₀ level at read write = level
+μ-loop windows image registers given level₀ at₀ read₀ write₀ level at read write = level
 
 loop-holds : tie.Need-loop-holds Inv-loop μ-loop
 loop-holds c =
     let a = c .before .before .args in
     let pre = c .before .before .pre in
-    (pre .0, pre .1, pre .2, pre .3, refl, anew (a .registers) (a .given .address) (a .given .fpd) (ofWindows (a .windows .now) (a .image .now)) (a .levels) (a .table) both (pre .1))
+    (pre .0, pre .1 .0, pre .1 .1, pre .1 .2, refl, anew (a .registers) (a .given .address) (a .given .fpd) (ofWindows (a .windows .now) (a .image .now)) (a .context .levels) (a .context .top) both (pre .1 .0))
 
 sub-entry-step : tie.Need-sub-entry-step Inv-loop μ-loop
 sub-entry-step c = search needs
