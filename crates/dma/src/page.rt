@@ -111,15 +111,22 @@ fn page_check(registers: Registers, write: bool, fpd: bool, level: u32, at: u64,
     Step::Down(in_place(e, 51, 12))
 }
 
-// The entry for the walk's address in a table: below is how many levels come after it.
-pub fn fetch_entry(windows: &[u64], image: &[u8], walk: Walk, below: u32, table: u64) -> Fetch
-    requires { ⌜ Opened (walk .first) (now windows) (length (now image)) × (below < 5) × (table % 4096 ≡ 0) ⌝ }
-    ensures { λ r. ⌜ r .at ≡ placeIn (walk .address) table below ⌝ }
-    ensures { λ r. ⌜ fetched8 (r .found) ≡ entry 1 (ofWindows (now (windows .entry)) (now (image .entry))) (placeIn (walk .address) table below) ⌝ }
+// The entry for an address in a table: below is how many levels come after it.
+pub fn fetch_entry(
+    first: Span,
+    windows: &[u64],
+    image: &[u8],
+    address: u64,
+    below: u32,
+    table: u64,
+) -> Fetch
+    requires { ⌜ Opened first (now windows) (length (now image)) × (below < 5) × (table % 4096 ≡ 0) ⌝ }
+    ensures { λ r. ⌜ r .at ≡ placeIn address table below ⌝ }
+    ensures { λ r. ⌜ fetched8 (r .found) ≡ entry 1 (ofWindows (now (windows .entry)) (now (image .entry))) (placeIn address table below) ⌝ }
 {
-    let offset = entry_offset(walk.address, below);
+    let offset = entry_offset(address, below);
     let at = table + offset;
-    let found = page_entry8_by(walk.first, windows, image, table, offset);
+    let found = page_entry8_by(first, windows, image, table, offset);
     Fetch { at, found }
 }
 
@@ -137,7 +144,7 @@ pub(crate) fn page_step(
     ensures { λ r. ⌜ stepOf r ≡ pageOver registers (walk .address) write (walk .fpd) (ofWindows (now (windows .entry)) (now (image .entry))) below table ⌝ }
     ensures { λ r. ⌜ StepNames r (entryAt (placeIn (walk .address) table below)) ⌝ }
 {
-    let Fetch { at, found } = fetch_entry(windows, image, walk, below, table);
+    let Fetch { at, found } = fetch_entry(walk.first, windows, image, walk.address, below, table);
     let Found8::Entry(e) = found else {
         return Step::Fault(Reason::PageEntryAccess, walk.fpd, at);
     };

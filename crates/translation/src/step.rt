@@ -69,7 +69,7 @@ pub fn entry_step(
     ensures { λ r. ⌜ stepOf r ≡ entryOver registers (walk .address) (walk .fpd) (ofWindows (now (windows .entry)) (now (image .entry))) below table above ⌝ }
     ensures { λ r. ⌜ StepNames r (entryAt (placeIn (walk .address) table below)) ⌝ }
 {
-    let Fetch { at, found } = fetch_entry(windows, image, walk, below, table);
+    let Fetch { at, found } = fetch_entry(walk.first, windows, image, walk.address, below, table);
     let Found8::Entry(e) = found else {
         return Step::Fault(Reason::PageEntryAccess, walk.fpd, at);
     };
