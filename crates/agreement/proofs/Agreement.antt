@@ -14,6 +14,7 @@ use Rattle.image.specs.Choice.{if_then_else_}
 use Rattle.image.specs.Memory.{Memory, missing, entry}
 use Rattle.image.specs.Rules.{run}
 use Rattle.image.specs.Windows.{Window, windowsOf, endOf, holdsAll, nowhere, spotIn, overlap, entryIn, ofWindows}
+use Rattle.image.proofs.Choices.{both as both-true, neither}
 use Rattle.image.proofs.Same.{one-word}
 use Rattle.registers.specs.Admission.{inInterruptRange}
 use Rattle.registers.proofs.Good.{taken-good}
@@ -29,6 +30,7 @@ use Rattle.dma.proofs.Admissions.{takes}
 use Rattle.dma.proofs.Lookups.{looked-up, Finds, finds}
 use Rattle.dma.proofs.Steps.{offset-of}
 use Rattle.translation.specs.Rights.{both, rightOf}
+use Rattle.translation.proofs.Agree.{both-right}
 use Rattle.regions.specs.Outside.{touchedByAny, tableOutside}
 use Rattle.regions.specs.Region.{What, Region, listed}
 use Rattle.regions.specs.Region as region
@@ -37,17 +39,9 @@ use Rattle.mapping.specs.Mapping.{spaceEnd, regionAt, spans, mappingRules}
 use Rattle.mapping.specs.Spans.{Span, spanOf, spansFrom}
 use Rattle.mapping.proofs.Outcomes.{page-power, source-context, translates}
 use Rattle.mapping.proofs.SpanLaws.{same-block, offset-in}
-use Rattle.agreement.specs.Claims.{NoEntryOutside, WindowsTell, Walked, ListedWhereWalked, In, request, answerAt, lacking, toldBy, SpansAgree, Before, OthersLack, InOrder, SpansInOrder}
+use Rattle.agreement.specs.Claims.{NoEntryOutside, WindowsTell, WalkedTables, ListedWhereWalked, In, request, answerAt, lacking, toldBy, SpansAgree, Before, OthersLack, InOrder, SpansInOrder}
 use Rattle.agreement.proofs.Members.{first-part, Begun, begun, there, ordered}
-use Rattle.agreement.proofs.RegionAnswers.{both-right, said, answered, region-alike}
-
-both-true : (a b : Bool) → (a && b) ≡ true → (a ≡ true) × (b ≡ true)
-both-true true b h = (refl, h)
-both-true false b h = let z : _≡_ {A = ℕ} 0 1 = cc in absurd (omega arith)
-
-neither : (a b : Bool) → (a || b) ≡ false → (a ≡ false) × (b ≡ false)
-neither true b h = let z : _≡_ {A = ℕ} 0 1 = cc in absurd (omega arith)
-neither false b h = (refl, h)
+use Rattle.agreement.proofs.RegionAnswers.{said, answered, region-alike}
 
 -- a window that holds a word of a table touches it
 module _ (table n : ℕ) (few : n < 512) where
@@ -100,7 +94,7 @@ quiet-lacks fpd r x = by (x .what) (rightOf (r .write) (x .rights))
     by region.nothing false h = refl
 
 module _ (registers : Registers) (source : SourceId) (m : Memory) (outside : (table : ℕ) → Bool) (none : NoEntryOutside m outside)
-    (w : Walked registers (source .id) m) where
+    (w : WalkedTables registers (source .id) m) where
   abbrev c : Context
   c = w .own
 

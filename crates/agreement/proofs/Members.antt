@@ -12,15 +12,12 @@ use lib.Dec.{eqb}
 use lib.ListN.{length, take, drop, take-append-drop}
 use lib.Pow.{split, high, low, pow-pos, pow-add}
 use Rattle.image.specs.Choice.{if_then_else_}
+use Rattle.image.proofs.Choices.{both as both-true}
 use Rattle.dma.specs.InterruptRange.{spanAt}
 use Rattle.regions.specs.Region.{Region, listed}
 use Rattle.mapping.specs.Spans.{Span, spanOf, begins, spanHere, spansFrom, spansAfter}
 use Rattle.mapping.proofs.SpanLaws.{same-block, offset-in}
 use Rattle.agreement.specs.Claims.{InOrder}
-
-both-true : (a b : Bool) → (a && b) ≡ true → (a ≡ true) × (b ≡ true)
-both-true true b h = (refl, h)
-both-true false b h = let z : _≡_ {A = ℕ} 0 1 = cc in absurd (omega arith)
 
 in-left : {s : Span} (a b : List Span) → List·Memᴰ s a → List·Memᴰ s (a ++ b)
 in-left [] b h = absurd (List·Memᴰ·not-nil h)

@@ -38,10 +38,6 @@ off : (write : Bool) → rightOf write neither ≡ false
 off true = refl
 off false = refl
 
-pub both-right : (write : Bool) → rightOf write both ≡ true
-both-right true = refl
-both-right false = refl
-
 -- what a region says of a request: of a page, the frame plus the offset in the region
 abbrev pub said : (fpd : Bool) → What → (level : ℕ) → MemoryRequest → MemoryOutcome
 said fpd (region.page frame) level r = granted (hostAddress level frame (r .address))

@@ -35,7 +35,7 @@ abbrev pub WindowsTell : Type 0
 WindowsTell = (windows bytes : List ℕ) → NoEntryOutside (ofWindows windows bytes) (tableOutside windows)
 
 -- where tables are walked: the registers are good, TE is on, and the source's context translates
-pub record Walked (registers : Registers) (source : ℕ) (m : Memory) : Type 0 where
+pub record WalkedTables (registers : Registers) (source : ℕ) (m : Memory) : Type 0 where
   pub taken : takenUp ≡ admission registers false (registers .te)
   pub own : Context
   pub own-context : run (lookupRules registers source) m ≡ context own
@@ -44,7 +44,7 @@ pub record Walked (registers : Registers) (source : ℕ) (m : Memory) : Type 0 w
 -- there the listing is that of the context's spans
 abbrev pub ListedWhereWalked : Type 0
 ListedWhereWalked =
-    (registers : Registers) (source : ℕ) (m : Memory) (outside : (table : ℕ) → Bool) (w : Walked registers source m)
+    (registers : Registers) (source : ℕ) (m : Memory) (outside : (table : ℕ) → Bool) (w : WalkedTables registers source m)
     → mapping registers m outside source ≡ mapped (spans registers m outside (w .own))
 
 -- an address of a span
@@ -74,7 +74,7 @@ toldBy fpd region.nothing start r = lacking fpd r
 abbrev pub SpansAgree : Type 0
 SpansAgree =
     (registers : Registers) (source : SourceId) (m : Memory) (outside : (table : ℕ) → Bool) → NoEntryOutside m outside
-    → (w : Walked registers (source .id) m) (s : Span) → List·Memᴰ s (spans registers m outside (w .own))
+    → (w : WalkedTables registers (source .id) m) (s : Span) → List·Memᴰ s (spans registers m outside (w .own))
     → (address : ℕ) (write : Bool) → In address s → inInterruptRange address ≡ false
     → answerAt registers m (request source address write)
     ≡ (if rightOf write (s .rights) then toldBy (w .own .fpd) (s .what) (s .start) (request source address write)
@@ -90,7 +90,7 @@ pub record Before (address : ℕ) (l : List Span) : Type 0 where
 abbrev pub OthersLack : Type 0
 OthersLack =
     (registers : Registers) (source : SourceId) (m : Memory) (outside : (table : ℕ) → Bool) → NoEntryOutside m outside
-    → (w : Walked registers (source .id) m) (n address : ℕ) (write : Bool)
+    → (w : WalkedTables registers (source .id) m) (n address : ℕ) (write : Bool)
     → address < spaceEnd registers m outside (w .own) → inInterruptRange address ≡ false
     → ((s : Span) → List·Memᴰ s (take n (spans registers m outside (w .own))) → In address s → ⊥)
     → (length (spans registers m outside (w .own)) ≤ n) ⊎ Before address (take n (spans registers m outside (w .own)))
@@ -103,5 +103,5 @@ InOrder from end (s ∷ ss) = (from ≤ s .start) × (0 < s .size) × (s .start 
 
 abbrev pub SpansInOrder : Type 0
 SpansInOrder =
-    (registers : Registers) (source : ℕ) (m : Memory) (outside : (table : ℕ) → Bool) (w : Walked registers source m)
+    (registers : Registers) (source : ℕ) (m : Memory) (outside : (table : ℕ) → Bool) (w : WalkedTables registers source m)
     → InOrder 0 (spaceEnd registers m outside (w .own)) (spans registers m outside (w .own))

@@ -4,7 +4,7 @@ use mathlib.Core.Bool.{Bool, true, false, not}
 use mathlib.Core.Path.{_≡_, refl}
 use Rattle.image.specs.Bits.{bits, bit}
 use Rattle.image.specs.Check.{Check, stop, go}
-use Rattle.image.specs.Choice.{if_then_else_}
+use Rattle.image.specs.Choice.{if_then_else_, one-if}
 use Rattle.image.specs.Place.{Place, noEntry, entryAt}
 use Rattle.registers.specs.declared.Registers.{Registers}
 use Rattle.faults.specs.Record.{FaultAnswer}
@@ -12,8 +12,8 @@ use Rattle.dma.specs.Context.{contextReserved, contextInvalid, contextCheck}
 use Rattle.dma.specs.Root.{rootReserved, rootCheck}
 use Rattle.traced.specs.Well.{wellTraced, wellAsked, wellReason}
 use Rattle.traced.specs.declared.Traced.{Traced}
-use Rattle.answered.specs.Answered.{plain, flagOf, faulted}
-use Rattle.answered.specs.Told.{placeIn, faultIn}
+use Rattle.answered.specs.Answered.{plain, faultTraced}
+use Rattle.answered.specs.Told.{concernedIn, faultIn}
 
 -- a check that stops stops with a reason of a kind
 abbrev pub Stops : {A : Type 0} → (ℕ → Type 0) → Check A → Type 0
@@ -39,32 +39,32 @@ context-stops Reason absent reserved bad registers e =
     (tested Reason (contextReserved (registers .haw) e) 0x0B _ reserved (tested Reason (contextInvalid registers e) 0x03 _ bad tt))
 
 module _ (kind source address message : ℕ) where
-  pub fault-place : (f : FaultAnswer) (p : Place) → placeIn (faulted kind source address message f p) ≡ p
+  pub fault-place : (f : FaultAnswer) (p : Place) → concernedIn (faultTraced kind source address message f p) ≡ p
   unfolding bits
   fault-place f noEntry = by (f .recordable)
     where
-      by : (t : Bool) → (if bit (flagOf t) 1 then entryAt 0 else noEntry) ≡ noEntry
+      by : (t : Bool) → (if bit (one-if t) 1 then entryAt 0 else noEntry) ≡ noEntry
       by true = refl
       by false = refl
   fault-place f (entryAt at) = by (f .recordable)
     where
-      by : (t : Bool) → (if bit (flagOf t + 2) 1 then entryAt at else noEntry) ≡ entryAt at
+      by : (t : Bool) → (if bit (one-if t + 2) 1 then entryAt at else noEntry) ≡ entryAt at
       by true = refl
       by false = refl
 
-  pub fault-told : (f : FaultAnswer) (p : Place) → faultIn (faulted kind source address message f p) (f .contents) ≡ f
+  pub fault-told : (f : FaultAnswer) (p : Place) → faultIn (faultTraced kind source address message f p) (f .contents) ≡ f
   unfolding bits
   fault-told f noEntry = by (f .recordable)
     where
       by : (t : Bool)
-          → _≡_ {A = FaultAnswer} (record { reason = f .reason; recordable = bit (flagOf t) 0; contents = f .contents })
+          → _≡_ {A = FaultAnswer} (record { reason = f .reason; recordable = bit (one-if t) 0; contents = f .contents })
           (record { reason = f .reason; recordable = t; contents = f .contents })
       by true = refl
       by false = refl
   fault-told f (entryAt at) = by (f .recordable)
     where
       by : (t : Bool)
-          → _≡_ {A = FaultAnswer} (record { reason = f .reason; recordable = bit (flagOf t + 2) 0; contents = f .contents })
+          → _≡_ {A = FaultAnswer} (record { reason = f .reason; recordable = bit (one-if t + 2) 0; contents = f .contents })
           (record { reason = f .reason; recordable = t; contents = f .contents })
       by true = refl
       by false = refl
@@ -72,21 +72,21 @@ module _ (kind source address message : ℕ) where
   -- laid out well, where the request is and the reason is one of its kind
   pub fault-well : (f : FaultAnswer) (p : Place) → wellAsked (plain kind source address message 2 0 0 0) ≡ true
       → wellReason (plain kind source address message 2 (f .reason) 0 0) ≡ true
-      → wellTraced (faulted kind source address message f p) ≡ true
+      → wellTraced (faultTraced kind source address message f p) ≡ true
   unfolding wellTraced bits
   fault-well f noEntry asked reason = by (f .recordable)
     where
-      by : (t : Bool) → wellTraced (plain kind source address message 2 (f .reason) (flagOf t) 0) ≡ true
+      by : (t : Bool) → wellTraced (plain kind source address message 2 (f .reason) (one-if t) 0) ≡ true
       by true = rw (asked, reason)
       by false = rw (asked, reason)
   fault-well f (entryAt at) asked reason = by (f .recordable)
     where
-      by : (t : Bool) → wellTraced (plain kind source address message 2 (f .reason) (flagOf t + 2) at) ≡ true
+      by : (t : Bool) → wellTraced (plain kind source address message 2 (f .reason) (one-if t + 2) at) ≡ true
       by true = rw (asked, reason)
       by false = rw (asked, reason)
 
   -- what is told of every fault of these
   pub fault-cases : (P : Traced → Type 0) (f : FaultAnswer) (p : Place)
-      → ((flags value : ℕ) → P (plain kind source address message 2 (f .reason) flags value)) → P (faulted kind source address message f p)
-  fault-cases P f noEntry h = h (flagOf (f .recordable)) 0
-  fault-cases P f (entryAt at) h = h (flagOf (f .recordable) + 2) at
+      → ((flags value : ℕ) → P (plain kind source address message 2 (f .reason) flags value)) → P (faultTraced kind source address message f p)
+  fault-cases P f noEntry h = h (one-if (f .recordable)) 0
+  fault-cases P f (entryAt at) h = h (one-if (f .recordable) + 2) at

@@ -10,7 +10,7 @@ use lib.Dec.{eqb, leb}
 use lib.ListN.{length}
 use Rattle.image.specs.Bits.{bits, bit, anySet}
 use Rattle.image.specs.Check.{Check, stop, go, onCheck}
-use Rattle.image.specs.Choice.{if_then_else_}
+use Rattle.image.specs.Choice.{if_then_else_, one-if}
 use Rattle.image.specs.EntryKind.{remappingEntry, postedDescriptor}
 use Rattle.image.specs.Memory.{Memory}
 use Rattle.image.specs.Place.{Place, noEntry, stoppedAt}
@@ -32,9 +32,9 @@ use Rattle.interrupts.specs.Interrupts.{Delivery, fault, remap, post, descripto
 use Rattle.interrupts.specs.Request.{Format, compatibility, remappable, handleOf, requestCheck}
 use Rattle.interrupts.specs.declared.InterruptRequest.{InterruptRequest}
 use Rattle.traced.specs.Well.{wellTraced, wellReason}
-use Rattle.answered.specs.Answered.{plain, flagOf, modesOf, interruptTraced}
+use Rattle.answered.specs.Answered.{plain, modesOf, interruptTraced}
 use Rattle.answered.specs.Claims.{interruptEntry}
-use Rattle.answered.specs.Told.{interruptIn, interruptOutcomeIn, placeIn, faultIn}
+use Rattle.answered.specs.Told.{interruptIn, interruptOutcomeIn, concernedIn, faultIn}
 use Rattle.answered.proofs.Faults.{Stops, tested, fault-place, fault-told, fault-well, fault-cases}
 
 -- 20h to 28h
@@ -107,23 +107,23 @@ module _ (a b c d : ℕ) (a-small : a < 2) (b-small : b < 2) (c-small : c < 2) w
   unfolding bits
   delivery-mode small = omega arith
 
-flag-small : (t : Bool) → flagOf t < 2
+flag-small : (t : Bool) → one-if t < 2
 flag-small true = omega arith
 flag-small false = omega arith
 
-flag-told : (t : Bool) → eqb (flagOf t) 1 ≡ t
+flag-told : (t : Bool) → eqb (one-if t) 1 ≡ t
 flag-told true = refl
 flag-told false = refl
 
 module _ (r : Remapped) where
   abbrev a : ℕ
-  a = flagOf (r .destinationMode)
+  a = one-if (r .destinationMode)
 
   abbrev b : ℕ
-  b = flagOf (r .redirectionHint)
+  b = one-if (r .redirectionHint)
 
   abbrev c : ℕ
-  c = flagOf (r .trigger)
+  c = one-if (r .trigger)
 
   modes-few : leb (modesOf r) 63 ≡ true
   modes-few = sum-few a b c (r .delivery) (flag-small (r .destinationMode)) (flag-small (r .redirectionHint)) (flag-small (r .trigger))
@@ -212,7 +212,7 @@ module _ (registers : Registers) (q : InterruptRequest) where
   Told o p =
       (interruptIn (interruptTraced q o p) ≡ q)
       × (interruptOutcomeIn (interruptTraced q o p) ≡ o)
-      × (placeIn (interruptTraced q o p) ≡ p)
+      × (concernedIn (interruptTraced q o p) ≡ p)
 
   told : (o : InterruptOutcome) (p : Place) → Answers o → Told o (concerned o p)
   unfolding interruptTraced
@@ -254,6 +254,6 @@ module _ (registers : Registers) (q : InterruptRequest) where
 
     pub interrupt-told : (interruptIn (interruptEntry registers windows bytes q) ≡ q)
         × (interruptOutcomeIn (interruptEntry registers windows bytes q) ≡ interruptAnswer registers q windows bytes)
-        × (placeIn (interruptEntry registers windows bytes q) ≡ interruptAnswerPlace registers q windows bytes)
+        × (concernedIn (interruptEntry registers windows bytes q) ≡ interruptAnswerPlace registers q windows bytes)
     unfolding interruptEntry
     interrupt-told = lent Told told

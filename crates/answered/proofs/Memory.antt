@@ -31,9 +31,9 @@ use Rattle.dma.proofs.Cases.{width-cases}
 use Rattle.dma.proofs.Lookups.{every-lookup}
 use Rattle.dma.proofs.Walks.{every-walk}
 use Rattle.traced.specs.Well.{wellTraced, wellReason}
-use Rattle.answered.specs.Answered.{plain, kindOf, faulted, memoryTraced}
+use Rattle.answered.specs.Answered.{plain, kindOf, faultTraced, memoryTraced}
 use Rattle.answered.specs.Claims.{memoryEntry}
-use Rattle.answered.specs.Told.{memoryIn, memoryOutcomeIn, placeIn, faultIn}
+use Rattle.answered.specs.Told.{memoryIn, memoryOutcomeIn, concernedIn, faultIn}
 use Rattle.answered.proofs.Faults.{Stops, tested, root-stops, context-stops, fault-place, fault-told, fault-well, fault-cases}
 
 -- 01h to 0Ch, of a read and of a write
@@ -123,7 +123,7 @@ module _ (registers : Registers) (q : MemoryRequest) where
       by false = refl
   well (blocked f) p h = by (q .write)
     where
-      by : (write : Bool) → wellTraced (faulted (kindOf write) (q .source .id) (q .address) 0 f p) ≡ true
+      by : (write : Bool) → wellTraced (faultTraced (kindOf write) (q .source .id) (q .address) 0 f p) ≡ true
       by true = fault-well 2 (q .source .id) (q .address) 0 f p refl (h .0 .1)
       by false = fault-well 1 (q .source .id) (q .address) 0 f p refl (h .0 .0)
   well (refused n) p h = by (q .write)
@@ -134,7 +134,7 @@ module _ (registers : Registers) (q : MemoryRequest) where
 
   abbrev Told : MemoryOutcome → Place → Type 0
   Told o p =
-      (memoryIn (memoryTraced q o p) ≡ q) × (memoryOutcomeIn (memoryTraced q o p) ≡ o) × (placeIn (memoryTraced q o p) ≡ p)
+      (memoryIn (memoryTraced q o p) ≡ q) × (memoryOutcomeIn (memoryTraced q o p) ≡ o) × (concernedIn (memoryTraced q o p) ≡ p)
 
   write-told : (write : Bool) → eqb (kindOf write) 2 ≡ write
   write-told true = refl
@@ -149,7 +149,7 @@ module _ (registers : Registers) (q : MemoryRequest) where
   told (refused n) p h = (request-told, refl, refl)
   told (blocked f) p h =
       let kind = kindOf (q .write) in
-      let e = faulted kind (q .source .id) (q .address) 0 f p in
+      let e = faultTraced kind (q .source .id) (q .address) 0 f p in
       let record-told : (flags value : ℕ) → memoryOutcomeIn (plain kind (q .source .id) (q .address) 0 2 (f .reason) flags value)
       ≡ blocked (faultIn (plain kind (q .source .id) (q .address) 0 2 (f .reason) flags value) (f .contents)) =
       λ flags value. rw (write-told (q .write), h .1) in (
@@ -182,6 +182,6 @@ module _ (registers : Registers) (q : MemoryRequest) where
 
     pub memory-told : (memoryIn (memoryEntry registers windows bytes q) ≡ q)
         × (memoryOutcomeIn (memoryEntry registers windows bytes q) ≡ memoryAnswer registers q windows bytes)
-        × (placeIn (memoryEntry registers windows bytes q) ≡ memoryAnswerPlace registers q windows bytes)
+        × (concernedIn (memoryEntry registers windows bytes q) ≡ memoryAnswerPlace registers q windows bytes)
     unfolding memoryEntry
     memory-told = lent Told told

@@ -7,7 +7,7 @@ use native.Mathlib.Omega.{arith}
 use lib.Dec.{leb}
 use lib.ListN.{length}
 use Rattle.image.specs.Bits.{bits, bit, inPlace}
-use Rattle.image.specs.Choice.{if_then_else_}
+use Rattle.image.specs.Choice.{if_then_else_, one-if}
 use Rattle.image.specs.EntryKind.{EntryKind}
 use Rattle.image.specs.Memory.{Memory}
 use Rattle.image.specs.Place.{Place, noEntry, stoppedAt}
@@ -32,9 +32,9 @@ use Rattle.translation.specs.declared.TranslationRequest.{TranslationRequest}
 use Rattle.translation.proofs.Entries.{step-cases, page-low}
 use Rattle.translation.proofs.Forks.{type-cases}
 use Rattle.traced.specs.Well.{wellTraced, wellReason}
-use Rattle.answered.specs.Answered.{plain, flagOf, faulted, widthOf, translationTraced}
+use Rattle.answered.specs.Answered.{plain, faultTraced, widthOf, translationTraced}
 use Rattle.answered.specs.Claims.{translationEntry}
-use Rattle.answered.specs.Told.{translationIn, translationOutcomeIn, placeIn, faultIn, sizeIn}
+use Rattle.answered.specs.Told.{translationIn, translationOutcomeIn, concernedIn, faultIn, sizeIn}
 use Rattle.answered.proofs.Faults.{Stops, root-stops, context-stops, fault-place, fault-told, fault-well, fault-cases}
 
 -- 01h to 0Dh
@@ -56,14 +56,14 @@ three P first second third (suc (suc (suc (suc n)))) more few = absurd (omega ar
 
 -- a page's flags are below 4
 abbrev rightsOf : Rights → ℕ
-rightsOf rights = flagOf (rights .read) + 2 * flagOf (rights .write)
+rightsOf rights = one-if (rights .read) + 2 * one-if (rights .write)
 
 rights-told : (rights : Rights) → _≡_ {A = Rights} (record { read = bit (rightsOf rights) 0; write = bit (rightsOf rights) 1 }) rights
 unfolding bits
 rights-told rights = by (rights .read) (rights .write)
   where
     by : (r w : Bool)
-        → _≡_ {A = Rights} (record { read = bit (flagOf r + 2 * flagOf w) 0; write = bit (flagOf r + 2 * flagOf w) 1 }) (record { read = r; write = w })
+        → _≡_ {A = Rights} (record { read = bit (one-if r + 2 * one-if w) 0; write = bit (one-if r + 2 * one-if w) 1 }) (record { read = r; write = w })
     by true true = refl
     by true false = refl
     by false true = refl
@@ -72,7 +72,7 @@ rights-told rights = by (rights .read) (rights .write)
 rights-few : (rights : Rights) → leb (rightsOf rights) 3 ≡ true
 rights-few rights = by (rights .read) (rights .write)
   where
-    by : (r w : Bool) → leb (flagOf r + 2 * flagOf w) 3 ≡ true
+    by : (r w : Bool) → leb (one-if r + 2 * one-if w) 3 ≡ true
     by true true = refl
     by true false = refl
     by false true = refl
@@ -155,7 +155,7 @@ module _ (registers : Registers) (q : TranslationRequest) where
   Told o p =
       (translationIn (translationTraced q o p) ≡ q)
       × (translationOutcomeIn (translationTraced q o p) ≡ o)
-      × (placeIn (translationTraced q o p) ≡ p)
+      × (concernedIn (translationTraced q o p) ≡ p)
 
   told : (o : TranslationOutcome) (p : Place) → Answers o → Told o (concerned o p)
   unfolding translationTraced
@@ -163,7 +163,7 @@ module _ (registers : Registers) (q : TranslationRequest) where
   told (translated frame size rights) p h = (refl, rw (h .0, rights-told rights), refl)
   told (refused n) p h = (refl, refl, refl)
   told (blocked f) p h =
-      let e = faulted 4 (q .source .id) (q .address) 0 f p in
+      let e = faultTraced 4 (q .source .id) (q .address) 0 f p in
       let record-told : (flags value : ℕ) → translationOutcomeIn (plain 4 (q .source .id) (q .address) 0 2 (f .reason) flags value)
       ≡ blocked (faultIn (plain 4 (q .source .id) (q .address) 0 2 (f .reason) flags value) (f .contents)) =
       λ flags value. rw (h .1) in (
@@ -196,6 +196,6 @@ module _ (registers : Registers) (q : TranslationRequest) where
 
     pub translation-told : (translationIn (translationEntry registers windows bytes q) ≡ q)
         × (translationOutcomeIn (translationEntry registers windows bytes q) ≡ translationAnswer registers q windows bytes)
-        × (placeIn (translationEntry registers windows bytes q) ≡ translationAnswerPlace registers q windows bytes)
+        × (concernedIn (translationEntry registers windows bytes q) ≡ translationAnswerPlace registers q windows bytes)
     unfolding translationEntry
     translation-told = lent Told told

@@ -13,7 +13,7 @@ use Rattle.interrupts.specs.declared.InterruptRequest.{InterruptRequest}
 use Rattle.traced.specs.Well.{wellTraced}
 use Rattle.traced.specs.declared.Traced.{Traced}
 use Rattle.answered.specs.Answered.{memoryTraced, translationTraced, interruptTraced}
-use Rattle.answered.specs.Told.{memoryIn, memoryOutcomeIn, translationIn, translationOutcomeIn, interruptIn, interruptOutcomeIn, placeIn}
+use Rattle.answered.specs.Told.{memoryIn, memoryOutcomeIn, translationIn, translationOutcomeIn, interruptIn, interruptOutcomeIn, concernedIn}
 
 module _ (registers : Registers) (windows bytes : List ℕ) where
   -- the entry of a request with its answer
@@ -39,14 +39,14 @@ pub record EntriesWell : Type 0 where
 pub record EntriesTell : Type 0 where
   pub memory : (registers : Registers) (windows bytes : List ℕ) (q : MemoryRequest)
       → let e = memoryEntry registers windows bytes q in
-      (memoryIn e ≡ q) × (memoryOutcomeIn e ≡ memoryAnswer registers q windows bytes) × (placeIn e ≡ memoryAnswerPlace registers q windows bytes)
+      (memoryIn e ≡ q) × (memoryOutcomeIn e ≡ memoryAnswer registers q windows bytes) × (concernedIn e ≡ memoryAnswerPlace registers q windows bytes)
   pub translations : (registers : Registers) (windows bytes : List ℕ) (q : TranslationRequest)
       → let e = translationEntry registers windows bytes q in
       (translationIn e ≡ q)
       × (translationOutcomeIn e ≡ translationAnswer registers q windows bytes)
-      × (placeIn e ≡ translationAnswerPlace registers q windows bytes)
+      × (concernedIn e ≡ translationAnswerPlace registers q windows bytes)
   pub interrupts : (registers : Registers) (windows bytes : List ℕ) (q : InterruptRequest)
       → let e = interruptEntry registers windows bytes q in
       (interruptIn e ≡ q)
       × (interruptOutcomeIn e ≡ interruptAnswer registers q windows bytes)
-      × (placeIn e ≡ interruptAnswerPlace registers q windows bytes)
+      × (concernedIn e ≡ interruptAnswerPlace registers q windows bytes)

@@ -28,8 +28,8 @@ module _ (e : Traced) where
   interruptIn = record { source = record { id = e .source }; address = e .address; «data» = e .«data» }
 
   -- the entry concerned in a fault
-  abbrev pub placeIn : Place
-  placeIn = if eqb (e .answer) 2 && bit (e .flags) 1 then entryAt (e .value) else noEntry
+  abbrev pub concernedIn : Place
+  concernedIn = if eqb (e .answer) 2 && bit (e .flags) 1 then entryAt (e .value) else noEntry
 
   abbrev pub faultIn : (contents : ℕ) → FaultAnswer
   faultIn contents = record { reason = e .number; recordable = bit (e .flags) 0; contents = contents }

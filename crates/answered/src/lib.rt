@@ -1,13 +1,14 @@
 // Entries of the trace from the unit's requests and answers.
 ghost use mathlib.Core.Path.{_≡_};
 ghost use Prim.Native.Nat.{_<_};
-ghost use Rattle.image.specs.Entries.{placeOf};
+ghost use Rattle.image.specs.Answers.{placeOf};
+ghost use Rattle.image.specs.Choice.{one-if};
 ghost use Rattle.faults.specs.Answers.{faultOf};
 ghost use Rattle.dma.specs.Answers.{outcomeOf, entryOf};
 ghost use Rattle.irte.specs.Answers.{remappedOf};
 ghost use Rattle.interrupts.specs.Answers as interrupts;
 ghost use Rattle.interrupts.specs.Answers.{dueOf};
-ghost use Rattle.answered.specs.Answered.{plain, faulted, flagOf, kindOf, memoryTraced, raised, modesOf, postTraced, interruptTraced};
+ghost use Rattle.answered.specs.Answered.{plain, faultTraced, kindOf, memoryTraced, raised, modesOf, postTraced, interruptTraced};
 
 mod page;
 
@@ -57,7 +58,7 @@ pub fn asked(kind: u8, source: u16, address: u64, data: u32) -> Traced
 }
 
 pub(crate) fn flag(on: bool) -> u8
-    ensures { λ r. ⌜ (r ≡ flagOf on) × (r < 2) ⌝ }
+    ensures { λ r. ⌜ (r ≡ one-if on) × (r < 2) ⌝ }
 {
     if on { 1 } else { 0 }
 }
@@ -90,7 +91,7 @@ pub fn memory_entry(request: MemoryRequest, answer: MemoryAnswer) -> Traced
 
 // Flag 0 that the fault may be recorded, flag 1 that the value is the address of the entry concerned.
 pub(crate) fn with_fault(e: Traced, fault: Fault, entry: EntryAddress) -> Traced
-    ensures { λ r. ⌜ r ≡ faulted (e .kind) (e .source) (e .address) (e .«data») (faultOf fault) (placeOf entry) ⌝ }
+    ensures { λ r. ⌜ r ≡ faultTraced (e .kind) (e .source) (e .address) (e .«data») (faultOf fault) (placeOf entry) ⌝ }
 {
     let reason = fault.reason;
     let number = reason.number();

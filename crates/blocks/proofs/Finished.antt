@@ -10,21 +10,10 @@ use lib.Dec.{eqb, lit<}
 use lib.ListN.{length, getD, take, drop, replicate, length-append, length-replicate}
 use lib.Seq.{take-at, drop-at, drop-drop, take-all}
 use Rattle.image.specs.Bytes.{bytesOf, littleEndian}
-use Rattle.image.proofs.Bytes.{AreBytes, length-bytesOf, number-back}
+use Rattle.image.proofs.Bytes.{AreBytes, length-bytesOf, number-back, bytes-append, bytes-number}
 use Rattle.blocks.specs.Block.{weighed, zeros, count, number, headed, unused, sumHeld, sumOf, framed}
 use Rattle.blocks.specs.Written.{body, blockBytes}
 use Rattle.blocks.proofs.Frames.{all-but-sum}
-
-pub bytes-append : (xs ys : List ℕ) → AreBytes xs → AreBytes ys → AreBytes (xs ++ ys)
-bytes-append [] ys hx hy i = hy i
-bytes-append (x ∷ xs) ys hx hy zero = hx 0
-bytes-append (x ∷ xs) ys hx hy (suc i) = bytes-append xs ys (λ j. hx (suc j)) hy i
-
-pub bytes-number : (n value : ℕ) → AreBytes (bytesOf n value)
-unfolding bytesOf
-bytes-number zero value i = lit< tt
-bytes-number (suc n) value zero = mod-lt value (lit< tt)
-bytes-number (suc n) value (suc i) = bytes-number n (value / 256) i
 
 pub bytes-zeros : (n : ℕ) → AreBytes (replicate n 0)
 bytes-zeros zero i = lit< tt

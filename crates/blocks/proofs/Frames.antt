@@ -18,12 +18,12 @@ pub and-right : (a b : Bool) → (a && b) ≡ true → b ≡ true
 and-right true b h = h
 and-right false b h = let z : _≡_ {A = ℕ} 0 1 = cc in absurd (omega arith)
 
-pub and-false : (a b : Bool) → b ≡ false → (a && b) ≡ false
-and-false true b h = h
-and-false false b h = refl
+pub no-last : (a b : Bool) → b ≡ false → (a && b) ≡ false
+no-last true b h = h
+no-last false b h = refl
 
-pub false-and : (a b : Bool) → a ≡ false → (a && b) ≡ false
-false-and a b h = rw h
+pub no-first : (a b : Bool) → a ≡ false → (a && b) ≡ false
+no-first a b h = rw h
 
 -- of a block's head: its count and its number
 module _ (block : List ℕ) (place : ℕ) (h : headed block place ≡ true) where

@@ -11,13 +11,13 @@ use lib.Dec.{eqb, lit<}
 use lib.ListN.{length, getD, take, drop, set, length-drop}
 use lib.Seq.{take-set-le, take-set-lt, drop-set-lt, drop-set-add, getD-take, getD-drop, length-take-le}
 use Rattle.blocks.specs.Block.{count, headed, zeros, unused, sumHeld, sumOf, framed, entriesWell, wellLaid, OneByteNamed}
-use Rattle.blocks.proofs.Frames.{and-left, and-false, false-and, framed-length, framed-sum}
+use Rattle.blocks.proofs.Frames.{and-left, no-last, no-first, framed-length, framed-sum}
 use Rattle.blocks.proofs.Sums.{weighed-set, spelled-set}
 
 pub not-summed : (block : List ℕ) (place : ℕ) → (sumHeld block ≡ sumOf block → ⊥) → framed block place ≡ false
 unfolding framed
 not-summed block place h =
-    and-false (eqb (length block) 512 && headed block place && zeros (unused block)) (eqb (sumHeld block) (sumOf block))
+    no-last (eqb (length block) 512 && headed block place && zeros (unused block)) (eqb (sumHeld block) (sumOf block))
     (ne-eqb (sumHeld block) (sumOf block) h)
 
 pub well-framed : (well : List ℕ → Bool) (block : List ℕ) (place : ℕ) → wellLaid well block place ≡ true → framed block place ≡ true
@@ -62,5 +62,5 @@ pub one-byte-named : OneByteNamed
 unfolding wellLaid
 one-byte-named well well′ block place place′ i v laid inside other =
     let was = well-framed well block place laid in
-    false-and (framed (set block i v) place′) (entriesWell well′ (count (set block i v)) (drop 8 (set block i v)))
+    no-first (framed (set block i v) place′) (entriesWell well′ (count (set block i v)) (drop 8 (set block i v)))
     (not-summed (set block i v) place′ (changed block i v (framed-length block place was) inside other (framed-sum block place was)))

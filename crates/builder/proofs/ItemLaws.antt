@@ -7,7 +7,7 @@ use borrow.Author.Tests.{eqb-true, leb-false, le-leb, lt-leb, eq-eqb, ne-eqb, no
 use lib.Dec.{eqb, leb, ltb}
 use lib.Pow.{pow-mono}
 use Rattle.image.specs.Choice.{if_then_else_}
-use Rattle.image.proofs.GoodWindows.{both, neither}
+use Rattle.image.proofs.Choices.{both, neither}
 use Rattle.registers.specs.declared.Registers.{Registers}
 use Rattle.dma.specs.InterruptRange.{meetsInterruptRange}
 use Rattle.builder.specs.Reasons.{unmaps, rights, isLarge, badSize, badAlignment, badPlace, badFrame, placeReason, mapReason, orElse, itemReason}

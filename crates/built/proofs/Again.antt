@@ -21,7 +21,7 @@ use Rattle.dma.specs.declared.context.Context.{Context}
 use Rattle.marking.specs.Marking.{markAll}
 use Rattle.region.specs.Copy.{copiedIn, wordShown}
 use Rattle.region.specs.Region.{badRegion}
-use Rattle.tables.specs.Tables.{Tables, entryOf, present, absent, emptyTable}
+use Rattle.tables.specs.Tables.{Tables, heldEntry, present, absent, emptyTable}
 use Rattle.tables.specs.declared.Tree.{Tree}
 use Rattle.builder.specs.Build.{Built, done, notReady, atItem, Lent, lent, afterItems, whenReady, built}
 use Rattle.builder.specs.Ready.{Readiness, refusal, notYet, ready, sized, topOutside, treeOf, inContext, readiness}
@@ -101,8 +101,8 @@ module _ (registers : Registers) (source start size : ℕ) (windows items : List
           on-marks false e h = let y : _≡_ {A = ℕ} 0 1 = cc in omega arith
 
 -- a word that a run of bytes doesn't hold
-none-there : (bytes : List ℕ) (at : ℕ) → length bytes < at + 8 → entryOf bytes at ≡ 0
-unfolding entryOf
+none-there : (bytes : List ℕ) (at : ℕ) → length bytes < at + 8 → heldEntry bytes at ≡ 0
+unfolding heldEntry
 none-there bytes at h = ap (λ (f : Fetched). onFetch f 0 (λ e. e)) (outside bytes 0 at (omega arith))
 
 module _ (registers : Registers) (source start size : ℕ) (windows items : List ℕ) (l : Lent)
@@ -141,23 +141,23 @@ module _ (registers : Registers) (source start size : ℕ) (windows items : List
     begun-length : length begun ≡ size
     begun-length = length-in (ofWindows windows after) (tree .start) (length copy / 8) 0 copy ∙ r .copy-size
 
-    same-word : (x : ℕ) → entryOf begun (8 * x) ≡ entryOf (ended .bytes) (8 * x)
+    same-word : (x : ℕ) → heldEntry begun (8 * x) ≡ heldEntry (ended .bytes) (8 * x)
     unfolding wordShown
     same-word x = by (decLe (8 * x + 8) size)
       where
-        by : Dec (8 * x + 8 ≤ size) → entryOf begun (8 * x) ≡ entryOf (ended .bytes) (8 * x)
+        by : Dec (8 * x + 8 ≤ size) → heldEntry begun (8 * x) ≡ heldEntry (ended .bytes) (8 * x)
         by (yes few) =
             let m = ofWindows windows after in
             let long = ended-length registers source start size windows items l bytes copied tree c in
             let there = shown′ registers source start size windows items l bytes copied tree c x (omega (arith, long)) in
             let all : 0 + 8 * x ≡ 8 * x = omega arith in
-            let told : wordShown m (tree .start + (0 + 8 * x)) ≡ entryOf (ended .bytes) (8 * x) =
+            let told : wordShown m (tree .start + (0 + 8 * x)) ≡ heldEntry (ended .bytes) (8 * x) =
             ap (λ (k : ℕ). wordShown m (tree .start + k)) all
             ∙ ap (λ (f : Fetched). onFetch f 0 (λ e. e)) (one-word m (tree .start + 8 * x) ∙ there) in
             let small : wordShown m (tree .start + (0 + 8 * x)) < 2 ^ 64 =
             rw told (entry-below (ended .bytes) (ended-bytes registers source start size windows items l bytes copied tree c) (8 * x)) in
             let is = word-in m (tree .start) (length copy / 8) 0 copy (omega arith) x (omega (arith, r .copy-size)) small in
-            sym (ap (entryOf begun) all) ∙ is ∙ told
+            sym (ap (heldEntry begun) all) ∙ is ∙ told
         by (no out) =
             none-there begun (8 * x) (omega (arith, begun-length))
             ∙ sym (none-there (ended .bytes) (8 * x) (omega (arith, ended-length registers source start size windows items l bytes copied tree c)))
@@ -197,12 +197,12 @@ word-small windows run are at =
     by missing is = omega arith
     by (found w) is = word-below windows run are at is
 
-all-absent : (n : ℕ) (bytes : List ℕ) (at : ℕ) → ((k : ℕ) → k < n → present (entryOf bytes (at + 8 * k)) ≡ false) → absent n bytes at ≡ true
+all-absent : (n : ℕ) (bytes : List ℕ) (at : ℕ) → ((k : ℕ) → k < n → present (heldEntry bytes (at + 8 * k)) ≡ false) → absent n bytes at ≡ true
 unfolding absent
 all-absent zero bytes at h = refl
 all-absent (suc n) bytes at h =
     let here : at + 8 * 0 ≡ at = omega arith in
-    let first : present (entryOf bytes at) ≡ false = rw here at (h 0 (omega arith)) in
+    let first : present (heldEntry bytes at) ≡ false = rw here at (h 0 (omega arith)) in
     rw first
     (all-absent n bytes (at + 8) (λ k few. let next : at + 8 * suc k ≡ at + 8 + 8 * k = omega arith in rw next at (h (suc k) (omega arith))))
 
@@ -252,7 +252,7 @@ builds-on-empty registers source start size windows items l bytes own is inside 
         none : emptyTable (copyOf registers source start size windows items l tree) (tree .top) ≡ true
         none = all-absent 512 (copyOf registers source start size windows items l tree) (tree .top) each
           where
-            each : (k : ℕ) → k < 512 → present (entryOf (copyOf registers source start size windows items l tree) (tree .top + 8 * k)) ≡ false
+            each : (k : ℕ) → k < 512 → present (heldEntry (copyOf registers source start size windows items l tree) (tree .top + 8 * k)) ≡ false
             each k few =
                 let x = tree .top / 8 + k in
                 let at : 0 + 8 * x ≡ tree .top + 8 * k = omega (arith, at-place .top-aligned) in

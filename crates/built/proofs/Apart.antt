@@ -10,14 +10,13 @@ use borrow.Author.Tests.{lt-ltb, ne-eqb, not-false}
 use Rattle.image.specs.Bits.{bit, inPlace}
 use Rattle.image.specs.Check.{go}
 use Rattle.image.specs.Memory.{Memory, found, entry}
+use Rattle.image.proofs.Choices.{neither, past}
 use Rattle.image.proofs.Fields.{fits}
-use Rattle.image.proofs.GoodWindows.{neither}
 use Rattle.registers.specs.Source.{busOf, devfnOf}
 use Rattle.registers.specs.declared.Registers.{Registers}
 use Rattle.irte.specs.Irte.{descriptorAddress}
 use Rattle.dma.specs.Root.{rootReserved, rootCheck}
-use Rattle.dma.proofs.Steps.{past}
-use Rattle.region.specs.Shared.{meets, meetsContextTable, meetsDescriptor, namedAt, anyNamed, interruptEntries, sharesTables}
+use Rattle.region.specs.Shared.{meets, meetsContextTable, meetsDescriptor, meetsNamedAt, anyNamed, interruptEntries, sharesTables}
 
 -- so many bytes from an address lie before the region or behind it
 abbrev pub Beside : (start size at n : ℕ) → Type 0
@@ -47,15 +46,15 @@ and-right false b is h = let z : _≡_ {A = ℕ} 0 1 = cc in absurd (omega arith
 
 -- none of so many entries names a byte of the region
 none-named : (posted : Bool) (start size : ℕ) (m : Memory) (n at : ℕ) → anyNamed posted start size m n at ≡ false → (i : ℕ) → i < n
-    → namedAt posted start size m (at + 16 * i) ≡ false
+    → meetsNamedAt posted start size m (at + 16 * i) ≡ false
 unfolding anyNamed
 none-named posted start size m zero at h i few = absurd (omega arith)
 none-named posted start size m (suc n) at h zero few =
     let here : at + 16 * 0 ≡ at = omega arith in
-    rw here (neither (namedAt posted start size m at) (anyNamed posted start size m n (at + 16)) h .0)
+    rw here (neither (meetsNamedAt posted start size m at) (anyNamed posted start size m n (at + 16)) h .0)
 none-named posted start size m (suc n) at h (suc i) few =
     let there : at + 16 * suc i ≡ at + 16 + 16 * i = omega arith in
-    rw there (none-named posted start size m n (at + 16) (neither (namedAt posted start size m at) (anyNamed posted start size m n (at + 16)) h .1) i (omega arith))
+    rw there (none-named posted start size m n (at + 16) (neither (meetsNamedAt posted start size m at) (anyNamed posted start size m n (at + 16)) h .1) i (omega arith))
 
 pub bus-lt : (source : ℕ) → busOf source < 256
 bus-lt source = fits source 15 8

@@ -16,7 +16,7 @@ use Rattle.image.proofs.Words.{word-inside, outside}
 use Rattle.interrupts.specs.Claims.{Shows}
 use Rattle.takes.proofs.Memories.{same-entry}
 use Rattle.region.specs.Copy.{wordShown, storedAt, copiedIn, copiedOut}
-use Rattle.tables.specs.Tables.{entryOf}
+use Rattle.tables.specs.Tables.{heldEntry}
 use Rattle.leaves.proofs.Entries.{length-stored, entry-stored, entry-kept}
 use Rattle.built.proofs.Stores.{bytes-word}
 use Rattle.built.proofs.Through.{length-at, run-kept, host-kept, word-at}
@@ -26,7 +26,7 @@ module _ (windows copy : List ℕ) (start : ℕ) where
   unfolding copiedOut
   length-out zero at run = refl
   length-out (suc n) at run =
-      length-out n (at + 8) (storedAt windows (start + at) (entryOf copy at) run) ∙ length-at windows (start + at) (entryOf copy at) run
+      length-out n (at + 8) (storedAt windows (start + at) (heldEntry copy at) run) ∙ length-at windows (start + at) (heldEntry copy at) run
 
   -- a place of the run that none of its words has
   pub run-out : (n at : ℕ) (run : List ℕ) → badWindows windows (length run) ≡ false → (k : ℕ)
@@ -34,10 +34,10 @@ module _ (windows copy : List ℕ) (start : ℕ) where
   unfolding copiedOut
   run-out zero at run good k off = refl
   run-out (suc n) at run good k off =
-      let next = storedAt windows (start + at) (entryOf copy at) run in
-      let fine : badWindows windows (length next) ≡ false = rw (length-at windows (start + at) (entryOf copy at) run) good in
+      let next = storedAt windows (start + at) (heldEntry copy at) run in
+      let fine : badWindows windows (length next) ≡ false = rw (length-at windows (start + at) (heldEntry copy at) run) good in
       run-out n (at + 8) next fine k (λ a low high. off a (omega arith) (omega arith))
-      ∙ run-kept windows (start + at) (entryOf copy at) run good k (λ a low high. off a low (omega arith))
+      ∙ run-kept windows (start + at) (heldEntry copy at) run good k (λ a low high. off a low (omega arith))
 
   -- a byte at another host address
   pub host-out : (n at : ℕ) (run : List ℕ) → badWindows windows (length run) ≡ false → (a : ℕ) → (a < start + at) ⊎ (start + at + 8 * n ≤ a)
@@ -45,9 +45,9 @@ module _ (windows copy : List ℕ) (start : ℕ) where
   unfolding copiedOut
   host-out zero at run good a other = refl
   host-out (suc n) at run good a other =
-      let next = storedAt windows (start + at) (entryOf copy at) run in
-      let fine : badWindows windows (length next) ≡ false = rw (length-at windows (start + at) (entryOf copy at) run) good in
-      host-out n (at + 8) next fine a (later other) ∙ host-kept windows (start + at) (entryOf copy at) run good a (now other)
+      let next = storedAt windows (start + at) (heldEntry copy at) run in
+      let fine : badWindows windows (length next) ≡ false = rw (length-at windows (start + at) (heldEntry copy at) run) good in
+      host-out n (at + 8) next fine a (later other) ∙ host-kept windows (start + at) (heldEntry copy at) run good a (now other)
     where
       later : (a < start + at) ⊎ (start + at + 8 * suc n ≤ a) → (a < start + (at + 8)) ⊎ (start + (at + 8) + 8 * n ≤ a)
       later (inl x) = inl (omega arith)
@@ -71,28 +71,28 @@ module _ (windows copy : List ℕ) (start : ℕ) where
 
   -- one of its words
   pub word-out : (n at : ℕ) (run : List ℕ) → badWindows windows (length run) ≡ false → (k : ℕ) → k < n → {place left : ℕ}
-      → spotIn (windowsOf windows) 8 (start + (at + 8 * k)) ≡ here place left → entryOf copy (at + 8 * k) < 2 ^ 64
-      → ofWindows windows (copiedOut windows copy start n at run) (start + (at + 8 * k)) ≡ found (entryOf copy (at + 8 * k))
+      → spotIn (windowsOf windows) 8 (start + (at + 8 * k)) ≡ here place left → heldEntry copy (at + 8 * k) < 2 ^ 64
+      → ofWindows windows (copiedOut windows copy start n at run) (start + (at + 8 * k)) ≡ found (heldEntry copy (at + 8 * k))
   unfolding copiedOut
   word-out zero at run good k few is small = absurd (omega arith)
   word-out (suc n) at run good zero few is small =
       let first : at + 8 * 0 ≡ at = omega arith in
-      let next = storedAt windows (start + at) (entryOf copy at) run in
-      let fine : badWindows windows (length next) ≡ false = rw (length-at windows (start + at) (entryOf copy at) run) good in
+      let next = storedAt windows (start + at) (heldEntry copy at) run in
+      let fine : badWindows windows (length next) ≡ false = rw (length-at windows (start + at) (heldEntry copy at) run) good in
       rw first
       (sym (one-word (ofWindows windows (copiedOut windows copy start n (at + 8) next)) (start + at))
       ∙ entry-out n (at + 8) next fine 1 (start + at) (inl (omega arith))
       ∙ one-word (ofWindows windows next) (start + at)
-      ∙ word-at windows (start + at) (entryOf copy at) run good (rw first at is) (rw first at small))
+      ∙ word-at windows (start + at) (heldEntry copy at) run good (rw first at is) (rw first at small))
   word-out (suc n) at run good (suc k) few is small =
       let there : at + 8 * suc k ≡ at + 8 + 8 * k = omega arith in
-      let next = storedAt windows (start + at) (entryOf copy at) run in
-      let fine : badWindows windows (length next) ≡ false = rw (length-at windows (start + at) (entryOf copy at) run) good in
+      let next = storedAt windows (start + at) (heldEntry copy at) run in
+      let fine : badWindows windows (length next) ≡ false = rw (length-at windows (start + at) (heldEntry copy at) run) good in
       rw there (word-out n (at + 8) next fine k (omega arith) (rw there at is) (rw there at small))
 
 -- words of a copy
-pub entry-below : (bytes : List ℕ) → AreBytes bytes → (at : ℕ) → entryOf bytes at < 2 ^ 64
-unfolding entryOf wordAt
+pub entry-below : (bytes : List ℕ) → AreBytes bytes → (at : ℕ) → heldEntry bytes at < 2 ^ 64
+unfolding heldEntry wordAt
 entry-below bytes are at = by (decLe (at + 8) (length bytes))
   where
     by : Dec (at + 8 ≤ length bytes) → onFetch (entry 1 (ofImage bytes) at) 0 (λ e. e) < 2 ^ 64
@@ -112,14 +112,14 @@ module _ (m : Memory) (start : ℕ) where
   bytes-in zero at copy are = are
   bytes-in (suc n) at copy are = bytes-in n (at + 8) (withWord copy at (wordShown m (start + at))) (bytes-word copy at (wordShown m (start + at)) are)
 
-  other-in : (n at : ℕ) (copy : List ℕ) (a : ℕ) → a + 8 ≤ at → entryOf (copiedIn m start n at copy) a ≡ entryOf copy a
+  other-in : (n at : ℕ) (copy : List ℕ) (a : ℕ) → a + 8 ≤ at → heldEntry (copiedIn m start n at copy) a ≡ heldEntry copy a
   unfolding copiedIn
   other-in zero at copy a low = refl
   other-in (suc n) at copy a low =
       other-in n (at + 8) (withWord copy at (wordShown m (start + at))) a (omega arith) ∙ entry-kept copy at (wordShown m (start + at)) a (inl low)
 
   pub word-in : (n at : ℕ) (copy : List ℕ) → at + 8 * n ≤ length copy → (k : ℕ) → k < n → wordShown m (start + (at + 8 * k)) < 2 ^ 64
-      → entryOf (copiedIn m start n at copy) (at + 8 * k) ≡ wordShown m (start + (at + 8 * k))
+      → heldEntry (copiedIn m start n at copy) (at + 8 * k) ≡ wordShown m (start + (at + 8 * k))
   unfolding copiedIn
   word-in zero at copy fits k few small = absurd (omega arith)
   word-in (suc n) at copy fits zero few small =

@@ -1,6 +1,6 @@
 -- What an item with no reason against it is, and the entry that maps its page.
 use Prim.Native.Nat.{ℕ, suc, _+_, _-_, _*_, _/_, _%_, _^_, _≤_, _<_, min}
-use mathlib.Core.Bool.{Bool, true, false, not, _&&_, _||_}
+use mathlib.Core.Bool.{Bool, true, false, not, _&&_, _||_, and-false}
 use mathlib.Core.Path.{_≡_, refl, ap, sym, _∙_, subst}
 use mathlib.Core.Logic.{_⊎_, inl, inr, ⊎-elim}
 use native.Mathlib.Decide.{decLe}
@@ -11,8 +11,8 @@ use lib.Dec.{eqb, leb, ltb}
 use lib.Pow.{pow-add, pow-mono}
 use Rattle.image.specs.Bits.{bits, bit, anySet, inPlace}
 use Rattle.image.specs.Choice.{if_then_else_}
+use Rattle.image.proofs.Choices.{both, neither}
 use Rattle.image.proofs.Fields.{past-top}
-use Rattle.image.proofs.GoodWindows.{both, neither}
 use Rattle.registers.specs.Admission.{inInterruptRange}
 use Rattle.registers.specs.declared.Registers.{Registers}
 use Rattle.dma.specs.InterruptRange.{meetsInterruptRange, spanAt}
@@ -22,19 +22,8 @@ use Rattle.dma.proofs.Reserved.{small, at-2}
 use Rattle.dma.proofs.Steps.{offset-of}
 use Rattle.builder.specs.Reasons.{unmaps, rights, isLarge, levelsBelow, leafOf, badSize, badAlignment, badPlace, badFrame, placeReason, mapReason, orElse, itemReason}
 use Rattle.builder.specs.declared.items.Item.{Item}
+use Rattle.builder.proofs.ItemLaws.{none-of, both-0}
 use Rattle.leaves.specs.Leaves.{holds}
-
--- past a test
-passes : (t : Bool) (n rest : ℕ) → 0 < n → (if t then n else rest) ≡ 0 → (t ≡ false) × (rest ≡ 0)
-passes true n rest some h = absurd (omega arith)
-passes false n rest some h = (refl, h)
-
-neither-reason : (a b : ℕ) → orElse a b ≡ 0 → (a ≡ 0) × (b ≡ 0)
-neither-reason a b h = by (eqb a 0) refl h
-  where
-    by : (t : Bool) → eqb a 0 ≡ t → (if t then b else a) ≡ 0 → (a ≡ 0) × (b ≡ 0)
-    by true e k = (eqb-true a 0 e, k)
-    by false e k = let z : _≡_ {A = Bool} true false = sym (eq-eqb a 0 k) ∙ e in let y : _≡_ {A = ℕ} 0 1 = cc in absurd (omega arith)
 
 -- a page of 4 KiB or 2 MiB
 pub data Size (registers : Registers) (item : Item) : Type 0 where
@@ -54,18 +43,14 @@ missed place size h = by (decLe (place + size) 0xFEE0_0000) (decLe place 0xFEEF_
         let y : _≡_ {A = ℕ} 0 1 = cc in
         absurd (omega arith)
 
-and-false : (t : Bool) → (t && false) ≡ false
-and-false true = refl
-and-false false = refl
-
 module _ (registers : Registers) (levels : ℕ) (item : Item) (fine : itemReason registers levels item ≡ 0) where
   place-fine : (badSize registers item ≡ false) × (badAlignment item ≡ false) × (badPlace registers levels item ≡ false)
   unfolding placeReason
   place-fine =
-      let p = neither-reason (placeReason registers levels item) (mapReason registers item) fine .0 in
-      let h1 = passes (badSize registers item) 1 _ (omega arith) p in
-      let h2 = passes (badAlignment item) 2 _ (omega arith) (h1 .1) in
-      let h3 = passes (badPlace registers levels item) 3 0 (omega arith) (h2 .1) in
+      let p = both-0 (placeReason registers levels item) (mapReason registers item) fine .0 in
+      let h1 = none-of (badSize registers item) 1 _ (omega arith) p in
+      let h2 = none-of (badAlignment item) 2 _ (omega arith) (h1 .1) in
+      let h3 = none-of (badPlace registers levels item) 3 0 (omega arith) (h2 .1) in
       (h1 .0, h2 .0, h3 .0)
 
   pub size-of : Size registers item
@@ -179,9 +164,9 @@ module _ (registers : Registers) (levels : ℕ) (item : Item) (fine : itemReason
   map-fine : (eqb (rights item) 0 ≡ false) × (leb (2 ^ registers .haw) (item .frame) ≡ false) × (meetsInterruptRange (item .frame) (item .size) ≡ false)
   unfolding mapReason
   map-fine =
-      let r = neither-reason (placeReason registers levels item) (mapReason registers item) fine .1 in
-      let h1 = passes (eqb (rights item) 0) 4 _ (omega arith) (rw maps at r) in
-      let h2 = passes (badFrame registers item) 5 0 (omega arith) (h1 .1) in
+      let r = both-0 (placeReason registers levels item) (mapReason registers item) fine .1 in
+      let h1 = none-of (eqb (rights item) 0) 4 _ (omega arith) (rw maps at r) in
+      let h2 = none-of (badFrame registers item) 5 0 (omega arith) (h1 .1) in
       let h3 = neither (leb (2 ^ registers .haw) (item .frame)) (meetsInterruptRange (item .frame) (item .size)) (h2 .0) in
       (h1 .0, h3 .0, h3 .1)
 

@@ -15,8 +15,8 @@ use Rattle.image.specs.Choice.{if_then_else_}
 use Rattle.image.specs.Memory.{Memory}
 use Rattle.image.specs.Place.{Place, entryAt, lastTried}
 use Rattle.image.specs.Rules.{Rules, run}
+use Rattle.image.proofs.Choices.{both as both-true}
 use Rattle.image.proofs.Fields.{past-top}
-use Rattle.image.proofs.GoodWindows.{both as both-true}
 use Rattle.registers.specs.declared.Registers.{Registers}
 use Rattle.dma.specs.Page.{denied, ownRight, leafAt, pageReserved, pageCheck}
 use Rattle.dma.specs.Translation.{Translation, fault, leaf, pageStep, pageRules}

@@ -8,8 +8,8 @@ use Rattle.dma.specs.Walk.{placeIn}
 use Rattle.registers.specs.declared.Registers.{Registers}
 use Rattle.tables.specs.Mapped.{newTable, withLeaf, mapped}
 use Rattle.tables.specs.Pages.{lowest, freePages}
-use Rattle.tables.specs.Tables.{Tables, tables, present, tableEntry, emptyTable, zeroed}
-use Rattle.tables.specs.Unmapped.{withoutTable, released, leafHere, unmapped}
+use Rattle.tables.specs.Tables.{Tables, tables, present, tableEntry, emptyTable, wordsZeroed}
+use Rattle.tables.specs.Unmapped.{withoutTable, freedTables, leafHere, unmapped}
 use Rattle.tables.specs.Way.{way}
 use Rattle.tables.specs.declared.Tree.{Tree}
 use Rattle.builder.specs.Items.{itemAt, takeItem, takeItems}
@@ -18,8 +18,8 @@ use Rattle.builder.specs.declared.items.Item.{Item}
 use Rattle.builder.specs.declared.items.Taken.{Taken}
 
 module _ (P : List ℕ → Type 0) (keeps : (bytes : List ℕ) (at word : ℕ) → P bytes → P (withWord bytes at word)) where
-  zeroed-keeps : (n : ℕ) (bytes : List ℕ) (at : ℕ) → P bytes → P (zeroed n bytes at)
-  unfolding zeroed
+  zeroed-keeps : (n : ℕ) (bytes : List ℕ) (at : ℕ) → P bytes → P (wordsZeroed n bytes at)
+  unfolding wordsZeroed
   zeroed-keeps zero bytes at p = p
   zeroed-keeps (suc n) bytes at p = zeroed-keeps n (withWord bytes at 0) (at + 8) (keeps bytes at 0 p)
 
@@ -29,7 +29,7 @@ module _ (P : List ℕ → Type 0) (keeps : (bytes : List ℕ) (at word : ℕ) �
   leaf-keeps start place last leaf (suc k) at t p =
       let page = 4096 * lowest (t .marks) in
       leaf-keeps start place last leaf k (placeIn place page (last + k)) (newTable start at (last + suc k) t)
-      (keeps (zeroed 512 (t .bytes) page) at (tableEntry start page) (zeroed-keeps 512 (t .bytes) page p))
+      (keeps (wordsZeroed 512 (t .bytes) page) at (tableEntry start page) (zeroed-keeps 512 (t .bytes) page p))
 
   abbrev After : ℕ × Tables → Type 0
   After end = P (end .1 .bytes)
@@ -42,8 +42,8 @@ module _ (P : List ℕ → Type 0) (keeps : (bytes : List ℕ) (at word : ℕ) �
       (either After (ltb (freePages (t .marks)) (stop .below - last)) p
       (leaf-keeps (tree .start) place last leaf (stop .below - last) (stop .at) t p))
 
-  released-keeps : (tree : Tree) (place n below : ℕ) (t : Tables) → P (t .bytes) → P (released tree place n below t .bytes)
-  unfolding released
+  released-keeps : (tree : Tree) (place n below : ℕ) (t : Tables) → P (t .bytes) → P (freedTables tree place n below t .bytes)
+  unfolding freedTables
   released-keeps tree place zero below t p = p
   released-keeps tree place (suc k) below t p =
       let table = way (t .bytes) tree place below .table in

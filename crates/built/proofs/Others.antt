@@ -13,7 +13,7 @@ use Rattle.image.specs.EntryKind.{rootEntry, contextEntry, remappingEntry, post
 use Rattle.image.specs.Memory.{Memory, missing, found, entry}
 use Rattle.image.specs.Rules.{Rules, answer, mapRules}
 use Rattle.image.specs.Stage.{stage}
-use Rattle.image.proofs.Choices.{either}
+use Rattle.image.proofs.Choices.{either, past}
 use Rattle.image.proofs.Trees.{entries-map}
 use Rattle.registers.specs.Admission.{Admitted, refusal, pass, takenUp, admission, onAdmission, inInterruptRange}
 use Rattle.registers.specs.Source.{busOf, devfnOf}
@@ -36,7 +36,6 @@ use Rattle.dma.specs.Translation.{Translation, fault, pageStep, widthRules, tra
 use Rattle.dma.specs.declared.context.Context.{Context}
 use Rattle.dma.specs.declared.MemoryRequest.{MemoryRequest}
 use Rattle.dma.proofs.Cases.{width-cases}
-use Rattle.dma.proofs.Steps.{past}
 use Rattle.translation.specs.Completion.{Completion, entryStep, typeRules, completionRules}
 use Rattle.translation.specs.Completion as completion
 use Rattle.translation.specs.Requests.{translationOutcome, requestRules}

@@ -36,7 +36,7 @@ use Rattle.translation.proofs.Admissions as translation-admissions
 use Rattle.tables.specs.Tables.{present}
 use Rattle.tables.specs.Way.{way}
 use Rattle.tables.specs.declared.Tree.{Tree}
-use Rattle.leaves.specs.Leaves.{Leaf, leafOver, placeOver, left}
+use Rattle.leaves.specs.Leaves.{Leaf, leafOver, leafPlace, left}
 use Rattle.leaves.specs.Leaves as leaves
 use Rattle.built.specs.Claims.{Unlisted, lacksRights}
 use Rattle.built.proofs.Formats.{translatedBy, completedBy, memory-by-leaf, translation-by-leaf}
@@ -45,9 +45,9 @@ use Rattle.built.proofs.Setting.{Setting}
 use Rattle.built.proofs.Unmoved.{Unmoved, only-answer}
 
 -- a page whose entry stays where it is
-stays : (bytes bytes′ : List ℕ) (tree : Tree) (q : ℕ) → placeOver bytes′ tree q ≡ placeOver bytes tree q → (below e : ℕ)
+stays : (bytes bytes′ : List ℕ) (tree : Tree) (q : ℕ) → leafPlace bytes′ tree q ≡ leafPlace bytes tree q → (below e : ℕ)
     → leafOver bytes tree q ≡ leaves.leaf below e → way bytes′ tree q 0 .at ≡ way bytes tree q 0 .at
-unfolding placeOver leafOver
+unfolding leafPlace leafOver
 stays bytes bytes′ tree q same below e is =
     by (present (way bytes′ tree q 0 .entry)) (present (way bytes tree q 0 .entry)) same is
   where

@@ -17,7 +17,7 @@ use Rattle.image.specs.Memory.{Memory, Fetched, missing, found, entry, onFetch}
 use Rattle.image.specs.Rules.{answer, run}
 use Rattle.image.specs.Windows.{windowsOf, Spot, nowhere, here, spotIn, entryIn, ofWindows}
 use Rattle.image.proofs.Bytes.{AreBytes}
-use Rattle.image.proofs.GoodWindows.{both, neither}
+use Rattle.image.proofs.Choices.{both, neither}
 use Rattle.image.proofs.Same.{one-word}
 use Rattle.image.proofs.Stages.{run-cases}
 use Rattle.registers.specs.Registers.{registersBad}
@@ -35,13 +35,13 @@ use Rattle.takes.proofs.Memories as shape
 use Rattle.region.specs.Copy.{isWhole, wordShown}
 use Rattle.region.specs.Region.{notPages, pagesShown, badRegion}
 use Rattle.region.specs.Shared.{sharesTables}
-use Rattle.tables.specs.Tables.{Tables, tables, entryOf}
+use Rattle.tables.specs.Tables.{Tables, tables, heldEntry}
 use Rattle.tables.specs.declared.Tree.{Tree}
 use Rattle.builder.specs.Build.{Lent}
 use Rattle.builder.specs.Items.{itemAt, changed, takeItem, takeItems}
 use Rattle.builder.specs.Reasons.{itemReason}
 use Rattle.leaves.specs.Claims.{Leaves}
-use Rattle.leaves.specs.Leaves.{leafOver, placeOver, left}
+use Rattle.leaves.specs.Leaves.{leafOver, leafPlace, left}
 use Rattle.leaves.specs.WellBuilt.{Placed, WellBuilt}
 use Rattle.leaves.proofs.Items.{items-leave}
 use Rattle.leaves.proofs.Marked.{marked-as-built}
@@ -75,7 +75,7 @@ pub record Setting (registers : Registers) (start size : ℕ) (items : List ℕ)
   pub leaves : (address : ℕ) → address < 2 ^ (12 + 9 * (tree .below + 1))
       → leafOver copy′ tree address ≡ left items (length items / 4) 0 address (leafOver copy tree address)
   pub places : (address : ℕ) → address < 2 ^ (12 + 9 * (tree .below + 1)) → Unlisted items address
-      → placeOver copy′ tree address ≡ placeOver copy tree address
+      → leafPlace copy′ tree address ≡ leafPlace copy tree address
   pub fine : (i : ℕ) → i < length items / 4 → itemReason registers (tree .below + 1) (itemAt items i) ≡ 0
   pub aligned : start % 4096 ≡ 0
   pub some : 0 < size
@@ -297,7 +297,7 @@ module _ (registers : Registers) (source start size : ℕ) (windows items : List
       let room : 0 + 8 * (length (l .copy) / 8) ≤ length (l .copy) = omega arith in
       let among : n < length (l .copy) / 8 = omega (arith, c .ready .copy-size, region .pages) in
       let is = word-in m (tree .start) (length (l .copy) / 8) 0 (l .copy) room n among (rw told (word-below windows (l .memory) bytes (start + 8 * n) there)) in
-      ap (λ (k : ℕ). m (k + 8 * n)) first ∙ there ∙ ap found (sym (sym (ap (entryOf begun) all) ∙ is ∙ told))
+      ap (λ (k : ℕ). m (k + 8 * n)) first ∙ there ∙ ap found (sym (sym (ap (heldEntry begun) all) ∙ is ∙ told))
 
   pub ended-bytes : AreBytes ended
   ended-bytes =
@@ -317,7 +317,7 @@ module _ (registers : Registers) (source start size : ℕ) (windows items : List
       ap (λ (k : ℕ). spotIn (windowsOf windows) 8 (tree .start + k)) all ∙ ap (λ (k : ℕ). spotIn (windowsOf windows) 8 (k + 8 * n)) first ∙ spot .2 in
       let is = word-out windows ended (tree .start) (length ended / 8) 0 (l .memory) (c .ready .good) n (omega (arith, ended-length, region .pages)) there
       (entry-below ended ended-bytes (0 + 8 * n)) in
-      subst (λ (k : ℕ). ofWindows windows after (tree .start + k) ≡ found (entryOf ended k)) all is
+      subst (λ (k : ℕ). ofWindows windows after (tree .start + k) ≡ found (heldEntry ended k)) all is
 
   entry-beside : (words at : ℕ) → Beside start size at (8 * words) → entry words (ofWindows windows after) at ≡ entry words m at
   entry-beside words at beside = entry-out windows ended (tree .start) (length ended / 8) 0 (l .memory) (c .ready .good) words at (side beside)

@@ -9,21 +9,8 @@ use lib.ListN.{length, getD, take, drop, List·getD-eq-default}
 use lib.Seq.{length-take-le, take-at, drop-at, getD-drop}
 use Rattle.image.specs.Bytes.{bytesOf}
 use Rattle.image.specs.Memory.{withWord}
-use Rattle.image.proofs.Bytes.{AreBytes, length-bytesOf, byteOf, bytes-taken}
+use Rattle.image.proofs.Bytes.{AreBytes, length-bytesOf, byteOf, bytes-taken, bytes-append, bytes-number}
 use Rattle.image.proofs.Stores.{stored, not-stored}
-
--- bytes one behind the other, and those of a number
-both-bytes : (xs ys : List ℕ) → AreBytes xs → AreBytes ys → AreBytes (xs ++ ys)
-both-bytes [] ys x y i = y i
-both-bytes (b ∷ xs) ys x y zero = x 0
-both-bytes (b ∷ xs) ys x y (suc i) = both-bytes xs ys (λ j. x (suc j)) y i
-
-number-bytes : (n word : ℕ) → AreBytes (bytesOf n word)
-number-bytes n word i = by (decLe n i)
-  where
-    by : Dec (n ≤ i) → getD (bytesOf n word) i 0 < 256
-    by (yes past) = rw (List·getD-eq-default (bytesOf n word) 0 {n = i} (rw (length-bytesOf n word) past)) (omega arith)
-    by (no inside) = rw (byteOf n word i (omega arith)) (mod-lt (word / 256 ^ i) (omega arith))
 
 module _ (bytes : List ℕ) (at word : ℕ) where
   -- the 8 bytes there
@@ -39,7 +26,7 @@ module _ (bytes : List ℕ) (at word : ℕ) where
       by : Dec (at + 8 ≤ length bytes) → AreBytes (withWord bytes at word)
       by (yes fits) =
           rw (stored bytes at word fits)
-          (both-bytes (take at bytes ++ bytesOf 8 word) (drop (at + 8) bytes)
-          (both-bytes (take at bytes) (bytesOf 8 word) (bytes-taken at bytes are) (number-bytes 8 word))
+          (bytes-append (take at bytes ++ bytesOf 8 word) (drop (at + 8) bytes)
+          (bytes-append (take at bytes) (bytesOf 8 word) (bytes-taken at bytes are) (bytes-number 8 word))
           (λ i. rw (getD-drop (at + 8) bytes i 0) (are (at + 8 + i))))
       by (no out) = rw (not-stored bytes at word (omega arith)) are

@@ -14,18 +14,18 @@ use Rattle.image.proofs.Same.{one-word}
 use Rattle.dma.specs.Walk.{Step, done, down, onStep, placeIn, walkRules, stepOver}
 use Rattle.dma.proofs.Steps.{index-lt}
 use Rattle.dma.proofs.Walks.{walk-step, walk-tried}
-use Rattle.tables.specs.Tables.{entryOf, present, mapsPage, tableEntry, tableOf}
+use Rattle.tables.specs.Tables.{heldEntry, present, mapsPage, tableEntry, tableOf}
 use Rattle.tables.specs.Way.{ends, wayTo, way}
 use Rattle.tables.specs.declared.Tree.{Tree}
 use Rattle.tables.specs.declared.way.Stop.{Stop}
-use Rattle.leaves.specs.Leaves.{none, leaf, onLeaf, leafAt, leafOver}
+use Rattle.leaves.specs.Leaves.{none, leaf, onLeaf, leafAtStop, leafOver}
 use Rattle.leaves.proofs.Addresses.{table-back}
 use Rattle.leaves.proofs.Passes.{marked-inside, goes-on, stops}
 use Rattle.leaves.specs.WellBuilt.{leadsOn, WellBuilt}
 
 -- a memory has the words of a region's bytes from a host address on
 abbrev pub Shown : Memory → (start : ℕ) (bytes : List ℕ) → Type 0
-Shown m start bytes = (n : ℕ) → 8 * n < length bytes → m (start + 8 * n) ≡ found (entryOf bytes (8 * n))
+Shown m start bytes = (n : ℕ) → 8 * n < length bytes → m (start + 8 * n) ≡ found (heldEntry bytes (8 * n))
 
 not-false-and : (q : Bool) → (true && not q) ≡ false → q ≡ true
 not-false-and true h = refl
@@ -53,7 +53,7 @@ module _ {S A : Type 0} (address : ℕ) (none-there : S → A) (step : (level pl
   answered below e = onLeaf (if present e then leaf below e else none) absent page-by
 
   abbrev ended : Stop → A
-  ended stop = onLeaf (leafAt stop) absent page-by
+  ended stop = onLeaf (leafAtStop stop) absent page-by
 
   -- an entry that leads to no table ends the walk
   ends-there : (n place e : ℕ) → (present e ≡ true → mapsPage n e ≡ true) → step (suc n) place s e ≡ done (answered n e)
@@ -77,26 +77,26 @@ module _ {S A : Type 0} (address : ℕ) (none-there : S → A) (step : (level pl
     of-page = omega (arith, index-lt address n)
 
     first : stepOver address none-there step m n (tree .start + 4096 * page) s
-        ≡ step (suc n) (tree .start + placeIn address (4096 * page) n) s (entryOf bytes (placeIn address (4096 * page) n))
+        ≡ step (suc n) (tree .start + placeIn address (4096 * page) n) s (heldEntry bytes (placeIn address (4096 * page) n))
     unfolding stepOver
     first =
         let there : placeIn address (tree .start + 4096 * page) n ≡ tree .start + placeIn address (4096 * page) n = omega arith in
-        let fetched : entry 1 m (tree .start + placeIn address (4096 * page) n) ≡ found (entryOf bytes (placeIn address (4096 * page) n)) =
+        let fetched : entry 1 m (tree .start + placeIn address (4096 * page) n) ≡ found (heldEntry bytes (placeIn address (4096 * page) n)) =
         one-word m (tree .start + placeIn address (4096 * page) n)
         ∙ ap (λ (k : ℕ). m (tree .start + k)) at-number
         ∙ shown number (omega (arith, index-lt address n, well .sized))
-        ∙ ap (λ (k : ℕ). found (entryOf bytes k)) (sym at-number) in
+        ∙ ap (λ (k : ℕ). found (heldEntry bytes k)) (sym at-number) in
         rw (there, fetched)
 
     begins : walk (suc n) (tree .start + 4096 * page)
-        ≡ onStep (step (suc n) (tree .start + placeIn address (4096 * page) n) s (entryOf bytes (placeIn address (4096 * page) n))) (λ a. a)
+        ≡ onStep (step (suc n) (tree .start + placeIn address (4096 * page) n) s (heldEntry bytes (placeIn address (4096 * page) n))) (λ a. a)
         (λ next t. run (walkRules address none-there step n next t) m)
     begins =
         walk-step address none-there step m n (tree .start + 4096 * page) s
         ∙ ap (λ (x : Step S A). onStep x (λ a. a) (λ next t. run (walkRules address none-there step n next t) m)) first
 
     begins-at : (before : Place) → tried before (suc n) (tree .start + 4096 * page)
-        ≡ onStep (step (suc n) (tree .start + placeIn address (4096 * page) n) s (entryOf bytes (placeIn address (4096 * page) n)))
+        ≡ onStep (step (suc n) (tree .start + placeIn address (4096 * page) n) s (heldEntry bytes (placeIn address (4096 * page) n)))
         (λ a. entryAt (tree .start + placeIn address (4096 * page) n))
         (λ next t. lastTried (entryAt (tree .start + placeIn address (4096 * page) n)) (walkRules address none-there step n next t) m)
     begins-at before =
@@ -114,7 +114,7 @@ module _ {S A : Type 0} (address : ℕ) (none-there : S → A) (step : (level pl
   unfolding wayTo run walkRules
   walked zero page mark =
       let at = placeIn address (4096 * page) 0 in
-      let here = ends-there 0 (tree .start + at) (entryOf bytes at) (λ is. refl) in
+      let here = ends-there 0 (tree .start + at) (heldEntry bytes at) (λ is. refl) in
       (begins 0 page (marked-inside marks page mark) ∙ rw here, λ before. begins-at 0 page (marked-inside marks page mark) before ∙ rw here)
   walked (suc n) page mark = by (leadsOn (suc n) e) refl (walked n)
     where
@@ -125,7 +125,7 @@ module _ {S A : Type 0} (address : ℕ) (none-there : S → A) (step : (level pl
       at = placeIn address (4096 * page) (suc n)
 
       e : ℕ
-      e = entryOf bytes at
+      e = heldEntry bytes at
 
       maps-page : leadsOn (suc n) e ≡ false → present e ≡ true → mapsPage (suc n) e ≡ true
       maps-page h is = not-false-and (mapsPage (suc n) e) (rw is at h)
@@ -141,10 +141,10 @@ module _ {S A : Type 0} (address : ℕ) (none-there : S → A) (step : (level pl
           let on : ends 0 (suc n) e ≡ false = goes-on 0 n e (omega arith) is in
           let there = at-number (suc n) page inside in
           let led = well .leads (number (suc n) page inside) (suc n) (ap (λ (k : ℕ). getD marks k 0) (of-page (suc n) page inside) ∙ mark)
-          (subst (λ (k : ℕ). leadsOn (suc n) (entryOf bytes k) ≡ true) there is) in
+          (subst (λ (k : ℕ). leadsOn (suc n) (heldEntry bytes k) ≡ true) there is) in
           let next = led .page in
           let next-inside = marked-inside marks next (led .level) in
-          let is-entry : e ≡ tableEntry (tree .start) (4096 * next) = ap (entryOf bytes) there ∙ led .entry in
+          let is-entry : e ≡ tableEntry (tree .start) (4096 * next) = ap (heldEntry bytes) there ∙ led .entry in
           let fits = well .placed .fits in
           let table : tableOf (tree .start) e ≡ 4096 * next =
           ap (tableOf (tree .start)) is-entry ∙ table-back (tree .start) next (well .placed .start-aligned) (omega (arith, fits, next-inside)) in

@@ -26,10 +26,10 @@ use Rattle.dma.specs.declared.MemoryRequest.{MemoryRequest}
 use Rattle.dma.proofs.Forks.{reachable}
 use Rattle.dma.proofs.Lookups.{looked-up}
 use Rattle.dma.proofs.Steps.{offset-of}
-use Rattle.places.specs.Layout.{words, headOf, keyIn, frameIn, placeOf, levelOf}
+use Rattle.places.specs.Layout.{words, headOf, keyIn, frameIn, placeOfAge, keyLevel}
 use Rattle.places.specs.Changes.{holding, sifted}
 use Rattle.cache.specs.Held.{Held, Hit, miss, hit, onHit, lookup, insert, without}
-use Rattle.cache.specs.Engine.{Operation, request, edit, invalidateAll, invalidateDomain, State, from, onGrant, ifTaken, admitted, rulesOf, answerOf, domainOver, cachedRules, cachedAs, heldAfter, step, answers, plainAnswers}
+use Rattle.cache.specs.Engine.{Operation, request, edit, invalidateAll, invalidateDomain, State, from, onGrant, ifTaken, admitted, rulesOf, heldAnswer, domainOver, cachedRules, cachedAs, heldAfter, step, answers, plainAnswers}
 use Rattle.cache.specs.Keys.{keyFor}
 use Rattle.cache.specs.Lent.{Call, ask, change, dropAll, dropDomain, callAnswers, plainCalls, operations, Fair, AsDefined, EqualCalls}
 use Rattle.cache.specs.Numbers.{caches, newest, heldAddress, kept, stateRules, stateAfter, cachedAnswer, cachedState, stateWithout}
@@ -78,7 +78,7 @@ module _ (registers : Registers) (state : List ℕ) (held : List Held) (r : Memo
           (if ltb (newest state r) 64 then answer (granted (heldAddress state (newest state r) (r .address)))
           else mapRules (memoryOutcome r) (rulesOf registers r))) m
           ≡ run (onAdmission (admitted registers r) refused (granted (r .address))
-          (onHit (lookup r held) (mapRules (memoryOutcome r) (rulesOf registers r)) (λ h. answer (answerOf registers r h)))) m
+          (onHit (lookup r held) (mapRules (memoryOutcome r) (rulesOf registers r)) (λ h. answer (heldAnswer registers r h)))) m
       on (nothing none is) = rw (is, le-ltb (newest state r) 64 none)
       on (found h few is at) = rw (is, lt-ltb (newest state r) 64 few, held-as state h (newest state r) (r .address) at)
 

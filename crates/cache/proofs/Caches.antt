@@ -10,11 +10,8 @@ use lib.ListN.{length}
 use Rattle.dma.specs.declared.MemoryRequest.{MemoryRequest}
 use Rattle.places.specs.Layout.{words}
 use Rattle.image.specs.Choice.{if_then_else_}
+use Rattle.image.proofs.Choices.{both}
 use Rattle.cache.specs.Numbers.{caches, newest}
-
-both : (a b : Bool) → (a && b) ≡ true → (a ≡ true) × (b ≡ true)
-both true b h = (refl, h)
-both false b h = let z : _≡_ {A = ℕ} 0 1 = cc in absurd (omega arith)
 
 pub cache-long : (state : List ℕ) (request : MemoryRequest) → caches state request ≡ true → length state ≡ words
 cache-long state request h = eqb-true (length state) words (both (eqb (length state) words) (ltb (request .address) (2 ^ 57)) h .0)

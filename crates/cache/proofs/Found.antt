@@ -10,7 +10,7 @@ use lib.Dec.{eqb, ltb, leb}
 use lib.ListN.{length}
 use Rattle.image.specs.Choice.{if_then_else_}
 use Rattle.dma.specs.declared.MemoryRequest.{MemoryRequest}
-use Rattle.places.specs.Layout.{words, keyIn, placeOf}
+use Rattle.places.specs.Layout.{words, keyIn, placeOfAge}
 use Rattle.places.specs.Chain.{ageOfKey}
 use Rattle.places.proofs.Linked.{First, age-of-key-first}
 use Rattle.cache.specs.Held.{Held, Hit, miss, hit, pageOf, fits, lookup}

@@ -18,7 +18,7 @@ use Rattle.dma.specs.Requests.{granted, refused, memoryOutcome}
 use Rattle.dma.specs.Translation.{Translation, through, leaf, fault}
 use Rattle.dma.specs.declared.MemoryRequest.{MemoryRequest}
 use Rattle.cache.specs.Held.{Held, Hit, miss, hit, onHit, fits, lookup, insert, without}
-use Rattle.cache.specs.Engine.{Operation, request, edit, invalidateAll, invalidateDomain, State, from, onGrant, ifTaken, admitted, rulesOf, answerOf, cachedRules, cachedAs, heldAfter, step, left}
+use Rattle.cache.specs.Engine.{Operation, request, edit, invalidateAll, invalidateDomain, State, from, onGrant, ifTaken, admitted, rulesOf, heldAnswer, cachedRules, cachedAs, heldAfter, step, left}
 use Rattle.cache.specs.Claims.{OnlyPages, AtMost64, Held64, PushedOut, ByDomain, Newest, MustAnswer, JustThose}
 use Rattle.cache.proofs.Lists.{mem-without, mem-lookup}
 
@@ -127,7 +127,7 @@ pub just-those : JustThose
 unfolding cachedRules named
 just-those registers r held h m is = (mem-lookup r held is .1, rw is (on (admitted registers r)))
   where
-    on : (a : Admitted) → named (onAdmission a refused (granted (r .address)) (answer (answerOf registers r h))) m ≡ []
+    on : (a : Admitted) → named (onAdmission a refused (granted (r .address)) (answer (heldAnswer registers r h))) m ≡ []
     on (refusal n) = refl
     on pass = refl
     on takenUp = refl

@@ -9,7 +9,7 @@ use borrow.Author.Tests.{eq-eqb, ne-eqb}
 use lib.Dec.{eqb}
 use lib.ListN.{length, length-append, length-take, getD, replicate, take}
 use Rattle.image.specs.Choice.{if_then_else_}
-use Rattle.places.specs.Layout.{words, headOf, keyIn, frameIn, domainIn, placeOf, levelOf}
+use Rattle.places.specs.Layout.{words, headOf, keyIn, frameIn, domainIn, placeOfAge, keyLevel}
 use Rattle.places.specs.Changes.{beforeOf, holding, freed, resettled, sifted}
 use Rattle.places.proofs.Lengths.{length-holding, length-freed}
 use Rattle.places.proofs.Linked.{Linked, Flagged}
@@ -43,13 +43,13 @@ slotAt (h ∷ held) zero = of h
 slotAt (h ∷ held) (suc i) = slotAt held i
 
 pub record HeldAt (state : List ℕ) (h : Held) (i : ℕ) : Type 0 where
-  pub key : keyIn state (placeOf state i) ≡ keyOf h
-  pub frame : frameIn state (placeOf state i) ≡ h .frame
-  pub domain : domainIn state (placeOf state i) ≡ h .domain
+  pub key : keyIn state (placeOfAge state i) ≡ keyOf h
+  pub frame : frameIn state (placeOfAge state i) ≡ h .frame
+  pub domain : domainIn state (placeOfAge state i) ≡ h .domain
   pub holdable : Holdable h
 
 abbrev pub Slots : (state : List ℕ) (i : ℕ) → Slot → Type 0
-Slots state i free = keyIn state (placeOf state i) ≡ 0
+Slots state i free = keyIn state (placeOfAge state i) ≡ 0
 Slots state i (of h) = HeldAt state h i
 
 pub record Holds (state : List ℕ) (held : List Held) : Type 0 where
@@ -60,8 +60,8 @@ pub record Holds (state : List ℕ) (held : List Held) : Type 0 where
   pub slots : (i : ℕ) → i < 64 → Slots state i (slotAt held i)
 
 -- the same slot over another state
-move : (state state′ : List ℕ) (i j : ℕ) → keyIn state′ (placeOf state′ j) ≡ keyIn state (placeOf state i)
-    → frameIn state′ (placeOf state′ j) ≡ frameIn state (placeOf state i) → domainIn state′ (placeOf state′ j) ≡ domainIn state (placeOf state i)
+move : (state state′ : List ℕ) (i j : ℕ) → keyIn state′ (placeOfAge state′ j) ≡ keyIn state (placeOfAge state i)
+    → frameIn state′ (placeOfAge state′ j) ≡ frameIn state (placeOfAge state i) → domainIn state′ (placeOfAge state′ j) ≡ domainIn state (placeOfAge state i)
     → (s : Slot) → Slots state i s → Slots state′ j s
 move state state′ i j k f d free at = k ∙ at
 move state state′ i j k f d (of h) at =
@@ -94,10 +94,10 @@ unfolding slotAt
 empty-holds =
     record {
       long = refl;
-      linked = λ i few used. absurd (used (zero-at words (8 + placeOf (replicate words 0) i)));
-      flagged = λ i few used. absurd (used (zero-at words (8 + placeOf (replicate words 0) i)));
+      linked = λ i few used. absurd (used (zero-at words (8 + placeOfAge (replicate words 0) i)));
+      flagged = λ i few used. absurd (used (zero-at words (8 + placeOfAge (replicate words 0) i)));
       few = omega arith;
-      slots = λ i few. zero-at words (8 + placeOf (replicate words 0) i);
+      slots = λ i few. zero-at words (8 + placeOfAge (replicate words 0) i);
     }
 
 -- one more
@@ -134,10 +134,10 @@ hold-holds state held h good was =
 
 -- the oldest, or a free place behind it, is freed
 pub freed-holds : (state : List ℕ) (held : List Held) (age : ℕ) → age < 64 → length held ≤ age + 1 → Holds state held
-    → Holds (freed state (placeOf state age)) (take age held)
+    → Holds (freed state (placeOfAge state age)) (take age held)
 freed-holds state held age few-ages last was =
     record {
-      long = length-freed state (placeOf state age) ∙ was .long;
+      long = length-freed state (placeOfAge state age) ∙ was .long;
       linked = freed-linked state p near (was .long) (was .linked);
       flagged = freed-flagged state p near (was .long) (was .flagged);
       few = omega (arith, length-take age held);
@@ -145,28 +145,28 @@ freed-holds state held age few-ages last was =
     }
   where
     p : ℕ
-    p = placeOf state age
+    p = placeOfAge state age
 
-    near : placeOf state age < 64
+    near : placeOfAge state age < 64
     near = omega arith
 
-    other : (i : ℕ) → i < 64 → (i ≡ age → ⊥) → placeOf state i ≡ placeOf state age → ⊥
+    other : (i : ℕ) → i < 64 → (i ≡ age → ⊥) → placeOfAge state i ≡ placeOfAge state age → ⊥
     other i few apart e = apart (omega arith)
 
-    kept : (i : ℕ) → i < 64 → (i ≡ age → ⊥) → (s : Slot) → Slots state i s → Slots (freed state (placeOf state age)) i s
+    kept : (i : ℕ) → i < 64 → (i ≡ age → ⊥) → (s : Slot) → Slots state i s → Slots (freed state (placeOfAge state age)) i s
     kept i few apart =
-        let same = freed-place state (placeOf state age) near (was .long) i in
-        move state (freed state (placeOf state age)) i i
-        (rw same (freed-key state (placeOf state age) near (was .long) (placeOf state i) (other i few apart)))
-        (rw same (freed-elsewhere state (placeOf state age) near (was .long) (72 + placeOf state i) (λ e. omega arith)))
-        (rw same (freed-elsewhere state (placeOf state age) near (was .long) (136 + placeOf state i) (λ e. omega arith)))
+        let same = freed-place state (placeOfAge state age) near (was .long) i in
+        move state (freed state (placeOfAge state age)) i i
+        (rw same (freed-key state (placeOfAge state age) near (was .long) (placeOfAge state i) (other i few apart)))
+        (rw same (freed-elsewhere state (placeOfAge state age) near (was .long) (72 + placeOfAge state i) (λ e. omega arith)))
+        (rw same (freed-elsewhere state (placeOfAge state age) near (was .long) (136 + placeOfAge state i) (λ e. omega arith)))
 
-    on : (i : ℕ) → i < 64 → Dec (i ≡ age) → Dec (i ≤ age) → Slots (freed state (placeOf state age)) i (slotAt (take age held) i)
+    on : (i : ℕ) → i < 64 → Dec (i ≡ age) → Dec (i ≤ age) → Slots (freed state (placeOfAge state age)) i (slotAt (take age held) i)
     on i few (yes same) d =
         let none = slot-past (take age held) i (omega (arith, length-take age held)) in
-        let at = freed-place state (placeOf state age) near (was .long) i in
-        let it : placeOf state i ≡ placeOf state age = ap (placeOf state) same in
-        rw none (rw at (rw it (freed-there state (placeOf state age) near (was .long))))
+        let at = freed-place state (placeOfAge state age) near (was .long) i in
+        let it : placeOfAge state i ≡ placeOfAge state age = ap (placeOfAge state) same in
+        rw none (rw at (rw it (freed-there state (placeOfAge state age) near (was .long))))
     on i few (no apart) (yes below) =
         rw (slot-take age held i (omega arith)) (kept i few apart (slotAt held i) (was .slots i few))
     on i few (no apart) (no above) =

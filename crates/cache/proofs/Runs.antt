@@ -16,7 +16,7 @@ use Rattle.dma.specs.Translation.{Translation, through, leaf, fault, translatio
 use Rattle.dma.specs.declared.MemoryRequest.{MemoryRequest}
 use Rattle.dma.proofs.Admissions.{takes}
 use Rattle.cache.specs.Held.{Held, Hit, miss, hit, onHit, lookup, insert, without}
-use Rattle.cache.specs.Engine.{Operation, request, edit, invalidateAll, invalidateDomain, State, from, onGrant, ifTaken, admitted, rulesOf, answerOf, cachedRules, cachedAs, heldAfter, wordsOf, step, left, answers, plainAnswers, TakenOut}
+use Rattle.cache.specs.Engine.{Operation, request, edit, invalidateAll, invalidateDomain, State, from, onGrant, ifTaken, admitted, rulesOf, heldAnswer, cachedRules, cachedAs, heldAfter, heldWords, step, left, answers, plainAnswers, TakenOut}
 use Rattle.cache.specs.Claims.{Proviso, Equal, AsCached, AsNow}
 use Rattle.cache.proofs.Lists.{mem-insert, mem-without, mem-lookup, fitting}
 use Rattle.cache.proofs.Page.{same-page}
@@ -42,7 +42,7 @@ module _ (registers : Registers) where
       let there : run (translationRules registers (r .address) (h .write) (h .source)) m ≡ leaf (h .frame) (h .level) =
       same-page registers (h .write) m (h .address) (r .address) (h .frame) (h .level) (f .2) (h .source) wide was in
       let mine : run (rulesOf registers r) m ≡ leaf (h .frame) (h .level) = rw (f .0, f .1) at there in
-      let says : memoryOutcome r (leaf (h .frame) (h .level)) ≡ answerOf registers r h = rw clear in
+      let says : memoryOutcome r (leaf (h .frame) (h .level)) ≡ heldAnswer registers r h = rw clear in
       rw (taken, found) (sym says ∙ ap (memoryOutcome r) (sym mine) ∙ takes registers r m refl (sym taken))
 
   pub miss-plain : (held : List Held) (r : MemoryRequest) (m : Memory) → lookup r held ≡ miss
@@ -58,7 +58,7 @@ module _ (registers : Registers) where
       on : (a : Admitted) → (a ≡ takenUp → ⊥)
           → run
           (onAdmission a refused (granted (r .address))
-          (onHit (lookup r held) (mapRules (memoryOutcome r) (rulesOf registers r)) (λ h. answer (answerOf registers r h)))) m
+          (onHit (lookup r held) (mapRules (memoryOutcome r) (rulesOf registers r)) (λ h. answer (heldAnswer registers r h)))) m
           ≡ run (onAdmission a refused (granted (r .address)) (mapRules (memoryOutcome r) (rulesOf registers r))) m
       on (refusal n) h = refl
       on pass h = refl
@@ -132,20 +132,20 @@ as-now registers held m r (inr h) = miss-plain registers held r m h
 module _ (registers : Registers) where
   pub record Fresh (os : List Operation) (now : Memory) (h : Held) : Type 0 where
     pub was : Was registers h
-    pub words : SameIn (wordsOf registers h) (h .memory) now ⊎ TakenOut h os
+    pub words : SameIn (heldWords registers h) (h .memory) now ⊎ TakenOut h os
 
   abbrev AllFresh : List Operation → State → Type 0
   AllFresh os s = (h : Held) → List·Memᴰ h (s .held) → Fresh os (s .memory) h
 
   -- where a request comes next, none is to be taken out before it
   unchanged : (r : MemoryRequest) (os : List Operation) (now : Memory) (h : Held) → Fresh (request r ∷ os) now h
-      → SameIn (wordsOf registers h) (h .memory) now
+      → SameIn (heldWords registers h) (h .memory) now
   unfolding TakenOut
   unchanged r os now h f = ⊎-elim (λ same. same) (λ none. absurd none) (f .words)
 
   served : (r : MemoryRequest) (os : List Operation) (s : State) → AllFresh (request r ∷ os) s
       → run (cachedRules registers (s .held) r) (s .memory) ≡ run (memoryRules registers r) (s .memory)
-  unfolding wordsOf
+  unfolding heldWords
   served r os s fresh = on (admitted registers r) refl (lookup r (s .held)) refl
     where
       on : (a : Admitted) → admitted registers r ≡ a → (l : Hit) → lookup r (s .held) ≡ l
@@ -165,7 +165,7 @@ module _ (registers : Registers) where
       let now : h .memory ≡ m = ap (λ (x : Held). x .memory) (c .is) in
       record {
         was = cached-was registers r m h c;
-        words = inl (subst (λ (x : Memory). SameIn (wordsOf registers h) (h .memory) x) now (same-refl (wordsOf registers h) (h .memory)));
+        words = inl (subst (λ (x : Memory). SameIn (heldWords registers h) (h .memory) x) now (same-refl (heldWords registers h) (h .memory)));
       }
 
   fresh-request : (r : MemoryRequest) (os : List Operation) (s : State) → AllFresh (request r ∷ os) s → AllFresh os (step registers (request r) s)
@@ -177,18 +177,18 @@ module _ (registers : Registers) where
       (mem-after registers (s .held) r (s .memory) h is)
 
   fresh-edit : (m : Memory) (os : List Operation) (s : State) → AllFresh (edit m ∷ os) s
-      → ((h : Held) → List·Memᴰ h (s .held) → (SameIn (wordsOf registers h) (s .memory) m → ⊥) → TakenOut h os)
+      → ((h : Held) → List·Memᴰ h (s .held) → (SameIn (heldWords registers h) (s .memory) m → ⊥) → TakenOut h os)
       → AllFresh os (step registers (edit m) s)
   unfolding step TakenOut
   fresh-edit m os s fresh pro h is =
       record {
         was = fresh h is .was;
-        words = ⊎-elim (λ same. on same (same-words (wordsOf registers h) (s .memory) m)) (λ out. inr out) (fresh h is .words);
+        words = ⊎-elim (λ same. on same (same-words (heldWords registers h) (s .memory) m)) (λ out. inr out) (fresh h is .words);
       }
     where
-      on : SameIn (wordsOf registers h) (h .memory) (s .memory) → Dec (SameIn (wordsOf registers h) (s .memory) m)
-          → SameIn (wordsOf registers h) (h .memory) m ⊎ TakenOut h os
-      on same (yes still) = inl (same-trans (wordsOf registers h) (h .memory) (s .memory) m same still)
+      on : SameIn (heldWords registers h) (h .memory) (s .memory) → Dec (SameIn (heldWords registers h) (s .memory) m)
+          → SameIn (heldWords registers h) (h .memory) m ⊎ TakenOut h os
+      on same (yes still) = inl (same-trans (heldWords registers h) (h .memory) (s .memory) m same still)
       on same (no changed) = inr (pro h is changed)
 
   fresh-domain : (d : ℕ) (os : List Operation) (s : State) → AllFresh (invalidateDomain d ∷ os) s

@@ -9,7 +9,7 @@ use borrow.Author.Tests.{eq-eqb, ne-eqb}
 use lib.Dec.{eqb}
 use lib.ListN.{length, length-append, getD, take}
 use Rattle.image.specs.Choice.{if_then_else_}
-use Rattle.places.specs.Layout.{words, headOf, keyIn, frameIn, domainIn, placeOf}
+use Rattle.places.specs.Layout.{words, headOf, keyIn, frameIn, domainIn, placeOfAge}
 use Rattle.places.specs.Changes.{beforeOf, holding, freed, resettled, sifted}
 use Rattle.places.proofs.Kept.{head-new, freed-head}
 use Rattle.cache.specs.Held.{Held, insert, without}
@@ -87,7 +87,7 @@ module _ (d : ℕ) where
       age : ℕ
       age = length kept + n
 
-      there : (newest + n) % 64 ≡ placeOf state (length kept + n)
+      there : (newest + n) % 64 ≡ placeOfAge state (length kept + n)
       there = omega arith
 
       on : Dec (length left ≡ suc n)
@@ -95,7 +95,7 @@ module _ (d : ℕ) where
           → (headOf state′ + length kept′) % 64 ≡ newest → Holds (sifted d newest n state′) (without d left′ ++ kept′))
           → Holds (sifted d newest n (resettled state d ((newest + n) % 64))) (without d left ++ kept)
       on (no fewer) ih =
-          let p = placeOf state (length kept + n) in
+          let p = placeOfAge state (length kept + n) in
           let size = length-append kept left in
           let none = subst (Slots state (length kept + n)) (slot-past (kept ++ left) (length kept + n) (omega (arith, size))) (was .slots (length kept + n) (omega arith)) in
           let drop = drops state p (rw (eq-eqb (keyIn state p) 0 none)) in
@@ -105,7 +105,7 @@ module _ (d : ℕ) where
           (ap (λ (h : ℕ). (h + length kept) % 64) (freed-head state p (omega arith) (was .long)) ∙ at))
       on (yes full) ih =
           let e = ended left n full in
-          let p = placeOf state (length kept + n) in
+          let p = placeOfAge state (length kept + n) in
           let x = e .last in
           let joined : kept ++ left ≡ (kept ++ e .others) ++ (x ∷ []) = ap (λ (l : List Held). kept ++ l) (e .is) ∙ sym (append-assoc kept (e .others) (x ∷ [])) in
           let size : length (kept ++ e .others) ≡ length kept + n = length-append kept (e .others) ∙ ap (λ (k : ℕ). length kept + k) (e .many) in
@@ -118,16 +118,16 @@ module _ (d : ℕ) where
           (by x held (e .others) (e .many) (rw front at now) (ℕ-discrete (x .domain) d))
         where
           by : (x : Held) → HeldAt state x (length kept + n) → (others : List Held) → length others ≡ n
-              → Holds (freed state (placeOf state (length kept + n))) (kept ++ others) → Dec (x .domain ≡ d)
-              → Holds (sifted d newest n (resettled state d (placeOf state (length kept + n)))) ((without d others ++ without d (x ∷ [])) ++ kept)
+              → Holds (freed state (placeOfAge state (length kept + n))) (kept ++ others) → Dec (x .domain ≡ d)
+              → Holds (sifted d newest n (resettled state d (placeOfAge state (length kept + n)))) ((without d others ++ without d (x ∷ [])) ++ kept)
           by x held others many now (yes its) =
-              let p = placeOf state (length kept + n) in
+              let p = placeOfAge state (length kept + n) in
               let drop = drops state p (rw (eq-eqb (domainIn state p) d (held .domain ∙ its)) (or-right (eqb (keyIn state p) 0))) in
               rw (drop, eq-eqb (x .domain) d its, append-nil (without d others))
               (ih (freed state p) kept others now (omega arith) (omega arith)
               (ap (λ (h : ℕ). (h + length kept) % 64) (freed-head state p (omega arith) (was .long)) ∙ at))
           by x held others many now (no other) =
-              let p = placeOf state (length kept + n) in
+              let p = placeOfAge state (length kept + n) in
               let size = length-append kept others in
               let used : keyIn state p ≡ 0 → ⊥ = λ none. used-key x (held .holdable) (sym (held .key) ∙ none) in
               let move = moves state p (rw (ne-eqb (keyIn state p) 0 used, ne-eqb (domainIn state p) d (λ its. other (sym (held .domain) ∙ its)))) in

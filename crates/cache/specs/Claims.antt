@@ -16,7 +16,7 @@ use Rattle.dma.specs.declared.context.Context.{Context}
 use Rattle.dma.specs.Translation.{leaf, translationRules}
 use Rattle.dma.specs.declared.MemoryRequest.{MemoryRequest}
 use Rattle.cache.specs.Held.{Held, Hit, miss, hit, pageOf, fits, lookup, insert, without}
-use Rattle.cache.specs.Engine.{Operation, request, edit, invalidateAll, invalidateDomain, State, from, cachedRules, cachedAs, heldAfter, rulesOf, wordsOf, admitted, step, left, answers, plainAnswers, TakenOut}
+use Rattle.cache.specs.Engine.{Operation, request, edit, invalidateAll, invalidateDomain, State, from, cachedRules, cachedAs, heldAfter, rulesOf, heldWords, admitted, step, left, answers, plainAnswers, TakenOut}
 
 module _ (registers : Registers) where
   -- the proviso: each edit that changes a word named by a held translation is followed, before the next request, by an invalidation that
@@ -25,7 +25,7 @@ module _ (registers : Registers) where
   Proviso [] s = Unit {0}
   Proviso (request r ∷ os) s = Proviso os (step registers (request r) s)
   Proviso (edit m ∷ os) s =
-      ((h : Held) → List·Memᴰ h (s .held) → (SameIn (wordsOf registers h) (s .memory) m → ⊥) → TakenOut h os)
+      ((h : Held) → List·Memᴰ h (s .held) → (SameIn (heldWords registers h) (s .memory) m → ⊥) → TakenOut h os)
       × Proviso os (step registers (edit m) s)
   Proviso (invalidateAll ∷ os) s = Proviso os (step registers invalidateAll s)
   Proviso (invalidateDomain d ∷ os) s = Proviso os (step registers (invalidateDomain d) s)

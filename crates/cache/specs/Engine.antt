@@ -39,14 +39,14 @@ module _ (registers : Registers) where
   rulesOf request = walkOf (request .address) request
 
   -- what a held translation answers
-  abbrev pub answerOf : MemoryRequest → Held → MemoryOutcome
-  answerOf request h = granted (hostAddress (h .level) (h .frame) (request .address))
+  abbrev pub heldAnswer : MemoryRequest → Held → MemoryOutcome
+  heldAnswer request h = granted (hostAddress (h .level) (h .frame) (request .address))
 
   -- the second engine's answer: a hit reads no word
   unfoldable pub cachedRules : List Held → MemoryRequest → Rules MemoryOutcome
   cachedRules held request =
       onAdmission (admitted request) refused (granted (request .address))
-      (onHit (lookup request held) (mapRules (memoryOutcome request) (rulesOf request)) (λ h. answer (answerOf request h)))
+      (onHit (lookup request held) (mapRules (memoryOutcome request) (rulesOf request)) (λ h. answer (heldAnswer request h)))
 
   -- the domain of the context entry that the source's requests go by
   abbrev pub domainOver : (source : ℕ) → Memory → ℕ
@@ -74,8 +74,8 @@ module _ (registers : Registers) where
       held
 
   -- the words that a held translation named
-  unfoldable pub wordsOf : Held → List ℕ
-  wordsOf h = named (translationRules registers (h .address) (h .write) (h .source)) (h .memory)
+  unfoldable pub heldWords : Held → List ℕ
+  heldWords h = named (translationRules registers (h .address) (h .write) (h .source)) (h .memory)
 
 -- A request; an edit of the memory, as a post or a take is: whatever it is afterwards; and the invalidations.
 pub data Operation : Type 0 where

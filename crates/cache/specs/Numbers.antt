@@ -14,7 +14,7 @@ use Rattle.registers.specs.declared.Registers.{Registers}
 use Rattle.dma.specs.Requests.{MemoryOutcome, granted, refused, memoryOutcome, concerned}
 use Rattle.dma.specs.Translation.{Translation}
 use Rattle.dma.specs.declared.MemoryRequest.{MemoryRequest}
-use Rattle.places.specs.Layout.{words, keyIn, frameIn, placeOf, levelOf}
+use Rattle.places.specs.Layout.{words, keyIn, frameIn, placeOfAge, keyLevel}
 use Rattle.places.specs.Chain.{ageOfKey}
 use Rattle.places.specs.Changes.{holding, sifted}
 use Rattle.places.specs.Layout.{headOf}
@@ -34,11 +34,11 @@ newest state request =
 
 -- a frame, and the address's low 12, 21 or 30 bits by the level of a key
 abbrev pub pageAddress : (key frame address : ℕ) → ℕ
-pageAddress key frame address = frame % 2 ^ 52 + address % 2 ^ (3 + 9 * levelOf key)
+pageAddress key frame address = frame % 2 ^ 52 + address % 2 ^ (3 + 9 * keyLevel key)
 
 -- the host address that the place of an age gives
 abbrev pub heldAddress : (state : List ℕ) (age address : ℕ) → ℕ
-heldAddress state age address = pageAddress (keyIn state (placeOf state age)) (frameIn state (placeOf state age)) address
+heldAddress state age address = pageAddress (keyIn state (placeOfAge state age)) (frameIn state (placeOfAge state age)) address
 
 -- a page that is granted is held
 abbrev pub kept : (state : List ℕ) (request : MemoryRequest) (translated : Translation) (domain : ℕ) → List ℕ

@@ -6,9 +6,8 @@ use mathlib.Core.Path.{_≡_, refl, _∙_}
 use lib.Dec.{eqb, lit≤}
 use lib.ListN.{length, take, set, replicate, length-set}
 use Rattle.image.specs.Bits.{bits}
-use Rattle.image.specs.Bytes.{littleEndian, bytesOf}
+use Rattle.image.specs.Bytes.{littleEndian, bytesOf, spell}
 use Rattle.image.specs.Choice.{if_then_else_}
-use Rattle.image.specs.Entries.{spell}
 use Rattle.image.specs.Memory.{Memory, missing, wordAt, entry}
 use Rattle.image.specs.Place.{lastTried}
 use Rattle.image.specs.Rules.{run, mapRules, wordsFrom}
@@ -29,14 +28,14 @@ use Rattle.irte.specs.Irte.{reservedIrte, irteCheck}
 use Rattle.interrupts.specs.Post.{setBit}
 use Rattle.interrupts.specs.Request.{requestCheck}
 use Rattle.irte.specs.Source.{sourceAllowed}
-use Rattle.cases.specs.Bench.{layout, onward, inWords, benchWords, bench, changed, rows, answers, said, numbers, TwelveCases}
+use Rattle.cases.specs.Bench.{layout, onward, inWords, benchWords, bench, withBytes, rows, answers, said, numbers, TwelveCases}
 use Rattle.cases.specs.Translations.{byWords}
 use Rattle.cases.proofs.Known.{tried, shown, sized, isAmong, among}
 use Rattle.cases.proofs.Seen.{Seen, seenAs, over, enough, Fit, allOver, allEnough, all-over}
 
-whole : length bench ≡ 32768
+pub bench-length : length bench ≡ 32768
 unfolding bench layout onward inWords bytesOf
-whole = refl
+bench-length = refl
 
 -- the words that the rows try, first those of the posts
 abbrev postWords : List ℕ
@@ -73,7 +72,7 @@ unfolding shown byWords sized wordAt littleEndian bench layout onward inWords by
 plain-shown = refl
 
 abbrev plain : Seen
-plain = seenAs bench 32768 whole (lit≤ tt) words (byWords benchWords) plain-shown
+plain = seenAs bench 32768 bench-length (lit≤ tt) words (byWords benchWords) plain-shown
 
 abbrev shortWords : List ℕ
 shortWords = 0x1030 ∷ 0x1038 ∷ 0x2100 ∷ 0x2108 ∷ 0x3008 ∷ 0x4028 ∷ 0x7FF8 ∷ []
@@ -92,42 +91,42 @@ short-shown = refl
 abbrev short : Seen
 short = seenAs (take 32767 bench) 32767 short-length (lit≤ tt) shortWords shortMemory short-shown
 
-changed-length : (bytes : List (ℕ × ℕ)) (image : List ℕ) → length (changed bytes image) ≡ length image
-unfolding changed
+changed-length : (bytes : List (ℕ × ℕ)) (image : List ℕ) → length (withBytes bytes image) ≡ length image
+unfolding withBytes
 changed-length [] image = refl
 changed-length (b ∷ bytes) image = changed-length bytes (set image (b .0) (b .1)) ∙ length-set image (b .0) (b .1)
 
 abbrev PostShown : (bytes ws : List (ℕ × ℕ)) → Type 0
-PostShown bytes ws = shown (byWords (ws ++ benchWords)) postWords ≡ shown (sized 32768 (changed bytes bench)) postWords
+PostShown bytes ws = shown (byWords (ws ++ benchWords)) postWords ≡ shown (sized 32768 (withBytes bytes bench)) postWords
 
 abbrev edited : (bytes ws : List (ℕ × ℕ)) → PostShown bytes ws → Seen
 edited bytes ws e =
-    seenAs (changed bytes bench) 32768 (changed-length bytes bench ∙ whole) (lit≤ tt) postWords (byWords (ws ++ benchWords)) e
+    seenAs (withBytes bytes bench) 32768 (changed-length bytes bench ∙ bench-length) (lit≤ tt) postWords (byWords (ws ++ benchWords)) e
 
 -- as the first post left it; with the entry's URG, and SN or ON set; with SN alone
 again-shown : PostShown ((0x6406, 2) ∷ (0x6420, 1) ∷ []) ((0x6400, 0x0002000000000000) ∷ (0x6420, 0x0000070000F20001) ∷ [])
-unfolding changed shown byWords sized wordAt littleEndian bench layout onward inWords bytesOf
+unfolding withBytes shown byWords sized wordAt littleEndian bench layout onward inWords bytesOf
 again-shown = refl
 
 abbrev again : Seen
 again = edited ((0x6406, 2) ∷ (0x6420, 1) ∷ []) ((0x6400, 0x0002000000000000) ∷ (0x6420, 0x0000070000F20001) ∷ []) again-shown
 
 urgent-shown : PostShown ((0x6041, 0xC0) ∷ (0x6420, 2) ∷ []) ((0x6040, 0x000064000031C001) ∷ (0x6420, 0x0000070000F20002) ∷ [])
-unfolding changed shown byWords sized wordAt littleEndian bench layout onward inWords bytesOf
+unfolding withBytes shown byWords sized wordAt littleEndian bench layout onward inWords bytesOf
 urgent-shown = refl
 
 abbrev urgent : Seen
 urgent = edited ((0x6041, 0xC0) ∷ (0x6420, 2) ∷ []) ((0x6040, 0x000064000031C001) ∷ (0x6420, 0x0000070000F20002) ∷ []) urgent-shown
 
 outstanding-shown : PostShown ((0x6041, 0xC0) ∷ (0x6420, 1) ∷ []) ((0x6040, 0x000064000031C001) ∷ (0x6420, 0x0000070000F20001) ∷ [])
-unfolding changed shown byWords sized wordAt littleEndian bench layout onward inWords bytesOf
+unfolding withBytes shown byWords sized wordAt littleEndian bench layout onward inWords bytesOf
 outstanding-shown = refl
 
 abbrev outstanding : Seen
 outstanding = edited ((0x6041, 0xC0) ∷ (0x6420, 1) ∷ []) ((0x6040, 0x000064000031C001) ∷ (0x6420, 0x0000070000F20001) ∷ []) outstanding-shown
 
 suppressed-shown : PostShown ((0x6420, 2) ∷ []) ((0x6420, 0x0000070000F20002) ∷ [])
-unfolding changed shown byWords sized wordAt littleEndian bench layout onward inWords bytesOf
+unfolding withBytes shown byWords sized wordAt littleEndian bench layout onward inWords bytesOf
 suppressed-shown = refl
 
 abbrev suppressed : Seen
@@ -149,7 +148,7 @@ unfolding allEnough enough among isAmong tried shortMemory onward inWords byWord
 tried-known = refl
 
 told : allOver seens (rows bench) ≡ said (rows bench)
-unfolding allOver said over shortMemory byWords changed bench layout onward inWords bytesOf bits spell windowsOf spotIn flat entry run lastTried mapRules admission registersBad silenced memoryRecord fromBit64 memoryFault indexField interruptRecord interruptFault contextReserved contextInvalid contextCheck pageReserved pageCheck memoryRules rootReserved rootCheck widthRules contextRules rootRules walkRules descriptorCheck descriptorRules indexRules requestRules interruptRules reservedIrte irteCheck setBit requestCheck sourceAllowed
+unfolding allOver said over shortMemory byWords withBytes bench layout onward inWords bytesOf bits spell windowsOf spotIn flat entry run lastTried mapRules admission registersBad silenced memoryRecord fromBit64 memoryFault indexField interruptRecord interruptFault contextReserved contextInvalid contextCheck pageReserved pageCheck memoryRules rootReserved rootCheck widthRules contextRules rootRules walkRules descriptorCheck descriptorRules indexRules requestRules interruptRules reservedIrte irteCheck setBit requestCheck sourceAllowed
 told = refl
 
 answered : answers (rows bench) ≡ said (rows bench)
@@ -157,4 +156,4 @@ answered = all-over seens (rows bench) fit tried-known ∙ told
 
 pub twelve-cases : TwelveCases
 unfolding numbers
-twelve-cases = record { whole = whole; numbered = refl; answered = answered }
+twelve-cases = record { whole = bench-length; numbered = refl; answered = answered }

@@ -37,7 +37,7 @@ use Rattle.translation.specs.Claims as translation
 use Rattle.translation.specs.Completion.{typeRules}
 use Rattle.translation.specs.Requests as translations
 use Rattle.translation.specs.declared.TranslationRequest.{TranslationRequest}
-use Rattle.interrupts.specs.Claims.{outcome, namedWords, AccessFault}
+use Rattle.interrupts.specs.Claims.{answerOver, namedWords, AccessFault}
 use Rattle.interrupts.specs.Descriptor.{notification, descriptorCheck}
 use Rattle.interrupts.specs.Interrupts.{posted, interruptAnswer, descriptorRules, indexRules, requestRules, interruptRules}
 use Rattle.interrupts.specs.Request.{requestCheck}
@@ -45,7 +45,7 @@ use Rattle.interrupts.specs.declared.InterruptRequest.{InterruptRequest}
 use Rattle.irte.specs.Irte.{reservedIrte, irteCheck}
 use Rattle.irte.specs.Source.{sourceAllowed}
 use Rattle.unit.specs.Isolation.{memoryOver, translationOver, interruptOver}
-use Rattle.unit.specs.Lent.{Lent, memoryOf, placeOf, byteOf, SameWordAt, SameWordsAt, SwitchedAt, ShowsAll}
+use Rattle.unit.specs.Lent.{Lent, memoryOf, spotOf, byteOf, SameWordAt, SameWordsAt, SwitchedAt, ShowsAll}
 use Rattle.unit.proofs.Demand3.{isolation, flat-images}
 use Rattle.cases.specs.Bench.{layout, onward, inWords, bench, benchRegisters}
 use Rattle.cases.specs.Instances.{
@@ -59,15 +59,15 @@ use Rattle.cases.specs.Instances.{
   MorePremises,
   reads,
   writes,
-  beyond,
-  readable,
-  type1,
+  readsBeyond,
+  benchReadOnly,
+  benchType1,
   translates,
   remaps,
   posts,
   holed,
   holedWindows,
-  cut,
+  cutBytes,
   cutWindows,
   reordered,
   reorderedWindows,
@@ -75,6 +75,7 @@ use Rattle.cases.specs.Instances.{
 }
 use Rattle.cases.specs.PostsThroughWindows as small
 use Rattle.cases.specs.Takes.{posts31}
+use Rattle.cases.proofs.Cases.{bench-length}
 
 -- These are the premises of `Isolation`: each part of it, given them, says the same answer.
 memory-fits : (registers : Registers) (request : MemoryRequest) (l l′ : Lent) → MemoryPremises registers request l l′
@@ -256,10 +257,6 @@ module _ (image : List ℕ) (n : ℕ) (h : n ≤ length image) where
       by true e inside ih = (part-word image n at h (leb-true (at + 8) n e), ih inside)
       by false e inside ih = let z : _≡_ {A = ℕ} 0 1 = cc in absurd (omega arith)
 
-bench-length : length bench ≡ 32768
-unfolding bench layout onward inWords bytesOf
-bench-length = refl
-
 bench-fits : length bench ≤ 2 ^ 64
 bench-fits = rw bench-length (lit≤ tt)
 
@@ -295,7 +292,7 @@ AlikeAt run run′ (here place left) nowhere = ⊥
 AlikeAt run run′ (here place left) (here place′ left′) = take 8 (drop place run) ≡ take 8 (drop place′ run′)
 
 module _ (l l′ : Lent) where
-  word-at : (at : ℕ) (s s′ : Spot) → placeOf l 8 at ≡ s → placeOf l′ 8 at ≡ s′ → AlikeAt (l .bytes) (l′ .bytes) s s′ → SameWordAt l l′ at
+  word-at : (at : ℕ) (s s′ : Spot) → spotOf l 8 at ≡ s → spotOf l′ 8 at ≡ s′ → AlikeAt (l .bytes) (l′ .bytes) s s′ → SameWordAt l l′ at
   word-at at nowhere s′ e e′ h = absurd h
   word-at at (here place left) nowhere e e′ h = absurd h
   word-at at (here place left) (here place′ left′) e e′ h =
@@ -303,12 +300,12 @@ module _ (l l′ : Lent) where
 
   unfoldable AllAlike : List ℕ → Type 0
   AllAlike [] = Unit {0}
-  AllAlike (at ∷ rest) = AlikeAt (l .bytes) (l′ .bytes) (placeOf l 8 at) (placeOf l′ 8 at) × AllAlike rest
+  AllAlike (at ∷ rest) = AlikeAt (l .bytes) (l′ .bytes) (spotOf l 8 at) (spotOf l′ 8 at) × AllAlike rest
 
   words-at : (words : List ℕ) → AllAlike words → SameWordsAt l l′ words
   unfolding AllAlike SameWordsAt
   words-at [] h = tt
-  words-at (at ∷ rest) h = (word-at at (placeOf l 8 at) (placeOf l′ 8 at) refl refl (h .0), words-at rest (h .1))
+  words-at (at ∷ rest) h = (word-at at (spotOf l 8 at) (spotOf l′ 8 at) refl refl (h .0), words-at rest (h .1))
 
 holed-words : named (memoryRules benchRegisters reads) (ofWindows holedWindows holed) ≡ entryWords
 unfolding holed bench layout onward inWords bytesOf littleEndian bits windowsOf spotIn entryIn ofWindows named wordsFrom entry mapRules admission registersBad contextReserved contextInvalid contextCheck pageReserved pageCheck memoryRules rootReserved rootCheck widthRules contextRules rootRules walkRules
@@ -322,21 +319,21 @@ holed-good : badWindows holedWindows (length holed) ≡ false
 unfolding holed bench layout onward inWords bytesOf windowsOf badWithAny badList badWindows
 holed-good = refl
 
-cut-good : badWindows cutWindows (length cut) ≡ false
-unfolding cut bench layout onward inWords bytesOf windowsOf badWithAny badList badWindows
+cut-good : badWindows cutWindows (length cutBytes) ≡ false
+unfolding cutBytes bench layout onward inWords bytesOf windowsOf badWithAny badList badWindows
 cut-good = refl
 
 abbrev holed-lent : Lent
 holed-lent = record { windows = holedWindows; bytes = holed; good = holed-good }
 
 abbrev cut-lent : Lent
-cut-lent = record { windows = cutWindows; bytes = cut; good = cut-good }
+cut-lent = record { windows = cutWindows; bytes = cutBytes; good = cut-good }
 
 holed-alike : AllAlike holed-lent cut-lent entryWords
-unfolding AllAlike holed cut bench layout onward inWords bytesOf windowsOf spotIn
+unfolding AllAlike holed cutBytes bench layout onward inWords bytesOf windowsOf spotIn
 holed-alike = (refl, (refl, (refl, (refl, (refl, (refl, (refl, tt)))))))
 
-memory-windows : Related holedWindows holed cutWindows cut (MemoryPremises benchRegisters reads)
+memory-windows : Related holedWindows holed cutWindows cutBytes (MemoryPremises benchRegisters reads)
 memory-windows =
     record {
       good = holed-good;
@@ -345,33 +342,33 @@ memory-windows =
     }
 
 -- translation requests
-translation-words : named (translations.requestRules benchRegisters translates) (ofImage type1) ≡ entryWords
-unfolding type1 bench layout onward inWords bytesOf littleEndian bits wordAt ofImage named wordsFrom entry mapRules admission registersBad contextReserved contextInvalid contextCheck pageReserved rootReserved rootCheck contextRules rootRules walkRules typeRules translations.requestRules
+translation-words : named (translations.requestRules benchRegisters translates) (ofImage benchType1) ≡ entryWords
+unfolding benchType1 bench layout onward inWords bytesOf littleEndian bits wordAt ofImage named wordsFrom entry mapRules admission registersBad contextReserved contextInvalid contextCheck pageReserved rootReserved rootCheck contextRules rootRules walkRules typeRules translations.requestRules
 translation-words = refl
 
-translation-answered : translations.answerOver benchRegisters translates (ofImage type1)
+translation-answered : translations.answerOver benchRegisters translates (ofImage benchType1)
     ≡ translations.translated 0x12345000 0x1000 (record { read = true; write = false })
-unfolding type1 bench layout onward inWords bytesOf littleEndian bits wordAt ofImage run entry mapRules admission registersBad contextReserved contextInvalid contextCheck pageReserved rootReserved rootCheck contextRules rootRules walkRules typeRules translations.requestRules
+unfolding benchType1 bench layout onward inWords bytesOf littleEndian bits wordAt ofImage run entry mapRules admission registersBad contextReserved contextInvalid contextCheck pageReserved rootReserved rootCheck contextRules rootRules walkRules typeRules translations.requestRules
 translation-answered = refl
 
-type1-length : length type1 ≡ 32768
-unfolding type1
+type1-length : length benchType1 ≡ 32768
+unfolding benchType1
 type1-length = length-set bench 0x2100 5 ∙ bench-length
 
-translation-alike : SameWords type1 (take 0x5010 type1) entryWords
+translation-alike : SameWords benchType1 (take 0x5010 benchType1) entryWords
 unfolding endWithin
-translation-alike = part-words type1 0x5010 (rw type1-length (lit≤ tt)) entryWords refl
+translation-alike = part-words benchType1 0x5010 (rw type1-length (lit≤ tt)) entryWords refl
 
-type1-fits : length type1 ≤ 2 ^ 64
+type1-fits : length benchType1 ≤ 2 ^ 64
 type1-fits = rw type1-length (lit≤ tt)
 
-translation-requests : FlatRelated type1 (take 0x5010 type1) (TranslationPremises benchRegisters translates)
+translation-requests : FlatRelated benchType1 (take 0x5010 benchType1) (TranslationPremises benchRegisters translates)
 translation-requests =
-    flat-related type1 (take 0x5010 type1) (TranslationPremises benchRegisters translates) type1-fits (part-fits 0x5010 type1 type1-fits)
+    flat-related benchType1 (take 0x5010 benchType1) (TranslationPremises benchRegisters translates) type1-fits (part-fits 0x5010 benchType1 type1-fits)
     (λ good good′.
     record {
-      no-access-fault = ap translation.accessFault (flat-images type1 type1-fits .translations benchRegisters translates ∙ translation-answered);
-      alike = rw (seen type1, translation-words) (same-words type1 (take 0x5010 type1) good good′ _ translation-alike);
+      no-access-fault = ap translation.accessFault (flat-images benchType1 type1-fits .translations benchRegisters translates ∙ translation-answered);
+      alike = rw (seen benchType1, translation-words) (same-words benchType1 (take 0x5010 benchType1) good good′ _ translation-alike);
     })
 
 -- interrupts
@@ -383,11 +380,11 @@ interrupt-alike : SameWords bench (take 0x6030 bench) (0x6020 ∷ 0x6028 ∷ [])
 unfolding endWithin
 interrupt-alike = part-words bench 0x6030 (rw bench-length (lit≤ tt)) (0x6020 ∷ 0x6028 ∷ []) refl
 
-interrupt-answered : AccessFault (outcome benchRegisters remaps (ofImage bench)) → ⊥
+interrupt-answered : AccessFault (answerOver benchRegisters remaps (ofImage bench)) → ⊥
 unfolding bench layout onward inWords bytesOf littleEndian bits wordAt ofImage entry run mapRules admission registersBad indexRules requestRules interruptRules reservedIrte irteCheck requestCheck sourceAllowed
 interrupt-answered fault = fault
 
-post-answered : outcome benchRegisters posts (ofImage (take 0x6440 bench)) ≡ posted 0x6400 0x31 (notification 0xF2 7)
+post-answered : answerOver benchRegisters posts (ofImage (take 0x6440 bench)) ≡ posted 0x6400 0x31 (notification 0xF2 7)
 unfolding bench layout onward inWords bytesOf littleEndian bits wordAt ofImage entry run mapRules admission registersBad descriptorRules indexRules requestRules interruptRules reservedIrte irteCheck requestCheck sourceAllowed descriptorCheck
 post-answered = refl
 
@@ -419,16 +416,16 @@ post =
 abbrev post-words : List ℕ
 post-words = 0x2000 ∷ 0x2008 ∷ 0x5000 ∷ 0x5008 ∷ 0x5010 ∷ 0x5018 ∷ 0x5020 ∷ 0x5028 ∷ 0x5030 ∷ 0x5038 ∷ []
 
-small-words : namedWords small.registers posts31 (ofWindows small.two small.run) ≡ post-words
-unfolding small.run bytesOf littleEndian bits windowsOf spotIn entryIn ofWindows named wordsFrom entry mapRules admission registersBad descriptorRules indexRules requestRules interruptRules reservedIrte irteCheck requestCheck sourceAllowed descriptorCheck
+small-words : namedWords small.registers posts31 (ofWindows small.two small.postRun) ≡ post-words
+unfolding small.postRun bytesOf littleEndian bits windowsOf spotIn entryIn ofWindows named wordsFrom entry mapRules admission registersBad descriptorRules indexRules requestRules interruptRules reservedIrte irteCheck requestCheck sourceAllowed descriptorCheck
 small-words = refl
 
-small-answered : interruptAnswer small.registers posts31 small.two small.run ≡ posted 0x5000 0x31 (notification 0 0)
-unfolding small.run bytesOf littleEndian bits badWithAny badList badWindows windowsOf spotIn entryIn ofWindows run entry mapRules admission registersBad descriptorRules indexRules requestRules interruptRules reservedIrte irteCheck requestCheck sourceAllowed descriptorCheck
+small-answered : interruptAnswer small.registers posts31 small.two small.postRun ≡ posted 0x5000 0x31 (notification 0 0)
+unfolding small.postRun bytesOf littleEndian bits badWithAny badList badWindows windowsOf spotIn entryIn ofWindows run entry mapRules admission registersBad descriptorRules indexRules requestRules interruptRules reservedIrte irteCheck requestCheck sourceAllowed descriptorCheck
 small-answered = refl
 
-small-good : badWindows small.two (length small.run) ≡ false
-unfolding small.run bytesOf windowsOf badWithAny badList badWindows
+small-good : badWindows small.two (length small.postRun) ≡ false
+unfolding small.postRun bytesOf windowsOf badWithAny badList badWindows
 small-good = refl
 
 reordered-good : badWindows reorderedWindows (length reordered) ≡ false
@@ -436,16 +433,16 @@ unfolding reordered bytesOf windowsOf badWithAny badList badWindows
 reordered-good = refl
 
 abbrev small-lent : Lent
-small-lent = record { windows = small.two; bytes = small.run; good = small-good }
+small-lent = record { windows = small.two; bytes = small.postRun; good = small-good }
 
 abbrev reordered-lent : Lent
 reordered-lent = record { windows = reorderedWindows; bytes = reordered; good = reordered-good }
 
 small-alike : AllAlike small-lent reordered-lent post-words
-unfolding AllAlike small.run reordered bytesOf windowsOf spotIn
+unfolding AllAlike small.postRun reordered bytesOf windowsOf spotIn
 small-alike = (refl, (refl, (refl, (refl, (refl, (refl, (refl, (refl, (refl, (refl, tt))))))))))
 
-post-windows : Related small.two small.run reorderedWindows reordered (InterruptPremises small.registers posts31)
+post-windows : Related small.two small.postRun reorderedWindows reordered (InterruptPremises small.registers posts31)
 post-windows =
     record {
       good = small-good;
@@ -463,13 +460,13 @@ both-switched : (turned : ℕ → ℕ → Type 0) (image : List ℕ) (b e : ℕ)
     → SwitchedEntry turned 3 3 → SwitchedEntry turned 1 b → SwitchedEntry turned e b
     → (page : ℕ) → List·Memᴰ page pages
     → BothFetched (SwitchedEntry turned) (flat-byte image page) (flat-byte (set (set image 0x5008 b) 0x4018 b) page)
-both-switched turned image b e l b3008 b4008 b5008 b4018 kept leaf beyond =
+both-switched turned image b e l b3008 b4008 b5008 b4018 kept leaf readsBeyond =
     each (λ n. BothFetched (SwitchedEntry turned) (flat-byte image n) (flat-byte image′ n))
     (at 0x3008 3 3 (lit≤ tt) b3008 (other 0x3008 (λ e. omega arith) (λ e. omega arith) ∙ b3008) kept)
     (at 0x4008 3 3 (lit≤ tt) b4008 (other 0x4008 (λ e. omega arith) (λ e. omega arith) ∙ b4008) kept)
     (at 0x5008 1 b (lit≤ tt) b5008
     (getD-set-other (set image 0x5008 b) 0x4018 0x5008 b 0 (λ e. omega arith) ∙ getD-set-same image 0x5008 b 0 (rw l (lit≤ tt))) leaf)
-    (at 0x4018 e b (lit≤ tt) b4018 (getD-set-same (set image 0x5008 b) 0x4018 b 0 (rw (length-set image 0x5008 b, l) (lit≤ tt))) beyond)
+    (at 0x4018 e b (lit≤ tt) b4018 (getD-set-same (set image 0x5008 b) 0x4018 b 0 (rw (length-set image 0x5008 b, l) (lit≤ tt))) readsBeyond)
   where
     image′ : List ℕ
     image′ = set (set image 0x5008 b) 0x4018 b
@@ -483,37 +480,37 @@ both-switched turned image b e l b3008 b4008 b5008 b4018 kept leaf beyond =
         rw (byte-in image n (rw l h), byte-in image′ n (rw (length-set (set image 0x5008 b) 0x4018 b, length-set image 0x5008 b, l) h), is, is′) s
 
 -- rights switched on, over the image in which 4018 is only readable
-on-walked : walkedByAny benchRegisters (reads ∷ beyond ∷ []) (ofImage readable) ≡ pages
-unfolding walkedByAny readable bench layout onward inWords bytesOf littleEndian bits wordAt ofImage entry entriesOf mapRules admission registersBad contextReserved contextInvalid contextCheck pageReserved pageCheck memoryRules rootReserved rootCheck widthRules contextRules rootRules walkRules
+on-walked : walkedByAny benchRegisters (reads ∷ readsBeyond ∷ []) (ofImage benchReadOnly) ≡ pages
+unfolding walkedByAny benchReadOnly bench layout onward inWords bytesOf littleEndian bits wordAt ofImage entry entriesOf mapRules admission registersBad contextReserved contextInvalid contextCheck pageReserved pageCheck memoryRules rootReserved rootCheck widthRules contextRules rootRules walkRules
 on-walked = refl
 
-on-tables : tableEntries benchRegisters reads (ofImage readable) ≡ tables
-unfolding readable bench layout onward inWords bytesOf littleEndian bits wordAt ofImage entry entriesOf mapRules admission registersBad contextReserved contextInvalid contextCheck pageReserved pageCheck memoryRules rootReserved rootCheck widthRules contextRules rootRules walkRules
+on-tables : tableEntries benchRegisters reads (ofImage benchReadOnly) ≡ tables
+unfolding benchReadOnly bench layout onward inWords bytesOf littleEndian bits wordAt ofImage entry entriesOf mapRules admission registersBad contextReserved contextInvalid contextCheck pageReserved pageCheck memoryRules rootReserved rootCheck widthRules contextRules rootRules walkRules
 on-tables = refl
 
-on-granted : answerOver benchRegisters reads (ofImage readable) ≡ granted 0x12345ABC
-unfolding readable bench layout onward inWords bytesOf littleEndian bits wordAt ofImage entry run mapRules admission registersBad contextReserved contextInvalid contextCheck pageReserved pageCheck memoryRules rootReserved rootCheck widthRules contextRules rootRules walkRules
+on-granted : answerOver benchRegisters reads (ofImage benchReadOnly) ≡ granted 0x12345ABC
+unfolding benchReadOnly bench layout onward inWords bytesOf littleEndian bits wordAt ofImage entry run mapRules admission registersBad contextReserved contextInvalid contextCheck pageReserved pageCheck memoryRules rootReserved rootCheck widthRules contextRules rootRules walkRules
 on-granted = refl
 
-walker-faulted : accessFault (answerOver benchRegisters beyond (ofImage readable)) ≡ true
-unfolding readable memoryFault bench layout onward inWords bytesOf littleEndian bits wordAt ofImage entry run mapRules admission registersBad contextReserved contextInvalid contextCheck pageReserved pageCheck memoryRules rootReserved rootCheck widthRules contextRules rootRules walkRules
+walker-faulted : accessFault (answerOver benchRegisters readsBeyond (ofImage benchReadOnly)) ≡ true
+unfolding benchReadOnly memoryFault bench layout onward inWords bytesOf littleEndian bits wordAt ofImage entry run mapRules admission registersBad contextReserved contextInvalid contextCheck pageReserved pageCheck memoryRules rootReserved rootCheck widthRules contextRules rootRules walkRules
 walker-faulted = refl
 
-readable-fits : length readable ≤ 2 ^ 64
-unfolding readable
+readable-fits : length benchReadOnly ≤ 2 ^ 64
+unfolding benchReadOnly
 readable-fits = rw (length-set bench 0x4018 1) bench-fits
 
 twice-fits : (image : List ℕ) (b : ℕ) → length image ≤ 2 ^ 64 → length (set (set image 0x5008 b) 0x4018 b) ≤ 2 ^ 64
 twice-fits image b h = rw (length-set (set image 0x5008 b) 0x4018 b, length-set image 0x5008 b) h
 
-on-switched : (good : badWindows (flat (length readable)) (length readable) ≡ false)
-    (good′ : badWindows (flat (length (set (set readable 0x5008 3) 0x4018 3))) (length (set (set readable 0x5008 3) 0x4018 3)) ≡ false)
-    → SwitchedAt (λ before after. before ≤ after) pages (lent readable good) (lent (set (set readable 0x5008 3) 0x4018 3) good′)
-unfolding bits readable
+on-switched : (good : badWindows (flat (length benchReadOnly)) (length benchReadOnly) ≡ false)
+    (good′ : badWindows (flat (length (set (set benchReadOnly 0x5008 3) 0x4018 3))) (length (set (set benchReadOnly 0x5008 3) 0x4018 3)) ≡ false)
+    → SwitchedAt (λ before after. before ≤ after) pages (lent benchReadOnly good) (lent (set (set benchReadOnly 0x5008 3) 0x4018 3) good′)
+unfolding bits benchReadOnly
 on-switched good good′ =
     record {
-      elsewhere = elsewhere readable 3;
-      switched = both-switched (λ before after. before ≤ after) readable 3 1 (length-set bench 0x4018 1 ∙ bench-length)
+      elsewhere = elsewhere benchReadOnly 3;
+      switched = both-switched (λ before after. before ≤ after) benchReadOnly 3 1 (length-set bench 0x4018 1 ∙ bench-length)
           (getD-set-other bench 0x4018 0x3008 1 0 (λ e. omega arith) ∙ lows .0)
           (getD-set-other bench 0x4018 0x4008 1 0 (λ e. omega arith) ∙ lows .1)
           (getD-set-other bench 0x4018 0x5008 1 0 (λ e. omega arith) ∙ lows .2)
@@ -523,18 +520,18 @@ on-switched good good′ =
           (record { other-bits = refl; read = lit≤ tt; write = lit≤ tt });
     }
 
-rights-on : FlatRelated readable (set (set readable 0x5008 3) 0x4018 3) (OnPremises benchRegisters (reads ∷ beyond ∷ []) reads 0x12345ABC)
+rights-on : FlatRelated benchReadOnly (set (set benchReadOnly 0x5008 3) 0x4018 3) (OnPremises benchRegisters (reads ∷ readsBeyond ∷ []) reads 0x12345ABC)
 rights-on =
-    flat-related readable (set (set readable 0x5008 3) 0x4018 3) (OnPremises benchRegisters (reads ∷ beyond ∷ []) reads 0x12345ABC) readable-fits (twice-fits readable 3 readable-fits)
+    flat-related benchReadOnly (set (set benchReadOnly 0x5008 3) 0x4018 3) (OnPremises benchRegisters (reads ∷ readsBeyond ∷ []) reads 0x12345ABC) readable-fits (twice-fits benchReadOnly 3 readable-fits)
     (λ good good′.
     record {
-      apart = rw (seen readable, on-walked, on-tables) after;
-      switched = rw (seen readable, on-walked) (on-switched good good′);
-      was-granted = flat-images readable readable-fits .memory benchRegisters reads ∙ on-granted;
+      apart = rw (seen benchReadOnly, on-walked, on-tables) after;
+      switched = rw (seen benchReadOnly, on-walked) (on-switched good good′);
+      was-granted = flat-images benchReadOnly readable-fits .memory benchRegisters reads ∙ on-granted;
     })
 
 -- rights switched off, over the bench image
-off-walked : walkedByAny benchRegisters (writes ∷ beyond ∷ []) (ofImage bench) ≡ pages
+off-walked : walkedByAny benchRegisters (writes ∷ readsBeyond ∷ []) (ofImage bench) ≡ pages
 unfolding walkedByAny bench layout onward inWords bytesOf littleEndian bits wordAt ofImage entry entriesOf mapRules admission registersBad contextReserved contextInvalid contextCheck pageReserved pageCheck memoryRules rootReserved rootCheck widthRules contextRules rootRules walkRules
 off-walked = refl
 
@@ -559,9 +556,9 @@ off-switched good good′ =
           (record { other-bits = refl; read = lit≤ tt; write = lit≤ tt });
     }
 
-rights-off : FlatRelated bench (set (set bench 0x5008 0) 0x4018 0) (OffPremises benchRegisters (writes ∷ beyond ∷ []) writes)
+rights-off : FlatRelated bench (set (set bench 0x5008 0) 0x4018 0) (OffPremises benchRegisters (writes ∷ readsBeyond ∷ []) writes)
 rights-off =
-    flat-related bench (set (set bench 0x5008 0) 0x4018 0) (OffPremises benchRegisters (writes ∷ beyond ∷ []) writes) bench-fits (twice-fits bench 0 bench-fits)
+    flat-related bench (set (set bench 0x5008 0) 0x4018 0) (OffPremises benchRegisters (writes ∷ readsBeyond ∷ []) writes) bench-fits (twice-fits bench 0 bench-fits)
     (λ good good′.
     record {
       apart = rw (seen bench, off-walked, off-tables) after;
@@ -590,14 +587,14 @@ premises-met =
       memory-windows = memory-windows;
       memory-windows-answer = holed-answered;
       translations = translation-requests;
-      translations-answer = flat-images type1 type1-fits .translations benchRegisters translates ∙ translation-answered;
+      translations-answer = flat-images benchType1 type1-fits .translations benchRegisters translates ∙ translation-answered;
       interrupts = interrupts;
       post = post;
       post-answer = post-told;
       post-windows = post-windows;
       post-windows-answer = small-answered;
       rights-on = rights-on;
-      walker-faulted = ap accessFault (flat-images readable readable-fits .memory benchRegisters beyond) ∙ walker-faulted;
+      walker-faulted = ap accessFault (flat-images benchReadOnly readable-fits .memory benchRegisters readsBeyond) ∙ walker-faulted;
       rights-off = rights-off;
       more-memory = more-memory;
     }

@@ -6,8 +6,7 @@ use mathlib.Core.Path.{_≡_, refl, _∙_}
 use lib.Dec.{lit≤}
 use lib.ListN.{length, replicate}
 use Rattle.image.specs.Bits.{bits}
-use Rattle.image.specs.Bytes.{littleEndian, bytesOf}
-use Rattle.image.specs.Entries.{spell}
+use Rattle.image.specs.Bytes.{littleEndian, bytesOf, spell}
 use Rattle.image.specs.Memory.{wordAt, entry}
 use Rattle.image.specs.Place.{lastTried}
 use Rattle.image.specs.Rules.{run, mapRules, wordsFrom}

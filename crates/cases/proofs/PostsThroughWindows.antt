@@ -20,7 +20,7 @@ use Rattle.cases.specs.PostsThroughWindows as small
 use Rattle.cases.specs.PostsThroughWindows.{PostsThroughWindows}
 
 pub posts-through-windows : PostsThroughWindows
-unfolding small.run bytesOf littleEndian bits windowsOf spotIn entryIn ofWindows badWithAny badList badWindows entry run lastTried mapRules admission registersBad descriptorRules indexRules requestRules interruptRules reservedIrte irteCheck requestCheck sourceAllowed descriptorCheck setBit clearBit highest takeRules after left
+unfolding small.postRun bytesOf littleEndian bits windowsOf spotIn entryIn ofWindows badWithAny badList badWindows entry run lastTried mapRules admission registersBad descriptorRules indexRules requestRules interruptRules reservedIrte irteCheck requestCheck sourceAllowed descriptorCheck setBit clearBit highest takeRules after left
 posts-through-windows =
     record {
       fine = refl;

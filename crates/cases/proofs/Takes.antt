@@ -13,6 +13,7 @@ use Rattle.image.specs.Bytes.{littleEndian, bytesOf}
 use Rattle.image.specs.Memory.{entry}
 use Rattle.image.specs.Rules.{run, mapRules}
 use Rattle.image.specs.Windows.{windowsOf, spotIn, entryIn, ofWindows, byteAt, badWithAny, badList, badWindows, flat}
+use Rattle.image.proofs.Choices.{both}
 use Rattle.registers.specs.Admission.{admission}
 use Rattle.registers.specs.Registers.{registersBad}
 use Rattle.irte.specs.Irte.{reservedIrte, irteCheck}
@@ -22,18 +23,14 @@ use Rattle.interrupts.specs.Interrupts.{posted, interruptAnswer, descriptorRule
 use Rattle.interrupts.specs.Post.{setBit}
 use Rattle.interrupts.specs.Request.{requestCheck}
 use Rattle.takes.specs.Claims.{Apart}
-use Rattle.takes.specs.Runs.{after, left, count, countFrom}
+use Rattle.takes.specs.Runs.{after, left, countIn, countFrom}
 use Rattle.takes.specs.Take.{highest, takeRules, clearBit}
-use Rattle.cases.specs.Takes.{registers, withRequests, full, empty, window, posts31, postsF0, TakesMet}
+use Rattle.cases.specs.Takes.{registers, withRequests, allRequests, noRequests, window, posts31, postsF0, TakesMet}
 
 -- bytes, by looking at each
 small : List ℕ → Bool
 small [] = true
 small (x ∷ xs) = ltb x 256 && small xs
-
-both : (a b : Bool) → (a && b) ≡ true → (a ≡ true) × (b ≡ true)
-both true b h = (refl, h)
-both false b h = let z : _≡_ {A = ℕ} 0 1 = cc in absurd (omega arith)
 
 below : (l : List ℕ) → small l ≡ true → (n : ℕ) → getD l n 0 < 256
 unfolding small
@@ -41,25 +38,25 @@ below [] h n = omega arith
 below (x ∷ xs) h zero = ltb-true x 256 (both (ltb x 256) (small xs) h .0)
 below (x ∷ xs) h (suc n) = below xs (both (ltb x 256) (small xs) h .1) n
 
-full-bytes : (n : ℕ) → getD full n 0 < 256
+full-bytes : (n : ℕ) → getD allRequests n 0 < 256
 unfolding small withRequests bytesOf
-full-bytes = below full refl
+full-bytes = below allRequests refl
 
 -- both post to the descriptor at 64, behind the entries
-posts-to-64 : (interruptAnswer registers posts31 window empty ≡ posted 64 0x31 (notification 0 0)) × (interruptAnswer registers postsF0 window empty ≡ posted 64 0xF0 (notification 0 0))
+posts-to-64 : (interruptAnswer registers posts31 window noRequests ≡ posted 64 0x31 (notification 0 0)) × (interruptAnswer registers postsF0 window noRequests ≡ posted 64 0xF0 (notification 0 0))
 unfolding withRequests bytesOf littleEndian bits windowsOf spotIn entryIn ofWindows byteAt badWithAny badList badWindows flat entry run mapRules admission registersBad descriptorRules indexRules requestRules interruptRules reservedIrte irteCheck requestCheck sourceAllowed descriptorCheck
 posts-to-64 = (refl, refl)
 
-apart : Apart registers posts31 postsF0 window empty
+apart : Apart registers posts31 postsF0 window noRequests
 unfolding bits
 apart d v n h = let here : d ≡ 64 = cc (posts-to-64 .0) in inr (rw here (lit≤ tt))
 
-apart-back : Apart registers postsF0 posts31 window empty
+apart-back : Apart registers postsF0 posts31 window noRequests
 unfolding bits
 apart-back d v n h = let here : d ≡ 64 = cc (posts-to-64 .1) in inr (rw here (lit≤ tt))
 
 pub takes-met : TakesMet
-unfolding withRequests bytesOf littleEndian bits windowsOf spotIn entryIn ofWindows byteAt badWithAny badList badWindows flat entry run mapRules admission registersBad descriptorRules indexRules requestRules interruptRules reservedIrte irteCheck requestCheck sourceAllowed descriptorCheck setBit clearBit highest takeRules after left count countFrom
+unfolding withRequests bytesOf littleEndian bits windowsOf spotIn entryIn ofWindows byteAt badWithAny badList badWindows flat entry run mapRules admission registersBad descriptorRules indexRules requestRules interruptRules reservedIrte irteCheck requestCheck sourceAllowed descriptorCheck setBit clearBit highest takeRules after left countIn countFrom
 takes-met =
     record {
       hands-255 = refl;

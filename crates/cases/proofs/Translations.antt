@@ -1,7 +1,7 @@
 -- The rows of Ask 1 hold, proved together by computing the table.
 use mathlib.Core.Path.{_≡_, refl}
 use Rattle.image.specs.Bits.{bits}
-use Rattle.image.specs.Entries.{spell}
+use Rattle.image.specs.Bytes.{spell}
 use Rattle.image.specs.Memory.{entry}
 use Rattle.image.specs.Place.{lastTried}
 use Rattle.image.specs.Rules.{run, mapRules}

@@ -4,8 +4,7 @@ use mathlib.Core.Bool.{Bool, true, false}
 use mathlib.Core.List.{List, [], _∷_, _++_}
 use mathlib.Core.Path.{_≡_}
 use lib.ListN.{length, take, replicate, set}
-use Rattle.image.specs.Bytes.{bytesOf}
-use Rattle.image.specs.Entries.{spell}
+use Rattle.image.specs.Bytes.{bytesOf, spell}
 use Rattle.image.specs.Place.{Place, noEntry, entryAt}
 use Rattle.image.specs.Windows.{flat}
 use Rattle.registers.specs.declared.Registers.{Registers}
@@ -14,7 +13,7 @@ use Rattle.dma.specs.Requests.{MemoryOutcome, granted, blocked, refused, memory
 use Rattle.dma.specs.declared.MemoryRequest.{MemoryRequest}
 use Rattle.interrupts.specs.Descriptor.{silent, notification}
 use Rattle.interrupts.specs.Interrupts as interrupts
-use Rattle.interrupts.specs.Post.{written}
+use Rattle.interrupts.specs.Post.{interruptWritten}
 use Rattle.interrupts.specs.declared.InterruptRequest.{InterruptRequest}
 
 -- the bytes from an address up to an end: zero but for words given as (address, value), in rising order of address
@@ -78,9 +77,9 @@ abbrev pub benchRegisters : Registers
 benchRegisters = benchWith true
 
 -- bytes of an image that become others
-unfoldable pub changed : List (ℕ × ℕ) → List ℕ → List ℕ
-changed [] image = image
-changed (b ∷ bs) image = changed bs (set image (b .0) (b .1))
+unfoldable pub withBytes : List (ℕ × ℕ) → List ℕ → List ℕ
+withBytes [] image = image
+withBytes (b ∷ bs) image = withBytes bs (set image (b .0) (b .1))
 
 -- what a case asks: a read or a write of an address, or an interrupt's address and data
 pub data Ask : Type 0 where
@@ -106,7 +105,7 @@ memoryResult request image =
     memory (memoryAnswer benchRegisters request (flat (length image)) image) (memoryAnswerPlace benchRegisters request (flat (length image)) image)
 
 abbrev pub interruptedBy : interrupts.InterruptOutcome → Place → (image : List ℕ) → Result
-interruptedBy outcome place image = interrupted outcome place (written (flat (length image)) outcome image)
+interruptedBy outcome place image = interrupted outcome place (interruptWritten (flat (length image)) outcome image)
 
 -- the unit's answer under the bench registers
 unfoldable pub resultOf : (source : ℕ) → Ask → (image : List ℕ) → Result
@@ -117,8 +116,8 @@ resultOf source (interrupt address message) image =
     (interrupts.interruptAnswerPlace benchRegisters (interruptRequest source address message) (flat (length image)) image) image
 
 -- a recordable fault by its reason and its record's two words
-abbrev pub faulted : (reason low high : ℕ) → FaultAnswer
-faulted reason low high = record { reason = reason; recordable = true; contents = spell (low ∷ high ∷ []) }
+abbrev pub recordedFault : (reason low high : ℕ) → FaultAnswer
+recordedFault reason low high = record { reason = reason; recordable = true; contents = spell (low ∷ high ∷ []) }
 
 -- what a case answers: a host address, a fault with the address of the entry concerned, a refusal of a memory request, an interrupt's
 -- outcome with the bytes that change, or an interrupt's fault
@@ -131,10 +130,10 @@ pub data Answer : Type 0 where
 
 abbrev pub expected : Answer → (image : List ℕ) → Result
 expected (host address) image = memory (granted address) noEntry
-expected (fault reason low high entry) image = memory (blocked (faulted reason low high)) (entryAt entry)
+expected (fault reason low high entry) image = memory (blocked (recordedFault reason low high)) (entryAt entry)
 expected (refusal number) image = memory (refused number) noEntry
-expected (becomes outcome bytes) image = interrupted outcome noEntry (changed bytes image)
-expected (stopped reason low high place) image = interrupted (interrupts.blocked (faulted reason low high)) place image
+expected (becomes outcome bytes) image = interrupted outcome noEntry (withBytes bytes image)
+expected (stopped reason low high place) image = interrupted (interrupts.blocked (recordedFault reason low high)) place image
 
 pub record Row : Type 0 where
   pub number : ℕ
@@ -183,14 +182,14 @@ rows image =
     -- its second row: again, over what the first left
     ∷ row 12 image 0x0310 (interrupt 0xFEE00090 0)
     (becomes (interrupts.posted 0x6400 0x31 (notification 0xF2 7)) ((0x6406, 2) ∷ (0x6420, 1) ∷ []))
-    ∷ row 12 (changed ((0x6406, 2) ∷ (0x6420, 1) ∷ []) image) 0x0310 (interrupt 0xFEE00090 0)
+    ∷ row 12 (withBytes ((0x6406, 2) ∷ (0x6420, 1) ∷ []) image) 0x0310 (interrupt 0xFEE00090 0)
     (becomes (interrupts.posted 0x6400 0x31 silent) [])
     -- document 02, Ask 2: the entry's URG with SN set; with ON already set; SN set without URG
-    ∷ row 12 (changed ((0x6041, 0xC0) ∷ (0x6420, 2) ∷ []) image) 0x0310 (interrupt 0xFEE00090 0)
+    ∷ row 12 (withBytes ((0x6041, 0xC0) ∷ (0x6420, 2) ∷ []) image) 0x0310 (interrupt 0xFEE00090 0)
     (becomes (interrupts.posted 0x6400 0x31 (notification 0xF2 7)) ((0x6406, 2) ∷ (0x6420, 3) ∷ []))
-    ∷ row 12 (changed ((0x6041, 0xC0) ∷ (0x6420, 1) ∷ []) image) 0x0310 (interrupt 0xFEE00090 0)
+    ∷ row 12 (withBytes ((0x6041, 0xC0) ∷ (0x6420, 1) ∷ []) image) 0x0310 (interrupt 0xFEE00090 0)
     (becomes (interrupts.posted 0x6400 0x31 silent) ((0x6406, 2) ∷ []))
-    ∷ row 12 (changed ((0x6420, 2) ∷ []) image) 0x0310 (interrupt 0xFEE00090 0)
+    ∷ row 12 (withBytes ((0x6420, 2) ∷ []) image) 0x0310 (interrupt 0xFEE00090 0)
     (becomes (interrupts.posted 0x6400 0x31 silent) ((0x6406, 2) ∷ []))
     ∷ []
 

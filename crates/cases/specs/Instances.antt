@@ -70,16 +70,16 @@ abbrev pub writes : MemoryRequest
 writes = memoryRequest 0x0310 0x40201ABC true
 
 -- case 5: its table lies outside the image, so it ends in an access fault behind the entry at 4018
-abbrev pub beyond : MemoryRequest
-beyond = memoryRequest 0x0310 0x40600000 false
+abbrev pub readsBeyond : MemoryRequest
+readsBeyond = memoryRequest 0x0310 0x40600000 false
 
 -- the bench image with write clear at 4018
-unfoldable pub readable : List ℕ
-readable = set bench 0x4018 1
+unfoldable pub benchReadOnly : List ℕ
+benchReadOnly = set bench 0x4018 1
 
 -- the bench image with a context of type 1, and a translation request of the same address
-unfoldable pub type1 : List ℕ
-type1 = set bench 0x2100 5
+unfoldable pub benchType1 : List ℕ
+benchType1 = set bench 0x2100 5
 
 abbrev pub translates : TranslationRequest
 translates = record { source = record { id = 0x0310 }; address = 0x40201ABC }
@@ -98,8 +98,8 @@ holed = take 0x1000 (drop 0x5000 bench) ++ take 0x3010 (drop 0x1000 bench)
 abbrev pub holedWindows : List ℕ
 holedWindows = 0x1000 ∷ 0x1000 ∷ 0x3010 ∷ 0x5000 ∷ 0 ∷ 0x1000 ∷ []
 
-unfoldable pub cut : List ℕ
-cut = take 0x3010 (drop 0x1000 bench) ++ take 0x10 (drop 0x5000 bench)
+unfoldable pub cutBytes : List ℕ
+cutBytes = take 0x3010 (drop 0x1000 bench) ++ take 0x10 (drop 0x5000 bench)
 
 abbrev pub cutWindows : List ℕ
 cutWindows = 0x1000 ∷ 0 ∷ 0x3010 ∷ 0x5000 ∷ 0x3010 ∷ 0x10 ∷ []
@@ -114,11 +114,11 @@ reorderedWindows = 0x2000 ∷ 0 ∷ 16 ∷ 0x5000 ∷ 16 ∷ 64 ∷ []
 pub record PremisesMet : Type 0 where
   -- memory requests: the second image ends behind the last word that the read names; over two windows each, the second cut otherwise
   pub memory : FlatRelated bench (take 0x5010 bench) (MemoryPremises benchRegisters reads)
-  pub memory-windows : Related holedWindows holed cutWindows cut (MemoryPremises benchRegisters reads)
+  pub memory-windows : Related holedWindows holed cutWindows cutBytes (MemoryPremises benchRegisters reads)
   pub memory-windows-answer : memoryAnswer benchRegisters reads holedWindows holed ≡ granted 0x12345ABC
   -- translation requests, likewise
-  pub translations : FlatRelated type1 (take 0x5010 type1) (TranslationPremises benchRegisters translates)
-  pub translations-answer : translationAnswer benchRegisters translates (flat (length type1)) type1
+  pub translations : FlatRelated benchType1 (take 0x5010 benchType1) (TranslationPremises benchRegisters translates)
+  pub translations-answer : translationAnswer benchRegisters translates (flat (length benchType1)) benchType1
       ≡ translated 0x12345000 0x1000 (record { read = true; write = false })
   -- interrupts: the second image ends behind the entry; one that goes on behind the descriptor, with a notification among the answer's
   -- parts; and a post over two windows each, which lie the other way round in the second run
@@ -126,12 +126,12 @@ pub record PremisesMet : Type 0 where
   pub post : FlatRelated (take 0x6440 bench) bench (InterruptPremises benchRegisters posts)
   pub post-answer : interruptAnswer benchRegisters posts (flat (length (take 0x6440 bench))) (take 0x6440 bench)
       ≡ posted 0x6400 0x31 (notification 0xF2 7)
-  pub post-windows : Related small.two small.run reorderedWindows reordered (InterruptPremises small.registers posts31)
-  pub post-windows-answer : interruptAnswer small.registers posts31 small.two small.run ≡ posted 0x5000 0x31 (notification 0 0)
+  pub post-windows : Related small.two small.postRun reorderedWindows reordered (InterruptPremises small.registers posts31)
+  pub post-windows-answer : interruptAnswer small.registers posts31 small.two small.postRun ≡ posted 0x5000 0x31 (notification 0 0)
   -- write switched on in the read's leaf and in an entry of the walker that ended in an access fault
-  pub rights-on : FlatRelated readable (set (set readable 0x5008 3) 0x4018 3) (OnPremises benchRegisters (reads ∷ beyond ∷ []) reads 0x12345ABC)
-  pub walker-faulted : accessFault (memoryAnswer benchRegisters beyond (flat (length readable)) readable) ≡ true
+  pub rights-on : FlatRelated benchReadOnly (set (set benchReadOnly 0x5008 3) 0x4018 3) (OnPremises benchRegisters (reads ∷ readsBeyond ∷ []) reads 0x12345ABC)
+  pub walker-faulted : accessFault (memoryAnswer benchRegisters readsBeyond (flat (length benchReadOnly)) benchReadOnly) ≡ true
   -- the rights of these two switched off; the write was blocked
-  pub rights-off : FlatRelated bench (set (set bench 0x5008 0) 0x4018 0) (OffPremises benchRegisters (writes ∷ beyond ∷ []) writes)
+  pub rights-off : FlatRelated bench (set (set bench 0x5008 0) 0x4018 0) (OffPremises benchRegisters (writes ∷ readsBeyond ∷ []) writes)
   -- the image longer
   pub more-memory : FlatRelated (take 0x5010 bench) bench (MorePremises benchRegisters reads 0x12345ABC)

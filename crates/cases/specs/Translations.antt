@@ -5,7 +5,7 @@ use mathlib.Core.List.{List, [], _∷_, _++_}
 use mathlib.Core.Path.{_≡_}
 use lib.Dec.{eqb, leb}
 use Rattle.image.specs.Choice.{if_then_else_}
-use Rattle.image.specs.Entries.{spell}
+use Rattle.image.specs.Bytes.{spell}
 use Rattle.image.specs.Memory.{Memory, missing, found}
 use Rattle.image.specs.Place.{Place, noEntry, entryAt}
 use Rattle.translation.specs.Requests.{TranslationOutcome, passed, translated, blocked, refused, answerOver, translationPlace}

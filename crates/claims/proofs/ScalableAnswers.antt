@@ -26,9 +26,9 @@ use Rattle.pasid.specs.declared.ScalableRegisters.{ScalableRegisters}
 use Rattle.pasid.specs.declared.context.ScalableContext.{ScalableContext}
 use Rattle.pasid.specs.declared.table.PasidEntry.{PasidEntry}
 use Rattle.first.specs.First.{FirstStep, down as downTo, page as pageAt, fault as stopped, onFirst, flagClear, firstReserved, notSnooped, userDenied, writeDenied, firstFrame, firstStep, notCanonical}
-use Rattle.second.specs.Second.{Walked, page, fault as noPage, Handed as Above, readable, writable, flagsNotSnooped, secondFlags, handedOn, atTop, unfetchable, secondStep, secondRules}
+use Rattle.second.specs.Second.{Walked, page, fault as noPage, SecondHanded as Above, readable, writable, flagsNotSnooped, secondFlags, handedOn, atTop, noSecondEntry, secondStep, secondRules}
 use Rattle.second.specs.declared.step.Wanted.{Wanted}
-use Rattle.nested.specs.Pages.{Pages, reached, fault, Handed, handed, unfetched, wantedOfEntry, wantedOfPage, entryFlags, toEntry, toPage, intermediateRules, locate, pageRules, walkStep, firstRules, pagesRules}
+use Rattle.nested.specs.Pages.{Pages, reached, fault, FirstHanded, firstHanded, noFirstEntry, wantedOfEntry, wantedOfPage, entryFlags, toEntry, toPage, intermediateRules, locate, hostPageRules, walkStep, firstRules, pagesRules}
 use Rattle.nested.specs.Way.{Located, located, lost}
 use Rattle.scalable.specs.Isolation.{accessReason}
 use Rattle.scalable.specs.Lookup.{Lookup, pasidEntry, noPasidEntry, tableRules, directoryRules, contextRules, lookupRules}
@@ -165,7 +165,7 @@ module _ (r : ScalableRegisters) where
     second-told : 0 < p .«second_levels» → (wanted : Wanted) (address : ℕ) (flags : List ℕ)
         → Told OutWalked SaysWalked (secondRules r p wanted address (p .«second_levels») (p .«second_top») (atTop flags))
     second-told some wanted address flags =
-        told-walk OutWalked SaysWalked address (unfetchable r p wanted) (secondStep r p wanted) (λ s. tt) (second-step wanted) (p .«second_levels») (p .«second_top») (atTop flags) some
+        told-walk OutWalked SaysWalked address (noSecondEntry r p wanted) (secondStep r p wanted) (λ s. tt) (second-step wanted) (p .«second_levels») (p .«second_top») (atTop flags) some
 
     held : (level frame address : ℕ) → (frame ≤ hostAddress level frame address) × (hostAddress level frame address < frame + spanAt level)
     held level frame address = (omega arith, omega (arith, offset-lt address level))
@@ -178,7 +178,7 @@ module _ (r : ScalableRegisters) where
     page-out host (page frame level may flags) h = absurd h
     page-out host (noPage reason fpd) h = tt
 
-    first-step : (address : ℕ) (write : Bool) (n place : ℕ) (s : Handed) (e : ℕ) → StepSays SaysPages n (walkStep r p address write (suc n) place s e)
+    first-step : (address : ℕ) (write : Bool) (n place : ℕ) (s : FirstHanded) (e : ℕ) → StepSays SaysPages n (walkStep r p address write (suc n) place s e)
     unfolding firstStep
     first-step address write n place s e =
         let clear = flagClear p write (leafAt (suc n) e) e in
@@ -187,9 +187,9 @@ module _ (r : ScalableRegisters) where
         (on (notSnooped r p clear) (stopped 0x7C (p .fpd)) _ refl
         (on (userDenied p e) (stopped 0x81 (p .fpd)) _ refl (on (writeDenied p write (s .writable) clear e) (stopped 0x85 (p .fpd)) _ refl (last (leafAt (suc n) e) refl)))))
       where
-        told : FirstStep → Step Handed Pages
+        told : FirstStep → Step FirstHanded Pages
         told x =
-            onFirst x (λ table. down table (handed false (s .flags ++ entryFlags p write false place e)))
+            onFirst x (λ table. down table (firstHanded false (s .flags ++ entryFlags p write false place e)))
             (λ frame level. done (reached frame level (hostAddress level frame address) (s .flags ++ entryFlags p write true place e)))
             (λ reason fpd. done (fault reason fpd))
 
@@ -210,11 +210,11 @@ module _ (r : ScalableRegisters) where
           (second-told (levels .0) wanted address flags)
 
       module _ (address : ℕ) (write : Bool) where
-        abbrev OutLocated : Located Handed Pages → Type 0
+        abbrev OutLocated : Located FirstHanded Pages → Type 0
         OutLocated (located place s) = ⊥
         OutLocated (lost a) = OutPages a
 
-        abbrev SaysLocated : Located Handed Pages → Type 0
+        abbrev SaysLocated : Located FirstHanded Pages → Type 0
         SaysLocated (located place s) = Unit {0}
         SaysLocated (lost a) = SaysPages a
 
@@ -226,7 +226,7 @@ module _ (r : ScalableRegisters) where
         entry-out top place (page frame level may flags) h = absurd h
         entry-out top place (noPage reason fpd) h = tt
 
-        locate-told : (s : Handed) (place : ℕ) → Told OutLocated SaysLocated (locate r p s place)
+        locate-told : (s : FirstHanded) (place : ℕ) → Told OutLocated SaysLocated (locate r p s place)
         unfolding locate
         locate-told s place =
             told-if OutLocated SaysLocated (eqb (p .kind) 3) _ (answer (located place s))
@@ -234,13 +234,13 @@ module _ (r : ScalableRegisters) where
             (intermediateRules r p (wantedOfEntry p) place (s .flags)) (intermediate-told (wantedOfEntry p) place (s .flags)))
             (told-answer OutLocated SaysLocated (located place s) tt)
 
-        first-told : Told OutPages SaysPages (firstRules r p address write (p .«first_levels») (p .«first_top») (handed true []))
+        first-told : Told OutPages SaysPages (firstRules r p address write (p .«first_levels») (p .«first_top») (firstHanded true []))
         first-told =
-            told-way OutPages SaysPages address (unfetched p) (walkStep r p address write) (λ s. tt) (first-step address write) firstLevelEntry (locate r p) locate-told
-            (p .«first_levels») (p .«first_top») (handed true []) (levels .1)
+            told-way OutPages SaysPages address (noFirstEntry p) (walkStep r p address write) (λ s. tt) (first-step address write) firstLevelEntry (locate r p) locate-told
+            (p .«first_levels») (p .«first_top») (firstHanded true []) (levels .1)
 
-        final-told : (w : Pages) → SaysPages w → Told OutPages SaysPages (pageRules r p write w)
-        unfolding pageRules
+        final-told : (w : Pages) → SaysPages w → Told OutPages SaysPages (hostPageRules r p write w)
+        unfolding hostPageRules
         final-told (reached frame level host flags) h =
             told-if OutPages SaysPages (eqb (p .kind) 3) _ (answer (reached frame level host flags))
             (told-map (toPage host) OutWalked SaysWalked OutPages SaysPages (page-out host) (page-says host)
@@ -250,8 +250,8 @@ module _ (r : ScalableRegisters) where
 
         pages-told : Told OutPages SaysPages (pagesRules r p address write)
         pages-told =
-            told-then (λ w. w) (pageRules r p write) OutPages SaysPages OutPages SaysPages (λ w h. h) final-told
-            (firstRules r p address write (p .«first_levels») (p .«first_top») (handed true [])) first-told
+            told-then (λ w. w) (hostPageRules r p write) OutPages SaysPages OutPages SaysPages (λ w h. h) final-told
+            (firstRules r p address write (p .«first_levels») (p .«first_top») (firstHanded true [])) first-told
 
         alone-told : Told OutPages SaysPages (secondPages r address write p)
         unfolding secondPages

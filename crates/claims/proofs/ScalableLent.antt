@@ -11,17 +11,9 @@ use Rattle.rights.proofs.Aligned.{aligned-walked}
 use Rattle.rights.proofs.More.{scalable-more-memory}
 use Rattle.rights.proofs.Rights.{scalable-rights-on, scalable-rights-off}
 use Rattle.unit.specs.Lent.{Lent, memoryOf, SameWordAt, SameWordsAt}
+use Rattle.unit.proofs.Demand3.{same-words}
 use Rattle.unit.proofs.HostBytes.{words-switched, words-kept}
 use Rattle.claims.specs.ScalableLent.{ScalableIsolation}
-
-same-word : (l l′ : Lent) (at : ℕ) → SameWordAt l l′ at → memoryOf l at ≡ memoryOf l′ at
-unfolding ofWindows entryIn
-same-word l l′ at h = rw (h .whole, h .whole′, h .same)
-
-same-words : (l l′ : Lent) (words : List ℕ) → SameWordsAt l l′ words → SameIn words (memoryOf l) (memoryOf l′)
-unfolding SameWordsAt SameIn
-same-words l l′ [] h = tt
-same-words l l′ (at ∷ rest) h = (same-word l l′ at (h .0), same-words l l′ rest (h .1))
 
 pub scalable-isolation : ScalableIsolation
 scalable-isolation =

@@ -17,7 +17,3 @@ above e high haw = go (decLe haw (suc high))
     go (yes within) = field-above e within
     go (no past) =
         rw (upside-down e {high = high} {low = haw} (omega arith), beyond {k = suc high} {n = haw} (rw (sub-zero (suc high)) at (fits e high 0)) (omega arith))
-
--- the same of a whole word
-pub from-haw : (haw : ℕ) {w : ℕ} → w < 2 ^ 64 → anySet w 63 haw ≡ leb (2 ^ haw) w
-from-haw haw {w} h = above w 63 haw ∙ ap (leb (2 ^ haw)) (whole w 63 h)

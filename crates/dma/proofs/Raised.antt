@@ -11,12 +11,13 @@ use Rattle.image.specs.Check.{Check, stop, go, onCheck}
 use Rattle.image.specs.Choice.{if_then_else_}
 use Rattle.image.specs.Memory.{Memory, Fetched, entry}
 use Rattle.image.specs.Rules.{run}
+use Rattle.image.proofs.Choices.{past}
 use Rattle.registers.specs.declared.Registers.{Registers}
 use Rattle.dma.specs.Isolation.{SwitchedEntry, BothFetched}
 use Rattle.dma.specs.Page.{denied, ownRight, leafAt, pageReserved, pageCheck}
 use Rattle.dma.specs.Translation.{Translation, through, leaf, fault, pageStep, pageRules}
 use Rattle.dma.specs.Walk.{Step, done, down}
-use Rattle.dma.proofs.Steps.{past, page-frame}
+use Rattle.dma.proofs.Steps.{page-frame}
 use Rattle.dma.proofs.Stepped.{leads-aligned}
 use Rattle.dma.proofs.Walks.{KeptStep, kept-walk}
 

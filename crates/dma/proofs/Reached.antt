@@ -14,6 +14,7 @@ use Rattle.image.specs.Choice.{if_then_else_}
 use Rattle.image.specs.EntryKind.{EntryKind, isPage}
 use Rattle.image.specs.Memory.{Memory, Fetched, missing, found, entry, onFetch}
 use Rattle.image.specs.Rules.{Rules, answer, fetch, run, entriesOf}
+use Rattle.image.proofs.Choices.{past}
 use Rattle.image.proofs.Forks.{every-run}
 use Rattle.image.proofs.Same.{one-word}
 use Rattle.image.proofs.Trees.{entries-map}
@@ -36,7 +37,7 @@ use Rattle.dma.proofs.Admissions.{refuses, passes, takes}
 use Rattle.dma.proofs.Leaves.{leaf-granted}
 use Rattle.dma.proofs.Lookups.{looked-up}
 use Rattle.dma.proofs.Stepped.{leads}
-use Rattle.dma.proofs.Steps.{past, page-frame, leaf-low, offset-lt}
+use Rattle.dma.proofs.Steps.{page-frame, leaf-low, offset-lt}
 use Rattle.dma.proofs.Walks.{every-walk}
 
 -- an entry that its check lets pass has the right

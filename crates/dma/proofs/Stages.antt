@@ -8,11 +8,11 @@ use lib.Dec.{eqb}
 use Rattle.image.specs.Bits.{bits, bit, inPlace}
 use Rattle.image.specs.Check.{Check, stop, go, onCheck}
 use Rattle.image.specs.Choice.{if_then_else_}
+use Rattle.image.proofs.Choices.{past}
 use Rattle.registers.specs.declared.Registers.{Registers}
 use Rattle.dma.specs.Context.{addressWidth, levelsOf, translationType, widthSupported, contextReserved, contextInvalid, contextOf, contextCheck, Usable}
 use Rattle.dma.specs.Root.{rootReserved, rootCheck}
 use Rattle.dma.specs.declared.context.Context.{Context}
-use Rattle.dma.proofs.Steps.{past}
 
 -- the table that a root entry leads to begins a page
 pub root-aligned : (haw e : ℕ) {a : ℕ} → rootCheck haw e ≡ go a → a % 4096 ≡ 0

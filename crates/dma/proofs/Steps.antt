@@ -9,6 +9,7 @@ use lib.Pow.{pow-mono}
 use Rattle.image.specs.Bits.{bits, inPlace, anySet}
 use Rattle.image.specs.Check.{Check, stop, go}
 use Rattle.image.specs.Choice.{if_then_else_}
+use Rattle.image.proofs.Choices.{past}
 use Rattle.image.proofs.Fields.{fits, in-place-lt}
 use Rattle.registers.specs.declared.Registers.{Registers}
 use Rattle.dma.specs.Page.{pageCheck, pageReserved, denied, ownRight, leafAt}
@@ -43,12 +44,6 @@ offset-lt address level =
 -- a page's bytes, for the levels that a leaf has
 pub span-le : (level : ℕ) → level ≤ 3 → 2 ^ (12 + 9 * (level - 1)) ≤ 2 ^ 30
 span-le level h = pow-mono {j = 30} (omega arith)
-
--- a check that goes on is past each test that would stop it
-pub past : {A : Type 0} (t : Bool) (reason : ℕ) (rest : Check A) (a : A) → (if t then stop reason else rest) ≡ go a
-    → (t ≡ false) × (rest ≡ go a)
-past true reason rest a h = let z : _≡_ {A = ℕ} 0 1 = cc in absurd (omega arith)
-past false reason rest a h = (refl, h)
 
 -- a page entry that goes on goes on with its bits 51:12
 pub page-frame : (registers : Registers) (write : Bool) (level e frame : ℕ) → pageCheck registers write level e ≡ go frame → frame ≡ inPlace e 51 12

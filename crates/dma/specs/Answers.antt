@@ -2,7 +2,7 @@
 use Prim.Native.Nat.{ℕ}
 use mathlib.Core.Path.{_≡_}
 use Rattle.image.specs.Check.{Check, stop, go}
-use Rattle.image.specs.Entries.{placeOf}
+use Rattle.image.specs.Answers.{placeOf}
 use Rattle.image.specs.Place.{Place, noEntry, entryAt}
 use Rattle.faults.specs.Reason.{numberOf}
 use Rattle.dma.specs.Lookup.{Lookup, context, noContext}

@@ -2,7 +2,7 @@
 ghost use mathlib.Core.Path.{_≡_};
 ghost use Prim.Native.Nat.{_<_};
 ghost use Rattle.image.specs.Bits.{bit, anySet, inPlace};
-ghost use Rattle.image.specs.Entries.{number16};
+ghost use Rattle.image.specs.Answers.{number16};
 ghost use Rattle.dma.specs.Walk.{offsetIn};
 use faults::Reason;
 use image::Entry16;

@@ -4,7 +4,7 @@ ghost use mathlib.Core.Path.{_≡_};
 ghost use lib.ListN.{length};
 ghost use Prim.Native.Nat.{_+_, _*_, _-_, _%_, _^_, _<_, _≤_};
 ghost use Rattle.image.specs.Bits.{bits};
-ghost use Rattle.image.specs.Entries.{fetched8};
+ghost use Rattle.image.specs.Answers.{fetched8};
 ghost use Rattle.image.specs.Memory.{entry};
 ghost use Rattle.image.specs.Place.{entryAt};
 ghost use Rattle.image.specs.Spans.{Opened};

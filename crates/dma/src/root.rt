@@ -1,6 +1,6 @@
 // The root entry: 16 bytes for each bus, in the page of the root table.
 ghost use mathlib.Core.Path.{_≡_};
-ghost use Rattle.image.specs.Entries.{number16};
+ghost use Rattle.image.specs.Answers.{number16};
 ghost use Rattle.dma.specs.Root.{rootReserved, rootCheck};
 ghost use Rattle.image.specs.Place.{entryAt};
 ghost use Rattle.dma.specs.Answers.{checkOf, CheckNames};

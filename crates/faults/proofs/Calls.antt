@@ -23,7 +23,7 @@ use denote.Struct.Laws as LL
 use denote.Triple.Clauses.{Ended, Clauses, closing}
 use denote.Triple.Spec.{tripleOf}
 use denote.Triple.Statement.{Contract}
-use Rattle.image.specs.Entries.{spell}
+use Rattle.image.specs.Bytes.{spell}
 use Rattle.faults.specs.declared.recorder.FaultRecord.{FaultRecord}
 use Rattle.faults.specs.declared.recorder.Recorder.{Recorder}
 use Rattle.faults.specs.Answers.{leftBy, afterOf}

@@ -6,7 +6,7 @@ use mathlib.Core.Bool.{Bool, true, false, not}
 use native.Mathlib.Nat.{mul-add, mul-comm, mul-left-comm, mul-zero, add-zero}
 use native.Mathlib.Omega.{arith}
 use Rattle.image.specs.Bits.{bits, inPlace}
-use Rattle.image.specs.Entries.{spell}
+use Rattle.image.specs.Bytes.{spell}
 use Rattle.faults.specs.declared.fault.Fault.{Fault}
 use Rattle.faults.specs.Answers.{faultOf, highWord}
 use Rattle.faults.specs.Reason.{numberOf}

@@ -9,6 +9,7 @@ use native.Mathlib.Omega.{arith}
 use denote.Enum.Declared.{Record, Choice, values-one}
 use denote.Struct.Field.{Field}
 use lib.Dec.{eqb}
+use Rattle.image.proofs.Choices.{both}
 use Rattle.faults.specs.Answers.{answerOf}
 use Rattle.faults.specs.Reason.{numberOf}
 use Rattle.faults.specs.declared.reason.Reason.{Reason}
@@ -34,10 +35,6 @@ distinct [] bare number = true
 distinct ([] ∷ variants) bare number =
     avoids variants bare (λ c. number (inr c)) (number (inl tt)) && distinct variants bare (λ c. number (inr c))
 distinct ((field ∷ fields) ∷ variants) bare number = true
-
-both : (a b : Bool) → (a && b) ≡ true → (a ≡ true) × (b ≡ true)
-both true b h = (refl, h)
-both false b h = let z : _≡_ {A = ℕ} 0 1 = cc in absurd (omega arith)
 
 avoided : (variants : List (List Field)) (bare : Bare variants) (number : Choice variants → ℕ) (n : ℕ)
     → avoids variants bare number n ≡ true → (c : Choice variants) → number c ≡ n → ⊥

@@ -11,8 +11,9 @@ use lib.Pow.{field, pow-pos}
 use lib.Seq.{take-at, drop-at, drop-drop, take-take, take-append-le, length-take-le, drop-append-le}
 use Rattle.image.specs.Bits.{bits, bit}
 use Rattle.image.specs.Bytes.{bytesOf}
-use Rattle.faults.specs.Slots.{recordAt, withRecord, standing, standingIn, one-if, set127, clear127}
+use Rattle.faults.specs.Slots.{recordAt, withRecord, standing, standingIn, set127, clear127}
 use Rattle.image.proofs.Bytes.{length-bytesOf, number-back}
+use Rattle.image.specs.Choice.{one-if}
 
 -- bit 127 of 128 bits, of a number with it set, and of one with it clear
 low-bit : (v : ℕ) → bit (v % 2 ^ 128) 127 ≡ bit v 127

@@ -7,7 +7,7 @@ use lib.Dec.{eqb}
 use lib.ListN.{length, take, drop}
 use Rattle.image.specs.Bits.{bit}
 use Rattle.image.specs.Bytes.{littleEndian, bytesOf}
-use Rattle.image.specs.Choice.{if_then_else_}
+use Rattle.image.specs.Choice.{if_then_else_, one-if}
 
 -- how many slots a length gives: any power of two from 8 to 256, and none for any other length
 unfoldable pub slotsOf : (len : ℕ) → ℕ
@@ -45,9 +45,6 @@ clear127 contents = contents % 2 ^ 127
 
 abbrev pub set127 : ℕ → ℕ
 set127 contents = contents % 2 ^ 127 + 2 ^ 127
-
-abbrev pub one-if : Bool → ℕ
-one-if test = if test then 1 else 0
 
 -- how many of the first slots have a record standing
 unfoldable pub standingIn : ℕ → List ℕ → ℕ

@@ -5,8 +5,9 @@ use mathlib.Core.Bool.{Bool, false}
 use mathlib.Core.List.{List, [], _∷_}
 use lib.Dec.{eqb}
 use lib.ListN.{length, replicate}
+use Rattle.image.specs.Choice.{one-if}
 use Rattle.faults.specs.Recorder.{State, After, recording, clearing, clearingOverflow, written, slotCleared}
-use Rattle.faults.specs.Slots.{slotsIn, one-if, standingIn}
+use Rattle.faults.specs.Slots.{slotsIn, standingIn}
 
 -- a call with its arguments, whatever they are
 pub data Call : Type 0 where

@@ -1,7 +1,7 @@
 // The recorder's calls with its state lent and changed in place, over the calls by value.
 ghost use mathlib.Core.List.{[], _∷_};
 ghost use mathlib.Core.Path.{_≡_};
-ghost use Rattle.image.specs.Entries.{spell};
+ghost use Rattle.image.specs.Bytes.{spell};
 ghost use Rattle.faults.specs.Answers.{leftBy, afterOf};
 ghost use Rattle.faults.specs.Recorder.{recording, clearing, clearingOverflow};
 ghost use Rattle.faults.specs.Slots.{slotsIn};

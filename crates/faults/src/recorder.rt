@@ -2,7 +2,7 @@
 ghost use mathlib.Core.Path.{_≡_};
 ghost use Prim.Native.Nat.{_%_, _+_, _^_, _<_, _≤_};
 ghost use mathlib.Core.List.{[], _∷_};
-ghost use Rattle.image.specs.Entries.{spell};
+ghost use Rattle.image.specs.Bytes.{spell};
 ghost use Rattle.faults.specs.Answers.{afterOf, answerOf};
 ghost use Rattle.faults.specs.Answers.{faultOf};
 ghost use Rattle.faults.specs.Recorder.{recording, clearing, clearingOverflow};

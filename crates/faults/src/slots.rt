@@ -3,7 +3,7 @@ ghost use mathlib.Core.Path.{_≡_};
 ghost use mathlib.Core.List.{[], _∷_};
 ghost use Prim.Native.Nat.{_+_, _*_, _≤_};
 ghost use lib.ListN.{length};
-ghost use Rattle.image.specs.Entries.{spell};
+ghost use Rattle.image.specs.Bytes.{spell};
 ghost use Rattle.faults.specs.Slots.{recordAt, withRecord, standing, clear127};
 use image::store8;
 

@@ -68,8 +68,8 @@ onFirst (page frame level) onDown onPage onFault = onPage frame level
 onFirst (fault reason fpd) onDown onPage onFault = onFault reason fpd
 
 -- an entry that can't be fetched: 73h the top one, 70h any other
-abbrev pub unfetchable : (top : Bool) → ℕ
-unfetchable top = if top then 0x73 else 0x70
+abbrev pub unfetchableReason : (top : Bool) → ℕ
+unfetchableReason top = if top then 0x73 else 0x70
 
 -- 71h P clear, 72h, 7Ch, 81h, 85h in this order. Else a page ends the walk, and any other entry leads one level down. There is no right to
 -- read but P

@@ -4,7 +4,7 @@ ghost use Prim.Native.Nat.{_<_};
 ghost use Rattle.image.specs.Place.{entryAt};
 ghost use Rattle.pasid.specs.Reason.{numberOf};
 ghost use Rattle.first.specs.Answers.{firstStepOf, FirstNames};
-ghost use Rattle.first.specs.First.{firstStep, unfetchable as unfetchableReason, Reachable};
+ghost use Rattle.first.specs.First.{firstStep, unfetchableReason, Reachable};
 use crate::entry::first_reserved;
 use crate::entry::flag_clear;
 use crate::entry::user_denied;

@@ -1,6 +1,6 @@
 -- Flags are set exactly: each in its byte, by host address.
 use Prim.Native.Nat.{ℕ, _+_, _*_, _/_, _%_, _<_}
-use mathlib.Core.Bool.{Bool, true, false, _&&_, _||_}
+use mathlib.Core.Bool.{Bool, true, false, _&&_, _||_, or-false, or-assoc}
 use mathlib.Core.List.{List, [], _∷_}
 use mathlib.Core.Path.{_≡_, refl, ap, sym, _∙_}
 use native.Mathlib.Omega.{arith}
@@ -10,13 +10,12 @@ use lib.ListN.{length, getD, set}
 use lib.Seq.{getD-set-same, getD-set-other}
 use Rattle.image.specs.Bits.{bit}
 use Rattle.image.specs.Windows.{windowsOf, Spot, nowhere, here, onSpot, spotIn, byteAt, badWindows}
-use Rattle.image.proofs.Choices.{or-false, or-assoc}
 use Rattle.image.proofs.WindowBytes.{one-address}
 use Rattle.interrupts.specs.Claims.{bitAt, Shows}
 use Rattle.interrupts.specs.Post.{withBit}
 use Rattle.interrupts.proofs.Exact.{bit-with}
 use Rattle.interrupts.proofs.Hosts.{spot-inside}
-use Rattle.flags.specs.Claims.{among, shown, SetsFlags, StaysInside}
+use Rattle.flags.specs.Claims.{among, isShown, SetsFlags, StaysInside}
 use Rattle.flags.specs.Flags.{setFlag, setFlags}
 use Rattle.flags.proofs.Turns.{length-setFlag}
 
@@ -36,7 +35,7 @@ module _ (windows bytes : List ℕ) (good : badWindows windows (length bytes) �
   inside : {p l : ℕ} → spotIn (windowsOf windows) 1 (n / 8) ≡ here p l → p < length bytes
   inside e = let room = spot-inside windows bytes good 1 (n / 8) e in omega arith
 
-  set-bit : bitAt windows (setFlag windows n bytes) k ≡ (bitAt windows bytes k || shown windows (k / 8) && eqb k n)
+  set-bit : bitAt windows (setFlag windows n bytes) k ≡ (bitAt windows bytes k || isShown windows (k / 8) && eqb k n)
   unfolding byteAt setFlag
   set-bit = by (spotIn (windowsOf windows) 1 (n / 8)) (spotIn (windowsOf windows) 1 (k / 8)) refl refl
     where
@@ -69,7 +68,7 @@ either b false e rest = or-false (b || false)
 
 pub sets-flags : SetsFlags
 unfolding setFlags among
-sets-flags windows [] bytes good n = sym (none (bitAt windows bytes n) (shown windows (n / 8)))
+sets-flags windows [] bytes good n = sym (none (bitAt windows bytes n) (isShown windows (n / 8)))
   where
     none : (b s : Bool) → (b || s && false) ≡ b
     none b true = or-false b
@@ -77,8 +76,8 @@ sets-flags windows [] bytes good n = sym (none (bitAt windows bytes n) (shown wi
 sets-flags windows (f ∷ rest) bytes good n =
     let still : badWindows windows (length (setFlag windows f bytes)) ≡ false = rw (length-setFlag windows bytes f) good in
     sets-flags windows rest (setFlag windows f bytes) still n
-    ∙ ap (λ (t : Bool). t || shown windows (n / 8) && among n rest) (set-bit windows bytes good f n)
-    ∙ either (bitAt windows bytes n) (shown windows (n / 8)) (eqb n f) (among n rest)
+    ∙ ap (λ (t : Bool). t || isShown windows (n / 8) && among n rest) (set-bit windows bytes good f n)
+    ∙ either (bitAt windows bytes n) (isShown windows (n / 8)) (eqb n f) (among n rest)
 
 unshown : (windows bytes : List ℕ) (n place : ℕ) → ((at : ℕ) → Shows windows at place → ⊥) → getD (setFlag windows n bytes) place 0 ≡ getD bytes place 0
 unfolding setFlag

@@ -14,13 +14,13 @@ among n [] = false
 among n (k ∷ rest) = eqb n k || among n rest
 
 -- a window shows the byte at a host address
-abbrev pub shown : (windows : List ℕ) (at : ℕ) → Bool
-shown windows at = onSpot (spotIn (windowsOf windows) 1 at) false (λ place left. true)
+abbrev pub isShown : (windows : List ℕ) (at : ℕ) → Bool
+isShown windows at = onSpot (spotIn (windowsOf windows) 1 at) false (λ place left. true)
 
 -- every bit is as it came, or set as one of the flags
 abbrev pub SetsFlags : Type 0
 SetsFlags = (windows flags bytes : List ℕ) → badWindows windows (length bytes) ≡ false → (n : ℕ) →
-    bitAt windows (setFlags windows flags bytes) n ≡ (bitAt windows bytes n || shown windows (n / 8) && among n flags)
+    bitAt windows (setFlags windows flags bytes) n ≡ (bitAt windows bytes n || isShown windows (n / 8) && among n flags)
 
 -- the run keeps its length, and a byte of it that no window shows is as it came
 abbrev pub StaysInside : Type 0

@@ -8,7 +8,7 @@ use lib.Dec.{T, eqb, eqb→eq}
 use lib.ListN.{length, getD, set, drop}
 use lib.Ieee.{Float}
 use Rattle.meter.specs.declared.Meter.{Meter}
-use Rattle.meter.specs.Meter.{nought, ticked, byteOf}
+use Rattle.meter.specs.Meter.{nought, ticked, meterByte}
 use Rattle.meter.specs.Refused.{some, badCount, badMeter}
 use Rattle.meter.specs.Row.{tickedAll, tickRow}
 use Rattle.meter.proofs.Rows as rows
@@ -175,9 +175,9 @@ module _ (ks : List ℕ) (ls hs xs : List Float) (cs bs : List ℕ) (a : length 
         ∙ ap loadsOf (steps-next i (rowOf ks ls hs xs) cs none in-row in-counts)
         ∙ ap (λ (j : ℕ). loadsOf (steps j (rowOf ks ls hs xs) cs)) (one-more i)
 
-    pub bytes-next : {zs : List ℕ} {r : ℕ} → i < length bs → zs ≡ marks i (rowOf ks ls hs xs) cs bs → r ≡ byteOf n → set zs i r ≡ marks (i + 1) (rowOf ks ls hs xs) cs bs
+    pub bytes-next : {zs : List ℕ} {r : ℕ} → i < length bs → zs ≡ marks i (rowOf ks ls hs xs) cs bs → r ≡ meterByte n → set zs i r ≡ marks (i + 1) (rowOf ks ls hs xs) cs bs
     bytes-next {zs} {r} k h g =
-        ap₂ (λ (us : List ℕ) (u : ℕ). set us i u) h (g ∙ ap byteOf new)
+        ap₂ (λ (us : List ℕ) (u : ℕ). set us i u) h (g ∙ ap meterByte new)
         ∙ marks-next i (rowOf ks ls hs xs) cs bs none in-row in-counts k
         ∙ ap (λ (j : ℕ). marks j (rowOf ks ls hs xs) cs bs) (one-more i)
 
@@ -214,7 +214,7 @@ module _ (ks : List ℕ) (ls hs xs : List Float) (cs bs : List ℕ) where
   unfit good e f = left ∙ called good (rows.one-bad row cs bs (lists true e) f)
 
   pub all-ticked : malformed ks ls hs xs ≡ false → (eqb (length cs) (length xs) && eqb (length bs) (length xs)) ≡ true → not (some badCount cs || some badMeter row) ≡ true
-      → {ys : List Float} {zs : List ℕ} → ys ≡ loadsOf (tickedAll row cs) → zs ≡ map byteOf (tickedAll row cs) → _≡_ {A = ℕ × List Float × List ℕ} (ok, ys, zs) (tickMetersCall ks ls hs xs cs bs)
+      → {ys : List Float} {zs : List ℕ} → ys ≡ loadsOf (tickedAll row cs) → zs ≡ map meterByte (tickedAll row cs) → _≡_ {A = ℕ × List Float × List ℕ} (ok, ys, zs) (tickMetersCall ks ls hs xs cs bs)
   all-ticked good e f {ys} {zs} g h = ap₂ (λ (us : List Float) (vs : List ℕ). answer us vs) g h ∙ called good (rows.all-good row cs bs (lists true e) f)
     where
       answer : List Float → List ℕ → ℕ × List Float × List ℕ
@@ -227,7 +227,7 @@ module _ (ks : List ℕ) (ls hs xs : List Float) (cs bs : List ℕ) where
   pub loads-all : loadsOf (steps (length xs) row cs) ≡ loadsOf (tickedAll row cs)
   loads-all = ap loadsOf (ap (λ (n : ℕ). steps n row cs) (sym (row-length ks ls hs xs)) ∙ steps-all row cs)
 
-  pub bytes-all : length cs ≡ length xs → length bs ≡ length xs → marks (length xs) row cs bs ≡ map byteOf (tickedAll row cs)
+  pub bytes-all : length cs ≡ length xs → length bs ≡ length xs → marks (length xs) row cs bs ≡ map meterByte (tickedAll row cs)
   bytes-all e f = ap (λ (n : ℕ). marks n row cs bs) (sym (row-length ks ls hs xs)) ∙ marks-all row cs bs (e ∙ sym (row-length ks ls hs xs)) (f ∙ sym (row-length ks ls hs xs))
 
   -- what a well-formed row and even lists say of the lengths

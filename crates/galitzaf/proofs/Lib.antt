@@ -3,5 +3,4 @@ pub mod Arrays
 pub mod FourWords
 pub mod Registers
 pub mod States
-pub mod Whole
 pub mod TracedAnswers

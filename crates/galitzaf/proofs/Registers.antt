@@ -14,11 +14,11 @@ use Rattle.image.specs.Memory.{wordAt}
 use Rattle.image.proofs.Bytes.{AreBytes, bytes-taken, bytes-below, from-byte, in-byte}
 use Rattle.image.proofs.Fields.{whole}
 use Rattle.image.proofs.Pages.{drop-take}
+use Rattle.image.proofs.Words.{wordOr0, whole-word}
 use Rattle.faults.proofs.Recording.{neither}
 use Rattle.registers.specs.declared.Registers.{Registers}
 use Rattle.galitzaf.specs.Buffer.{byte, bytes}
 use Rattle.galitzaf.specs.Registers.{malformedRegisters, unpacked}
-use Rattle.galitzaf.proofs.Whole.{wordOr0, whole-word}
 
 module _ (b : List ℕ) (are : AreBytes b) (sized : length b ≡ 24) where
   -- a field within one of the first word's bytes

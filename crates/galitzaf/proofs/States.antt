@@ -31,12 +31,6 @@ module _ (slots : ℕ) (recorder : List ℕ) where
   unfolding unfit
   two-bytes = sized (length recorder) 2 (outOfPlace slots (byte recorder 0))
 
-pub both-set : (recorder : List ℕ) (a b : ℕ) → length recorder ≡ 2 → set (set recorder 0 a) 1 b ≡ a ∷ b ∷ []
-both-set [] a b h = absurd (omega arith)
-both-set (x ∷ []) a b h = absurd (omega arith)
-both-set (x ∷ (y ∷ [])) a b h = refl
-both-set (x ∷ (y ∷ (z ∷ rest))) a b h = absurd (omega arith)
-
 module _ (answer : List ℕ) where
   pub wrong-answer-length : (length answer ≡ 32 → ⊥) → true ≡ badFault answer
   unfolding badFault

@@ -9,9 +9,8 @@ use borrow.Author.Tests.{eqb-true}
 use lib.Dec.{eqb, leb}
 use lib.ListN.{length, length-append}
 use Rattle.image.specs.Bits.{bits}
-use Rattle.image.specs.Bytes.{bytesOf}
-use Rattle.image.specs.Choice.{if_then_else_}
-use Rattle.image.specs.Entries.{spell}
+use Rattle.image.specs.Bytes.{bytesOf, spell}
+use Rattle.image.specs.Choice.{if_then_else_, one-if}
 use Rattle.image.specs.Memory.{wordAt, entry}
 use Rattle.image.specs.Place.{Place, noEntry, entryAt}
 use Rattle.image.proofs.Bytes.{number-back, length-bytesOf, bytes-beside}
@@ -19,7 +18,6 @@ use Rattle.image.proofs.Choices.{either}
 use Rattle.image.proofs.Fields.{fits}
 use Rattle.image.proofs.Words.{word-inside}
 use Rattle.faults.specs.Record.{FaultAnswer}
-use Rattle.faults.specs.Slots.{one-if}
 use Rattle.irte.specs.Irte.{Remapped}
 use Rattle.dma.specs.Requests as dma
 use Rattle.dma.specs.Requests.{memoryAnswer, memoryAnswerPlace}
@@ -36,11 +34,11 @@ use Rattle.blocks.proofs.Frames.{and-left, and-right}
 use Rattle.traced.specs.Entry.{Fits}
 use Rattle.traced.specs.Well.{wellTraced}
 use Rattle.traced.specs.declared.Traced.{Traced}
-use Rattle.answered.specs.Answered.{kindOf, flagOf, widthOf, faulted, plain, modesOf, memoryTraced, translationTraced, interruptTraced}
+use Rattle.answered.specs.Answered.{kindOf, widthOf, faultTraced, plain, modesOf, memoryTraced, translationTraced, interruptTraced}
 use Rattle.answered.specs.Claims.{memoryEntry, translationEntry, interruptEntry}
 use Rattle.answered.specs.Told.{translationOutcomeIn, interruptOutcomeIn, sizeIn}
 use Rattle.answered.proofs.Entries.{entries-well, entries-tell}
-use Rattle.trace_calls.specs.Calls.{asked}
+use Rattle.trace_calls.specs.Calls.{unanswered}
 use Rattle.trace_calls.specs.Packed.{with, wordIn, entryPacked, packedIn}
 use Rattle.galitzaf.specs.Answer.{laid, blockedBytes, memoryBytes, modes, interruptBytes}
 use Rattle.galitzaf.specs.Traces.{AnswersTraced}
@@ -135,26 +133,26 @@ one-small true = omega arith
 one-small false = omega arith
 
 -- faults, of any kind of request
-fault-packed : (kind source address message : ℕ) (f : FaultAnswer) (p : Place) → Fits (faulted kind source address message f p)
-    → packedIn (asked kind source address message) (blockedBytes f p) ≡ faulted kind source address message f p
+fault-packed : (kind source address message : ℕ) (f : FaultAnswer) (p : Place) → Fits (faultTraced kind source address message f p)
+    → packedIn (unanswered kind source address message) (blockedBytes f p) ≡ faultTraced kind source address message f p
 fault-packed kind source address message f noEntry h =
     packed 1 (f .reason) (one-if (f .recordable)) 0 0 (omega arith) (h .number-fits) (one-small (f .recordable)) (omega arith) (omega arith)
-    (asked kind source address message) (f .contents) 0 (omega arith)
+    (unanswered kind source address message) (f .contents) 0 (omega arith)
     ∙ by (f .recordable)
   where
     by : (t : Bool)
-        → with (asked kind source address message) 2 (f .reason) (min 255 (one-if t + 2 * 0)) 0 0 0 0
-        ≡ plain kind source address message 2 (f .reason) (flagOf t) 0
+        → with (unanswered kind source address message) 2 (f .reason) (min 255 (one-if t + 2 * 0)) 0 0 0 0
+        ≡ plain kind source address message 2 (f .reason) (one-if t) 0
     by true = refl
     by false = refl
 fault-packed kind source address message f (entryAt at) h =
     packed 1 (f .reason) (one-if (f .recordable)) 1 0 (omega arith) (h .number-fits) (one-small (f .recordable)) (omega arith) (omega arith)
-    (asked kind source address message) (f .contents) at (h .value-fits)
+    (unanswered kind source address message) (f .contents) at (h .value-fits)
     ∙ by (f .recordable)
   where
     by : (t : Bool)
-        → with (asked kind source address message) 2 (f .reason) (min 255 (one-if t + 2 * 1)) 0 0 0 at
-        ≡ plain kind source address message 2 (f .reason) (flagOf t + 2) at
+        → with (unanswered kind source address message) 2 (f .reason) (min 255 (one-if t + 2 * 1)) 0 0 0 at
+        ≡ plain kind source address message 2 (f .reason) (one-if t + 2) at
     by true = refl
     by false = refl
 
@@ -162,14 +160,14 @@ refused-packed : (e : Traced) (n : ℕ) → n < 256 → packedIn e (laid 2 n 0 0
 refused-packed e n h = packed 2 n 0 0 0 (omega arith) h (omega arith) (omega arith) (omega arith) e 0 0 (omega arith)
 
 memory-packed : (q : MemoryRequest) (o : dma.MemoryOutcome) (p : Place) → Fits (memoryTraced q o p)
-    → packedIn (asked (kindOf (q .write)) (q .source .id) (q .address) 0) (memoryBytes o p) ≡ memoryTraced q o p
+    → packedIn (unanswered (kindOf (q .write)) (q .source .id) (q .address) 0) (memoryBytes o p) ≡ memoryTraced q o p
 unfolding memoryTraced
 memory-packed q (dma.granted host) p h =
     packed 6 0 0 0 0 (omega arith) (omega arith) (omega arith) (omega arith) (omega arith)
-    (asked (kindOf (q .write)) (q .source .id) (q .address) 0) host 0 (omega arith)
+    (unanswered (kindOf (q .write)) (q .source .id) (q .address) 0) host 0 (omega arith)
     ∙ rw (mod-eq-of-lt (h .value-fits))
 memory-packed q (dma.blocked f) p h = fault-packed (kindOf (q .write)) (q .source .id) (q .address) 0 f p h
-memory-packed q (dma.refused n) p h = refused-packed (asked (kindOf (q .write)) (q .source .id) (q .address) 0) n (h .number-fits)
+memory-packed q (dma.refused n) p h = refused-packed (unanswered (kindOf (q .write)) (q .source .id) (q .address) 0) n (h .number-fits)
 
 modes-small : (r : Remapped) → modes r < 8
 modes-small r = by (r .destinationMode) (r .redirectionHint) (r .trigger)
@@ -190,27 +188,27 @@ Small (interrupts.blocked f) = Unit {0}
 Small (interrupts.refused n) = Unit {0}
 
 interrupt-packed : (q : InterruptRequest) (o : interrupts.InterruptOutcome) (p : Place) → Small o → Fits (interruptTraced q o p)
-    → packedIn (asked 3 (q .source .id) (q .address) (q .«data»)) (interruptBytes o p) ≡ interruptTraced q o p
+    → packedIn (unanswered 3 (q .source .id) (q .address) (q .«data»)) (interruptBytes o p) ≡ interruptTraced q o p
 unfolding interruptTraced Small
 interrupt-packed q interrupts.passed p s h =
     packed 3 0 0 0 0 (omega arith) (omega arith) (omega arith) (omega arith) (omega arith)
-    (asked 3 (q .source .id) (q .address) (q .«data»)) 0 0 (omega arith)
+    (unanswered 3 (q .source .id) (q .address) (q .«data»)) 0 0 (omega arith)
 interrupt-packed q (interrupts.remapped r) p s h =
     let few = modes-small r in
     let flags : min 255 (modes r + 8 * r .delivery) ≡ modes r + 8 * (r .delivery % 8) = omega arith in
     packed 4 (r .vector) (r .delivery) (modes r) (r .destination) (omega arith) (h .vector-fits) (omega arith) (omega arith) (h .destination-fits)
-    (asked 3 (q .source .id) (q .address) (q .«data»)) 0 0 (omega arith)
+    (unanswered 3 (q .source .id) (q .address) (q .«data»)) 0 0 (omega arith)
     ∙ rw flags
 interrupt-packed q (interrupts.posted descriptor vector silent) p s h =
     packed 5 0 0 vector 0 (omega arith) (omega arith) (omega arith) (h .posted-fits) (omega arith)
-    (asked 3 (q .source .id) (q .address) (q .«data»)) descriptor 0 (omega arith)
+    (unanswered 3 (q .source .id) (q .address) (q .«data»)) descriptor 0 (omega arith)
     ∙ rw (mod-eq-of-lt (h .value-fits))
 interrupt-packed q (interrupts.posted descriptor vector (notification v d)) p s h =
     packed 5 1 v vector d (omega arith) (omega arith) (h .vector-fits) (h .posted-fits) (h .destination-fits)
-    (asked 3 (q .source .id) (q .address) (q .«data»)) descriptor 0 (omega arith)
+    (unanswered 3 (q .source .id) (q .address) (q .«data»)) descriptor 0 (omega arith)
     ∙ rw (mod-eq-of-lt (h .value-fits))
 interrupt-packed q (interrupts.blocked f) p s h = fault-packed 3 (q .source .id) (q .address) (q .«data») f p h
-interrupt-packed q (interrupts.refused n) p s h = refused-packed (asked 3 (q .source .id) (q .address) (q .«data»)) n (h .number-fits)
+interrupt-packed q (interrupts.refused n) p s h = refused-packed (unanswered 3 (q .source .id) (q .address) (q .«data»)) n (h .number-fits)
 
 told-small : (q : InterruptRequest) (o : interrupts.InterruptOutcome) (p : Place) → interruptOutcomeIn (interruptTraced q o p) ≡ o → Small o
 unfolding interruptTraced Small
@@ -238,7 +236,7 @@ module _ (head frame size : ℕ) (f : frame < 2 ^ 64) (z : size < 2 ^ 64) where
       ∙ number-back 8 size
       ∙ mod-eq-of-lt z
 
-page-flags : (r w : Bool) → min 255 (one-if r + 2 * one-if w) ≡ flagOf r + 2 * flagOf w
+page-flags : (r w : Bool) → min 255 (one-if r + 2 * one-if w) ≡ one-if r + 2 * one-if w
 page-flags true true = refl
 page-flags true false = refl
 page-flags false true = refl
@@ -247,7 +245,7 @@ page-flags false false = refl
 -- a page's size is one of three, or 0 in the empty answer, whose frame and rights are 0 too
 pub record Paged (q : TranslationRequest) (frame size : ℕ) (rights : Rights) : Type 0 where
   pub sized : size < 2 ^ 64
-  pub empty : size ≡ 0 → (flagOf (rights .read) + 2 * flagOf (rights .write) ≡ 0) × (frame ≡ 0)
+  pub empty : size ≡ 0 → (one-if (rights .read) + 2 * one-if (rights .write) ≡ 0) × (frame ≡ 0)
 
 abbrev Pages : TranslationRequest → translation.TranslationOutcome → Type 0
 Pages q (translation.translated frame size rights) = Paged q frame size rights
@@ -256,16 +254,16 @@ Pages q (translation.blocked f) = Unit {0}
 Pages q (translation.refused n) = Unit {0}
 
 translation-packed : (q : TranslationRequest) (o : translation.TranslationOutcome) (p : Place) → Pages q o → Fits (translationTraced q o p)
-    → packedIn (asked 4 (q .source .id) (q .address) 0) (translationBytes o p) ≡ translationTraced q o p
+    → packedIn (unanswered 4 (q .source .id) (q .address) 0) (translationBytes o p) ≡ translationTraced q o p
 unfolding translationTraced
 translation-packed q (translation.passed address) p s h =
     packed 3 0 0 0 0 (omega arith) (omega arith) (omega arith) (omega arith) (omega arith)
-    (asked 4 (q .source .id) (q .address) 0) address 0 (omega arith)
+    (unanswered 4 (q .source .id) (q .address) 0) address 0 (omega arith)
     ∙ rw (mod-eq-of-lt (h .value-fits))
 translation-packed q (translation.translated frame size rights) p s h = by (eqb size 0) refl
   where
     e : Traced
-    e = asked 4 (q .source .id) (q .address) 0
+    e = unanswered 4 (q .source .id) (q .address) 0
 
     r : Bool
     r = rights .read
@@ -275,7 +273,7 @@ translation-packed q (translation.translated frame size rights) p s h = by (eqb 
 
     by : (t : Bool) → eqb size 0 ≡ t
         → packedIn e (if t then laid 8 0 0 0 0 0 0 else laid 7 (one-if r) (one-if w) 0 0 (spell (frame ∷ size ∷ [])) 0)
-        ≡ plain 4 (q .source .id) (q .address) 0 8 (widthOf size) (flagOf r + 2 * flagOf w) frame
+        ≡ plain 4 (q .source .id) (q .address) 0 8 (widthOf size) (one-if r + 2 * one-if w) frame
     by true none =
         let is = eqb-true size 0 none in
         let bare = s .empty is in
@@ -289,7 +287,7 @@ translation-packed q (translation.translated frame size rights) p s h = by (eqb 
           page-flags r w,
         )
 translation-packed q (translation.blocked f) p s h = fault-packed 4 (q .source .id) (q .address) 0 f p h
-translation-packed q (translation.refused n) p s h = refused-packed (asked 4 (q .source .id) (q .address) 0) n (h .number-fits)
+translation-packed q (translation.refused n) p s h = refused-packed (unanswered 4 (q .source .id) (q .address) 0) n (h .number-fits)
 
 size-bound : (e : Traced) → sizeIn e < 2 ^ 64
 size-bound e =
@@ -315,7 +313,7 @@ told-paged q (translation.translated frame size rights) p told well =
     }
   where
     flags : ℕ
-    flags = flagOf (rights .read) + 2 * flagOf (rights .write)
+    flags = one-if (rights .read) + 2 * one-if (rights .write)
 
 pub answers-traced : AnswersTraced
 unfolding memoryEntry translationEntry interruptEntry

@@ -1,11 +1,10 @@
 -- The 32 bytes of an answer. Kind 0 is none, so that a buffer of zeros is no answer.
 use Prim.Native.Nat.{ℕ, _+_, _*_}
 use mathlib.Core.List.{List, [], _∷_, _++_}
-use Rattle.image.specs.Bytes.{bytesOf}
-use Rattle.image.specs.Entries.{spell}
+use Rattle.image.specs.Bytes.{bytesOf, spell}
+use Rattle.image.specs.Choice.{one-if}
 use Rattle.image.specs.Place.{Place, noEntry, entryAt}
 use Rattle.faults.specs.Record.{FaultAnswer}
-use Rattle.faults.specs.Slots.{one-if}
 use Rattle.dma.specs.Requests as dma
 use Rattle.interrupts.specs.Descriptor.{Notification, silent, notification}
 use Rattle.interrupts.specs.Interrupts as interrupts

@@ -9,7 +9,7 @@ use Rattle.image.specs.Place.{Place}
 use Rattle.dma.specs.Requests.{memoryAnswer, memoryAnswerPlace}
 use Rattle.dma.specs.declared.MemoryRequest.{MemoryRequest}
 use Rattle.interrupts.specs.Interrupts.{InterruptOutcome, interruptAnswer, interruptAnswerPlace}
-use Rattle.interrupts.specs.Post.{written}
+use Rattle.interrupts.specs.Post.{interruptWritten}
 use Rattle.interrupts.specs.declared.InterruptRequest.{InterruptRequest}
 use Rattle.galitzaf.specs.Answer.{memoryBytes, interruptBytes}
 use Rattle.galitzaf.specs.Registers.{malformedRegisters, unpacked}
@@ -51,7 +51,7 @@ interruptRequest source address «data» =
 
 -- the status, the image, and the buffer for the answer
 abbrev pub interrupted : (windows : List ℕ) → InterruptOutcome → Place → List ℕ → ℕ × List ℕ × List ℕ
-interrupted windows outcome place image = (ok, written windows outcome image, interruptBytes outcome place)
+interrupted windows outcome place image = (ok, interruptWritten windows outcome image, interruptBytes outcome place)
 
 unfoldable pub interruptCall : (registers windows image : List ℕ) (source address «data» : ℕ) (answer : List ℕ)
     → ℕ × List ℕ × List ℕ

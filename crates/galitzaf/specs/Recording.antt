@@ -4,10 +4,10 @@ use mathlib.Core.Bool.{Bool, not, _||_}
 use mathlib.Core.List.{List, [], _∷_}
 use lib.Dec.{eqb, leb, ltb}
 use lib.ListN.{length}
-use Rattle.image.specs.Choice.{if_then_else_}
-use Rattle.image.specs.Entries.{spell}
+use Rattle.image.specs.Choice.{if_then_else_, one-if}
+use Rattle.image.specs.Bytes.{spell}
 use Rattle.faults.specs.Recorder.{After, refused, outOfPlace, recording, clearing, clearingOverflow}
-use Rattle.faults.specs.Slots.{slotsIn, one-if}
+use Rattle.faults.specs.Slots.{slotsIn}
 use Rattle.galitzaf.specs.Answer.{lastKind}
 use Rattle.galitzaf.specs.Buffer.{byte, bytes}
 use Rattle.galitzaf.specs.Status.{badAnswer, badRecorder, noFault}

@@ -16,7 +16,7 @@ takeStatus (rules.refused number) = number
 
 -- the status and the image
 abbrev pub took : (windows : List ℕ) (descriptor : ℕ) → TakeOutcome → List ℕ → ℕ × List ℕ
-took windows descriptor outcome image = (takeStatus outcome, rules.taken windows descriptor outcome image)
+took windows descriptor outcome image = (takeStatus outcome, rules.takeWritten windows descriptor outcome image)
 
 unfoldable pub takeCall : (registers windows image : List ℕ) (descriptor : ℕ) → ℕ × List ℕ
 takeCall registers windows image descriptor =

@@ -13,7 +13,7 @@ use Rattle.interrupts.specs.declared.InterruptRequest.{InterruptRequest}
 use Rattle.traced.specs.Entry.{Fits}
 use Rattle.answered.specs.Answered.{kindOf}
 use Rattle.answered.specs.Claims.{memoryEntry, translationEntry, interruptEntry}
-use Rattle.trace_calls.specs.Calls.{asked, replayCall}
+use Rattle.trace_calls.specs.Calls.{unanswered, replayCall}
 use Rattle.trace_calls.specs.Packed.{packedIn}
 use Rattle.galitzaf.specs.Answer.{memoryBytes, interruptBytes}
 use Rattle.galitzaf.specs.Calls.{malformedWindows}
@@ -32,14 +32,14 @@ traceReplayCall registers windows image bytes cursor entry =
 -- its bytes, as it does in the code's types. Proved in proofs/TracedAnswers.antt.
 pub record AnswersTraced : Type 0 where
   pub memory : (registers : Registers) (windows bytes : List ℕ) (q : MemoryRequest) → Fits (memoryEntry registers windows bytes q)
-      → packedIn (asked (kindOf (q .write)) (q .source .id) (q .address) 0)
+      → packedIn (unanswered (kindOf (q .write)) (q .source .id) (q .address) 0)
       (memoryBytes (memoryAnswer registers q windows bytes) (memoryAnswerPlace registers q windows bytes))
       ≡ memoryEntry registers windows bytes q
   pub translations : (registers : Registers) (windows bytes : List ℕ) (q : TranslationRequest) → Fits (translationEntry registers windows bytes q)
-      → packedIn (asked 4 (q .source .id) (q .address) 0)
+      → packedIn (unanswered 4 (q .source .id) (q .address) 0)
       (translationBytes (translationAnswer registers q windows bytes) (translationAnswerPlace registers q windows bytes))
       ≡ translationEntry registers windows bytes q
   pub interrupts : (registers : Registers) (windows bytes : List ℕ) (q : InterruptRequest) → Fits (interruptEntry registers windows bytes q)
-      → packedIn (asked 3 (q .source .id) (q .address) (q .«data»))
+      → packedIn (unanswered 3 (q .source .id) (q .address) (q .«data»))
       (interruptBytes (interruptAnswer registers q windows bytes) (interruptAnswerPlace registers q windows bytes))
       ≡ interruptEntry registers windows bytes q

@@ -4,10 +4,9 @@ use mathlib.Core.Bool.{not}
 use mathlib.Core.List.{List, [], _∷_}
 use lib.Dec.{eqb}
 use lib.ListN.{length}
-use Rattle.image.specs.Choice.{if_then_else_}
-use Rattle.image.specs.Entries.{spell}
+use Rattle.image.specs.Choice.{if_then_else_, one-if}
+use Rattle.image.specs.Bytes.{spell}
 use Rattle.image.specs.Place.{Place}
-use Rattle.faults.specs.Slots.{one-if}
 use Rattle.translation.specs.Requests.{TranslationOutcome, passed, translated, blocked, refused, translationAnswer, translationAnswerPlace}
 use Rattle.translation.specs.declared.TranslationRequest.{TranslationRequest}
 use Rattle.galitzaf.specs.Answer.{laid, blockedBytes, refusedBytes}

@@ -42,5 +42,6 @@ pub use traces::galitzaf_trace_append;
 pub use traces::galitzaf_trace_check;
 pub use traces::galitzaf_trace_close;
 pub use traces::galitzaf_trace_next;
+pub use unpacking::bit;
 pub use unpacking::malformed;
 pub use unpacking::unpack;

@@ -7,7 +7,7 @@ use crate::buffer::word;
 use image::field;
 use registers::Registers;
 
-fn bit(word: u64, place: u32) -> bool
+pub fn bit(word: u64, place: u32) -> bool
     ensures { λ r. ⌜ r ≡ bit word place ⌝ }
 {
     field(word, place, place) == 1

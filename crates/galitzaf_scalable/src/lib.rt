@@ -3,7 +3,6 @@ ghost use mathlib.Core.Bool.{false};
 ghost use mathlib.Core.Path.{_≡_};
 ghost use Rattle.galitzaf.specs.Answer.{bytesOfPacked, memoryBytes};
 ghost use Rattle.galitzaf.specs.Registers.{malformedRegisters};
-ghost use Rattle.image.specs.Bits.{bit};
 ghost use Rattle.scalable.specs.Answers.{outcomeOf, entryOf};
 ghost use Rattle.galitzaf_scalable.specs.Scalable.{unpackedScalable, requestOf, scalableCall};
 use faults::FaultRecord;
@@ -13,25 +12,19 @@ use galitzaf::BAD_REGISTERS;
 use galitzaf::BAD_WINDOWS;
 use galitzaf::OK;
 use galitzaf::Packed;
+use galitzaf::bit;
 use galitzaf::malformed;
 use galitzaf::pack_blocked;
 use galitzaf::pack_granted;
 use galitzaf::pack_refusal;
 use galitzaf::store;
 use galitzaf::unpack;
-use image::field;
 use pasid::Pasid;
 use pasid::ScalableRegisters;
 use registers::SourceId;
 use scalable::ScalableAnswer;
 use scalable::ScalableRequest;
 use scalable::scalable_request;
-
-fn bit(n: u64, place: u32) -> bool
-    ensures { λ r. ⌜ r ≡ bit n place ⌝ }
-{
-    field(n, place, place) == 1
-}
 
 fn unpack_scalable(registers: &[u8], capabilities: u32) -> ScalableRegisters
     requires { ⌜ malformedRegisters (now registers) ≡ false ⌝ }

@@ -2,32 +2,7 @@
 use Prim.Native.Nat.{ℕ, zero, suc, _+_, _*_, _/_, _%_, _^_, _<_, _≤_}
 use mathlib.Core.Path.{_≡_, refl, ap, sym, _∙_}
 use mathlib.Core.List.{List, [], _∷_, _++_}
-use native.Mathlib.Nat.{
-  le-refl,
-  add-zero,
-  zero-add,
-  mul-zero,
-  mul-add,
-  add-assoc,
-  suc-add,
-  one-mul,
-  mul-assoc,
-  div-one,
-  div-div-eq-div-mul,
-  div-lt-iff-lt-mul,
-  add-mul-mod-self-left,
-  add-mul-div-left,
-  add-comm,
-  mul-comm,
-  mod-one,
-  mod-eq-of-lt,
-  div-eq-of-lt,
-  one-le-pow,
-  lt-of-lt-of-le,
-  pow-le-pow-right,
-  pow-suc,
-  pow-succ',
-}
+use native.Mathlib.Nat.{le-refl, add-zero, zero-add, mul-zero, mul-add, add-assoc, suc-add, one-mul, mul-assoc, div-one, div-div-eq-div-mul, div-lt-iff-lt-mul, add-mul-mod-self-left, add-mul-div-left, add-comm, mul-comm, mod-one, mod-eq-of-lt, div-eq-of-lt, one-le-pow, lt-of-lt-of-le, pow-le-pow-right, pow-suc, pow-succ', mod-lt}
 use native.Mathlib.Numerals.{add-one}
 use native.Mathlib.Omega.{arith}
 use lib.Arith.{mod-mul}
@@ -113,6 +88,18 @@ run-split (suc n) m (x ∷ xs) h =
 -- a run of bytes, each below 256
 abbrev pub AreBytes : List ℕ → Type 0
 AreBytes xs = (i : ℕ) → getD xs i 0 < 256
+
+-- those of two runs, one behind the other, and those of a number
+pub bytes-append : (xs ys : List ℕ) → AreBytes xs → AreBytes ys → AreBytes (xs ++ ys)
+bytes-append [] ys hx hy i = hy i
+bytes-append (x ∷ xs) ys hx hy zero = hx 0
+bytes-append (x ∷ xs) ys hx hy (suc i) = bytes-append xs ys (λ j. hx (suc j)) hy i
+
+pub bytes-number : (n value : ℕ) → AreBytes (bytesOf n value)
+unfolding bytesOf
+bytes-number zero value i = lit< tt
+bytes-number (suc n) value zero = mod-lt value (lit< tt)
+bytes-number (suc n) value (suc i) = bytes-number n (value / 256) i
 
 pub bytes-below : (n : ℕ) (xs : List ℕ) → AreBytes xs → littleEndian (take n xs) < 256 ^ n
 unfolding littleEndian

@@ -1,8 +1,10 @@
--- Choices by a test, tests joined, and what an entry's check tells by its answer.
-use Prim.Native.Nat.{ℕ}
-use mathlib.Core.Bool.{Bool, true, false, _||_}
+-- Choices by a test, tests joined, and what an entry's check tells by its answer. Laws of tests alone that aren't here are the kit's:
+-- mathlib.Core.Bool (`and-false`, `or-comm`), borrow.Author.Tests (`not-true`, `eqb-true`).
+use Prim.Native.Nat.{ℕ, zero, suc, _<_}
+use mathlib.Core.Bool.{Bool, true, false, _&&_, _||_}
 use mathlib.Core.Path.{_≡_, refl}
 use native.Mathlib.Omega.{arith}
+use lib.Dec.{eqb}
 use Rattle.image.specs.Check.{Check, stop, go}
 use Rattle.image.specs.Choice.{if_then_else_}
 
@@ -15,13 +17,22 @@ pub chosen : {A : Type 0} (P : A → Type 0) (t : Bool) {a b : A} → (t ≡ tru
 chosen P true x y = x refl
 chosen P false x y = y refl
 
-pub or-false : (a : Bool) → (a || false) ≡ a
-or-false true = refl
-or-false false = refl
+-- tests joined: both hold, or neither does
+pub both : (a b : Bool) → (a && b) ≡ true → (a ≡ true) × (b ≡ true)
+both true b h = (refl, h)
+both false b h = let z : _≡_ {A = ℕ} 0 1 = cc in absurd (omega arith)
 
-pub or-assoc : (a b c : Bool) → ((a || b) || c) ≡ (a || (b || c))
-or-assoc true b c = refl
-or-assoc false b c = refl
+pub neither : (a b : Bool) → (a || b) ≡ false → (a ≡ false) × (b ≡ false)
+neither true b h = let z : _≡_ {A = ℕ} 0 1 = cc in absurd (omega arith)
+neither false b h = (refl, h)
+
+pub nor : (a b : Bool) → a ≡ false → b ≡ false → (a || b) ≡ false
+nor a b p q = rw (p, q)
+
+-- a number that isn't 0
+pub above-zero : (n : ℕ) → eqb n 0 ≡ false → 0 < n
+above-zero zero h = let z : _≡_ {A = ℕ} 0 1 = cc in absurd (omega arith)
+above-zero (suc n) h = omega arith
 
 -- a check that goes on is past each test that would stop it
 pub past : {A : Type 0} (t : Bool) (reason : ℕ) (rest : Check A) (a : A) → (if t then stop reason else rest) ≡ go a

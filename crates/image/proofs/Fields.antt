@@ -8,7 +8,7 @@ use native.Mathlib.Decide.{decLe}
 use lib.Dec.{lit<}
 use lib.Pow.{pow-pos, pow-mono, pow-lt, field, shl-lt, shr-lt, shr-shr, mod-mod-pow}
 use Rattle.image.specs.Bits.{bits}
-use Rattle.image.specs.Entries.{spell}
+use Rattle.image.specs.Bytes.{spell}
 
 -- a field whose low bit is above its high bit is 0
 pub upside-down : (e : ℕ) {high low : ℕ} → high < low → bits e high low ≡ 0

@@ -1,6 +1,6 @@
 -- What windows that aren't refused are, one window's tests, and where a byte of a host address stands in the run.
 use Prim.Native.Nat.{ℕ, zero, suc, _+_, _-_, _*_, _%_, _^_, _≤_, _<_}
-use mathlib.Core.Bool.{Bool, true, false, not, _&&_, _||_}
+use mathlib.Core.Bool.{Bool, true, false, not, _&&_, _||_, and-false}
 use mathlib.Core.Path.{_≡_, refl, ap, sym, _∙_}
 use mathlib.Core.List.{List, [], _∷_, _++_, append-nil}
 use native.Mathlib.Omega.{arith}
@@ -26,28 +26,10 @@ use Rattle.image.specs.Windows.{
   badPair,
   badWithAny,
   badList,
-  badCount,
+  badNumbers,
   badWindows,
 }
-
-pub neither : (a b : Bool) → (a || b) ≡ false → (a ≡ false) × (b ≡ false)
-neither true b h = let z : _≡_ {A = ℕ} 0 1 = cc in absurd (omega arith)
-neither false b h = (refl, h)
-
-pub nor : (a b : Bool) → a ≡ false → b ≡ false → (a || b) ≡ false
-nor a b p q = rw (p, q)
-
-pub both : (a b : Bool) → (a && b) ≡ true → (a ≡ true) × (b ≡ true)
-both true b h = (refl, h)
-both false b h = let z : _≡_ {A = ℕ} 0 1 = cc in absurd (omega arith)
-
-and-false : (a : Bool) → (a && false) ≡ false
-and-false true = refl
-and-false false = refl
-
-pub some : (n : ℕ) → eqb n 0 ≡ false → 0 < n
-some zero h = let z : _≡_ {A = ℕ} 0 1 = cc in absurd (omega arith)
-some (suc n) h = omega arith
+use Rattle.image.proofs.Choices.{neither, both, above-zero, nor}
 
 -- a window that isn't refused
 pub record GoodWindow (w : Window) (run : ℕ) : Type 0 where
@@ -76,7 +58,7 @@ good-window w run h =
     let h1 = neither _ _ (h2 .0) in
     record {
       aligned = eqb-true _ _ (not-false _ (h1 .0));
-      some = some (w .size) (h1 .1);
+      some = above-zero (w .size) (h1 .1);
       inRun = ltb-false _ _ (h2 .1);
       top = ltb-false _ _ (h3 .1);
     }
@@ -149,12 +131,12 @@ list-good (w ∷ ws) run g =
 module _ (numbers : List ℕ) (run : ℕ) (fine : badWindows numbers run ≡ false) where
   pub good : Good (windowsOf numbers) run
   unfolding badWindows
-  good = good-list (windowsOf numbers) run (neither (badCount (length numbers)) (badList (windowsOf numbers) run) fine .1)
+  good = good-list (windowsOf numbers) run (neither (badNumbers (length numbers)) (badList (windowsOf numbers) run) fine .1)
 
   pub three-each : (length numbers ≤ 12) × (length numbers % 3 ≡ 0)
   unfolding badWindows
   three-each =
-      let counts = neither (ltb 12 (length numbers)) _ (neither (badCount (length numbers)) (badList (windowsOf numbers) run) fine .0) in
+      let counts = neither (ltb 12 (length numbers)) _ (neither (badNumbers (length numbers)) (badList (windowsOf numbers) run) fine .0) in
       (ltb-false 12 (length numbers) (counts .0), eqb-true _ _ (not-false _ (counts .1)))
 
 -- a window that holds some bytes, and one that doesn't

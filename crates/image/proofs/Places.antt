@@ -4,7 +4,7 @@ use mathlib.Core.Path.{_≡_, refl, ap, sym, _∙_}
 use mathlib.Core.List.{List, [], _∷_, _++_}
 use Rattle.image.specs.Alike.{SameWords}
 use Rattle.image.specs.Check.{Check, stop, go, onCheck}
-use Rattle.image.specs.Entries.{placeOf}
+use Rattle.image.specs.Answers.{placeOf}
 use Rattle.image.specs.EntryKind.{EntryKind, wordsOf}
 use Rattle.image.specs.Memory.{Memory, Fetched, missing, found, ofImage, entry, onFetch}
 use Rattle.image.specs.Place.{Place, noEntry, entryAt, lastTried, stoppedAt}

@@ -6,7 +6,8 @@ use mathlib.Core.List.{List, [], _∷_}
 use native.Mathlib.Omega.{arith}
 use native.Mathlib.Decide.{decLe}
 use lib.ListN.{length, drop}
-use Rattle.image.specs.Spans.{windowBy, Opened, Holds, HeldBy}
+use Rattle.image.specs.Spans.{windowBy, Opened, Holds}
+use Rattle.image.specs.Answers.{HeldBy}
 use Rattle.image.specs.Windows.{Window, windowsOf, windowAt, endOf, holdsAll, spotIn, badWindows}
 use Rattle.image.specs.declared.Span.{Span}
 use Rattle.image.specs.declared.entries.Held.{Held}

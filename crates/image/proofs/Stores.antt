@@ -5,10 +5,9 @@ use mathlib.Core.List.{List, [], _∷_, _++_, append-assoc, append-nil}
 use native.Mathlib.Nat.{add-assoc, add-zero}
 use native.Mathlib.Omega.{arith}
 use borrow.Author.Tests.{le-leb, lt-leb}
-use lib.ListN.{length, take, drop, length-append, length-drop, take-append-drop}
+use lib.ListN.{length, take, drop, length-append, length-drop, take-append-drop, set}
 use lib.Seq.{take-at, drop-at, drop-drop, length-take-le}
-use Rattle.image.specs.Bytes.{bytesOf}
-use Rattle.image.specs.Entries.{spell}
+use Rattle.image.specs.Bytes.{bytesOf, spell}
 use Rattle.image.specs.Memory.{withWord}
 use Rattle.image.proofs.Bytes.{length-bytesOf, bytes-beside}
 
@@ -48,6 +47,11 @@ none : (value : ℕ) → bytesOf 0 value ≡ []
 unfolding bytesOf
 none value = refl
 
+-- the first word of a run, then the others
+pub words-beside : (w : ℕ) (ws : List ℕ) (n : ℕ) → w < 2 ^ 64 → bytesOf (8 + n) (spell (w ∷ ws)) ≡ bytesOf 8 w ++ bytesOf n (spell ws)
+unfolding spell
+words-beside w ws n h = sym (bytes-beside 8 n w (spell ws) h)
+
 pub all-stored : (ws image : List ℕ) (at : ℕ) → at + 8 * length ws ≤ length image → Words ws
     → withWords image at ws ≡ take at image ++ bytesOf (8 * length ws) (spell ws) ++ drop (at + 8 * length ws) image
 unfolding withWords Words spell
@@ -60,3 +64,10 @@ all-stored (w ∷ ws) image at h words =
     all-stored ws (withWord image at w) (at + 8) (rw (length-stored image at w fits) (omega arith)) (words .1)
     ∙ behind image at 8 n (bytesOf 8 w) (bytesOf n (spell ws)) (length-bytesOf 8 w) fits (stored image at w fits)
     ∙ rw (bytes-beside 8 n w (spell ws) (words .0), more, ← add-assoc at 8 n)
+
+-- both of two numbers
+pub both-set : (numbers : List ℕ) (a b : ℕ) → length numbers ≡ 2 → set (set numbers 0 a) 1 b ≡ a ∷ b ∷ []
+both-set [] a b h = absurd (omega arith)
+both-set (x ∷ []) a b h = absurd (omega arith)
+both-set (x ∷ (y ∷ [])) a b h = refl
+both-set (x ∷ (y ∷ (z ∷ rest))) a b h = absurd (omega arith)

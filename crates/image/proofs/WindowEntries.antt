@@ -9,12 +9,12 @@ use native.Mathlib.Decide.{decLe}
 use borrow.Author.Tests.{le-leb, lt-leb}
 use lib.Dec.{leb}
 use lib.ListN.{length, take, drop, length-take, length-drop}
-use Rattle.image.specs.Bytes.{littleEndian}
+use Rattle.image.specs.Bytes.{littleEndian, spell}
 use Rattle.image.specs.Choice.{if_then_else_}
-use Rattle.image.specs.Entries.{spell}
 use Rattle.image.specs.Memory.{Memory, Fetched, missing, found, join, wordAt, ofImage, entry}
 use Rattle.image.specs.Windows.{Window, windowsOf, endOf, holdsAll, Spot, nowhere, here, onSpot, spotIn, entryIn, ofWindows, pageFrom, badWindow, badWindows}
-use Rattle.image.specs.Spans.{windowBy, Holds, HeldBy, Stands, PlacedBy}
+use Rattle.image.specs.Spans.{windowBy, Holds, Stands}
+use Rattle.image.specs.Answers.{HeldBy, PlacedBy}
 use Rattle.image.specs.declared.Span.{Span}
 use Rattle.image.specs.declared.entries.Held.{Held}
 use Rattle.image.specs.declared.entries.Held.the-variants as found-in

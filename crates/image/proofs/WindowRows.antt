@@ -1,6 +1,6 @@
 -- Refusal 1's part on windows as the code tells it: the tests of a window and of two, and why tests of neighbours are enough.
 use Prim.Native.Nat.{ℕ, zero, suc, _+_, _-_, _*_, _%_, _^_, _≤_, _<_}
-use mathlib.Core.Bool.{Bool, true, false, not, _&&_, _||_}
+use mathlib.Core.Bool.{Bool, true, false, not, _&&_, _||_, or-false, or-assoc}
 use mathlib.Core.Path.{_≡_, refl, ap, sym, _∙_}
 use mathlib.Core.List.{List, [], _∷_}
 use native.Mathlib.Omega.{arith}
@@ -8,27 +8,10 @@ use native.Mathlib.Decide.{decLe}
 use borrow.Author.Tests.{leb-true, leb-false, le-leb, lt-leb, ltb-false, lt-ltb, le-ltb, eq-eqb, ne-eqb, eqb-true, not-false}
 use lib.Dec.{leb, ltb, eqb}
 use lib.ListN.{length, drop, drop-of-length-le}
-use Rattle.image.specs.Windows.{Window, windowsOf, windowAt, endOf, badWindow, overlap, badList, badCount, badWindows}
+use Rattle.image.specs.Windows.{Window, windowsOf, windowAt, endOf, badWindow, overlap, badList, badNumbers, badWindows}
 use Rattle.image.specs.WindowRow.{badPart, badNext, badRow, share, sharesAny, sharing, rises, rising}
-use Rattle.image.proofs.GoodWindows.{
-  neither,
-  nor,
-  both,
-  some,
-  ends-before,
-  GoodWindow,
-  GoodPair,
-  GoodWithAll,
-  Good,
-  window-good,
-  good-window,
-  good-list,
-  list-good,
-  windowsFrom,
-  first-of,
-  whole,
-}
-use Rattle.image.proofs.Choices.{or-false, or-assoc}
+use Rattle.image.proofs.GoodWindows.{ends-before, GoodWindow, GoodPair, GoodWithAll, Good, window-good, good-window, good-list, list-good, windowsFrom, first-of, whole}
+use Rattle.image.proofs.Choices.{neither, nor, both, above-zero}
 
 -- a window alone
 module _ (w : Window) (run : ℕ) (there : w .place < 2 ^ 64) (sized : w .size < 2 ^ 64) where
@@ -56,7 +39,7 @@ pub good-part : (w : Window) (run : ℕ) → badPart w run ≡ false → (w .sta
 good-part w run h =
     let h2 = neither _ _ h in
     let h1 = neither _ _ (h2 .0) in
-    (eqb-true _ _ (not-false _ (h1 .0)), some (w .size) (h1 .1), ltb-false _ _ (h2 .1))
+    (eqb-true _ _ (not-false _ (h1 .0)), above-zero (w .size) (h1 .1), ltb-false _ _ (h2 .1))
 
 -- a window whose part is good, and where it ends
 module _ (w : Window) (run : ℕ) (good : badPart w run ≡ false) (starts : w .start < 2 ^ 64) (sized : w .size < 2 ^ 64) where
@@ -339,7 +322,7 @@ by-rows ws run =
 
 -- the whole test
 module _ (numbers : List ℕ) (run : ℕ) where
-  pub counts-badly : badCount (length numbers) ≡ true → true ≡ badWindows numbers run
+  pub counts-badly : badNumbers (length numbers) ≡ true → true ≡ badWindows numbers run
   unfolding badWindows
   counts-badly h = rw h
 
@@ -371,14 +354,14 @@ one-tells numbers run h = row-last-at numbers 0 run (omega arith) ∙ go (badRow
     go false is = one-shares numbers h ∙ sharing-tells numbers run (omega arith) (omega arith) is
 
 -- a count of numbers, as the code tells it
-pub few-threes : (n : ℕ) → badCount n ≡ false → (n ≤ 12) × (n % 3 ≡ 0)
+pub few-threes : (n : ℕ) → badNumbers n ≡ false → (n ≤ 12) × (n % 3 ≡ 0)
 few-threes n h =
     let both = neither (ltb 12 n) _ h in
     (ltb-false 12 n (both .0), eqb-true _ _ (not-false _ (both .1)))
 
-pub no-count : (n : ℕ) → (n ≡ 0 → ⊥) → (n ≡ 3 → ⊥) → (n ≡ 6 → ⊥) → (n ≡ 9 → ⊥) → (n ≡ 12 → ⊥) → true ≡ badCount n
+pub no-count : (n : ℕ) → (n ≡ 0 → ⊥) → (n ≡ 3 → ⊥) → (n ≡ 6 → ⊥) → (n ≡ 9 → ⊥) → (n ≡ 12 → ⊥) → true ≡ badNumbers n
 no-count n n0 n3 n6 n9 n12 = go (decLe n 12)
   where
-    go : Dec (n ≤ 12) → true ≡ badCount n
+    go : Dec (n ≤ 12) → true ≡ badNumbers n
     go (no many) = rw (lt-ltb 12 n (omega arith))
     go (yes few) = let isnt : n % 3 ≡ 0 → ⊥ = λ e. omega arith in rw (le-ltb 12 n few, ne-eqb (n % 3) 0 isnt)

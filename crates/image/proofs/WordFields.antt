@@ -13,7 +13,7 @@ use lib.Pow.{pow-add}
 use lib.Seq.{getD-drop}
 use Rattle.image.specs.Bits.{bits, inOneWord}
 use Rattle.image.specs.Choice.{if_then_else_}
-use Rattle.image.specs.Entries.{spell}
+use Rattle.image.specs.Bytes.{spell}
 use Rattle.image.proofs.Bytes.{no-bits}
 use Rattle.image.proofs.Fields.{in-first, in-rest}
 use Rattle.image.proofs.Stores.{Words}

@@ -9,9 +9,8 @@ use native.Mathlib.Numerals.{add-one}
 use lib.ListN.{length, getD, take, drop, length-drop}
 use lib.Seq.{drop-cons, drop-drop}
 use borrow.Author.Tests.{le-leb, lt-leb}
-use Rattle.image.specs.Bytes.{littleEndian}
-use Rattle.image.specs.Memory.{Fetched, missing, found, join, wordAt, ofImage, entry}
-use Rattle.image.specs.Entries.{spell}
+use Rattle.image.specs.Bytes.{littleEndian, spell}
+use Rattle.image.specs.Memory.{Fetched, missing, found, onFetch, join, wordAt, ofImage, entry}
 use Rattle.image.proofs.Bytes.{run-split}
 
 -- so many bytes from an address, and so many words
@@ -106,3 +105,11 @@ whole-entry image n at {e} h = go (decLe (at + 8 * suc n) (length image))
         let lacks = outside image n at (omega arith) in
         let z : _≡_ {A = ℕ} 0 1 = cc in
         absurd (omega arith)
+
+-- a word of a buffer, 0 where it doesn't lie whole in it
+abbrev pub wordOr0 : List ℕ → ℕ → ℕ
+wordOr0 b at = onFetch (entry 1 (ofImage b) at) 0 (λ w. w)
+
+pub whole-word : (b : List ℕ) (at : ℕ) → at + 8 ≤ length b → wordOr0 b at ≡ wordAt b at
+unfolding wordsIn
+whole-word b at h = rw (inside b 1 at h) (spell-one (wordAt b at))

@@ -1,9 +1,9 @@
 pub mod Alike
+pub mod Answers
 pub mod Bits
 pub mod Bytes
 pub mod Check
 pub mod Choice
-pub mod Entries
 pub mod EntryKind
 pub mod Memory
 pub mod Place

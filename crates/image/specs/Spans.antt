@@ -3,12 +3,8 @@ use Prim.Native.Nat.{ℕ, _+_, _-_, _%_, _^_, _≤_}
 use mathlib.Core.Bool.{true, false}
 use mathlib.Core.List.{List}
 use mathlib.Core.Path.{_≡_}
-use Rattle.image.specs.Windows.{Window, windowAt, endOf, holdsAll, Spot, nowhere, here, spotIn, badWindow, badWindows}
+use Rattle.image.specs.Windows.{Window, windowAt, endOf, holdsAll, here, spotIn, badWindow, badWindows}
 use Rattle.image.specs.declared.Span.{Span}
-use Rattle.image.specs.declared.entries.Held.{Held}
-use Rattle.image.specs.declared.entries.Held.the-variants as held
-use Rattle.image.specs.declared.entries.Placed.{Placed}
-use Rattle.image.specs.declared.entries.Placed.the-variants as placed
 
 -- the window that it is
 abbrev pub windowBy : Span → Window
@@ -24,16 +20,8 @@ pub record Holds (w : Window) (ws : List Window) (run at : ℕ) : Type 0 where
   pub byte : holdsAll w 1 at ≡ true
   pub spot : spotIn ws 1 at ≡ here (w .place + (at - w .start)) (endOf w - at)
 
-abbrev pub HeldBy : Held → List Window → (run at : ℕ) → Type 0
-HeldBy (held.In s) ws run at = Holds (windowBy s) ws run at
-HeldBy held.Nowhere ws run at = spotIn ws 1 at ≡ nowhere
-
 -- so many bytes from a host address stand in the run from a place on, all in one window
 pub record Stands (place : ℕ) (ws : List Window) (run size at : ℕ) : Type 0 where
   pub left : ℕ
   pub spot : spotIn ws size at ≡ here place left
   pub inRun : place + size ≤ run
-
-abbrev pub PlacedBy : Placed → List Window → (run size at : ℕ) → Type 0
-PlacedBy (placed.At place) ws run size at = Stands place ws run size at
-PlacedBy placed.Nowhere ws run size at = spotIn ws size at ≡ nowhere

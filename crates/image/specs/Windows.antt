@@ -93,12 +93,12 @@ badList [] run = false
 badList (w ∷ ws) run = badWindow w run || badWithAny w ws || badList ws run
 
 -- more than four windows, or a count of numbers that isn't three a window
-abbrev pub badCount : (numbers : ℕ) → Bool
-badCount numbers = ltb 12 numbers || not (eqb (numbers % 3) 0)
+abbrev pub badNumbers : (numbers : ℕ) → Bool
+badNumbers numbers = ltb 12 numbers || not (eqb (numbers % 3) 0)
 
 -- the windows on a run of so many bytes are refused
 unfoldable pub badWindows : (numbers : List ℕ) (run : ℕ) → Bool
-badWindows numbers run = badCount (length numbers) || badList (windowsOf numbers) run
+badWindows numbers run = badNumbers (length numbers) || badList (windowsOf numbers) run
 
 -- the flat image: one window from 0 that shows the whole run, none where the run is empty
 unfoldable pub flat : (run : ℕ) → List ℕ

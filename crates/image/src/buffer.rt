@@ -5,7 +5,7 @@ ghost use Prim.Native.Nat.{_+_, _≤_};
 ghost use lib.ListN.{length, take, drop};
 ghost use Rattle.image.specs.Bytes.{bytesOf};
 ghost use Rattle.image.specs.Memory.{wordAt, ofImage, entry, withWord};
-ghost use Rattle.image.specs.Entries.{fetched8, missed8};
+ghost use Rattle.image.specs.Answers.{fetched8, missed8};
 use crate::Found8;
 
 // The number in the 8 bytes from an index, lowest byte first.

@@ -7,7 +7,7 @@ ghost use Prim.Native.Nat.{_%_};
 ghost use lib.ListN.{getD};
 ghost use Rattle.image.specs.Bits.{bits, bit, anySet, inOneWord};
 ghost use Rattle.image.specs.Choice.{if_then_else_};
-ghost use Rattle.image.specs.Entries.{words64, number16, number64};
+ghost use Rattle.image.specs.Answers.{words64, number16, number64};
 use crate::Entry16;
 use crate::Entry64;
 use crate::field;

@@ -4,7 +4,7 @@ ghost use mathlib.Core.Path.{_≡_};
 ghost use mathlib.Core.Bool.{false};
 ghost use Prim.Native.Nat.{_+_, _%_, _^_, _≤_, _<_};
 ghost use lib.ListN.{length, drop};
-ghost use Rattle.image.specs.Windows.{windowsOf, windowAt, badWindow, badCount, badWindows};
+ghost use Rattle.image.specs.Windows.{windowsOf, windowAt, badWindow, badNumbers, badWindows};
 ghost use Rattle.image.specs.WindowRow.{badPart, badNext, badRow, share, sharing, rises, rising};
 use std::num::wrapping_add_u64;
 
@@ -182,7 +182,7 @@ fn any_share(windows: &[u64]) -> bool
 
 // More than four windows, or a count of numbers that isn't three a window.
 fn bad_count(count: usize) -> bool
-    ensures { λ r. ⌜ r ≡ badCount count ⌝ }
+    ensures { λ r. ⌜ r ≡ badNumbers count ⌝ }
 {
     match count {
         0 => false,

@@ -1,6 +1,6 @@
 -- A request sets exactly the bits that its outcome says.
 use Prim.Native.Nat.{ℕ, zero, suc, _+_, _-_, _*_, _/_, _%_, _^_, _≤_, _<_}
-use mathlib.Core.Bool.{Bool, true, false, _&&_, _||_}
+use mathlib.Core.Bool.{Bool, true, false, _&&_, _||_, or-false, or-assoc}
 use mathlib.Core.List.{List}
 use mathlib.Core.Path.{_≡_, refl, ap, sym, _∙_}
 use native.Mathlib.Decide.{decLe}
@@ -14,12 +14,11 @@ use lib.Pow.{pow-lt, pow-add, shl-shr}
 use lib.Seq.{getD-set-other}
 use Rattle.image.specs.Bits.{bits, bit}
 use Rattle.image.specs.Windows.{windowsOf, Spot, nowhere, here, onSpot, spotIn, badWindows}
-use Rattle.image.proofs.Choices.{or-false, or-assoc}
 use Rattle.image.proofs.WindowBytes.{byte-spot}
 use Rattle.interrupts.specs.Claims.{bitAt, due, sets, Shows, SetsExactly, LeavesAll, StaysInside}
 use Rattle.interrupts.specs.Descriptor.{Notification, silent, notification}
 use Rattle.interrupts.specs.Interrupts.{InterruptOutcome, passed, remapped, posted, blocked, refused, interruptAnswer}
-use Rattle.interrupts.specs.Post.{withBit, setBit, notified, written}
+use Rattle.interrupts.specs.Post.{withBit, setBit, notified, interruptWritten}
 use Rattle.interrupts.proofs.Hosts.{spot-inside, store-at}
 use Rattle.interrupts.proofs.Posts.{one-bit, or-power}
 use Rattle.interrupts.proofs.Raised.{Stands, Within, within}
@@ -100,7 +99,7 @@ module _ (windows bytes : List ℕ) (descriptor vector : ℕ) (s : Stands window
 -- what a post writes, at the place where its descriptor stands
 pub written-there : (windows bytes : List ℕ) (descriptor vector : ℕ) (m : Notification) {k left : ℕ}
     → spotIn (windowsOf windows) 64 descriptor ≡ here k left
-    → written windows (posted descriptor vector m) bytes ≡ notified k m (setBit k vector bytes)
+    → interruptWritten windows (posted descriptor vector m) bytes ≡ notified k m (setBit k vector bytes)
 written-there windows bytes descriptor vector m there = rw there
 
 -- as the code finds that place
@@ -112,11 +111,11 @@ module _ (windows bytes : List ℕ) (descriptor : ℕ) {at k left : ℕ} (found-
   pub at-inside : badWindows windows (length bytes) ≡ false → at + 64 ≤ length bytes
   at-inside good = rw at-place (spot-inside windows bytes good 64 descriptor there)
 
-  pub written-at : (vector : ℕ) (m : Notification) → notified at m (setBit at vector bytes) ≡ written windows (posted descriptor vector m) bytes
+  pub written-at : (vector : ℕ) (m : Notification) → notified at m (setBit at vector bytes) ≡ interruptWritten windows (posted descriptor vector m) bytes
   written-at vector m = rw at-place (sym (written-there windows bytes descriptor vector m there))
 
 pub outcome-at : (windows bytes : List ℕ) (o : InterruptOutcome) → Within windows bytes o → (n : ℕ)
-    → bitAt windows (written windows o bytes) n ≡ (bitAt windows bytes n || sets o n)
+    → bitAt windows (interruptWritten windows o bytes) n ≡ (bitAt windows bytes n || sets o n)
 outcome-at windows bytes (posted descriptor vector m) s n =
     rw (written-there windows bytes descriptor vector m (s .there)) (post-at windows bytes descriptor vector s m n)
 outcome-at windows bytes passed h n = sym (or-false (bitAt windows bytes n))
@@ -132,7 +131,7 @@ length-notified : (at : ℕ) (m : Notification) (bytes : List ℕ) → length (n
 length-notified at silent bytes = refl
 length-notified at (notification v d) bytes = length-setBit bytes at 256
 
-pub length-written : (windows bytes : List ℕ) (o : InterruptOutcome) → length (written windows o bytes) ≡ length bytes
+pub length-written : (windows bytes : List ℕ) (o : InterruptOutcome) → length (interruptWritten windows o bytes) ≡ length bytes
 length-written windows bytes (posted descriptor vector m) = by (spotIn (windowsOf windows) 64 descriptor)
   where
     by : (s : Spot) → length (onSpot s bytes (λ at left. notified at m (setBit at vector bytes))) ≡ length bytes
@@ -184,7 +183,7 @@ module _ (windows bytes : List ℕ) where
   set-inside (refused number) h n e = let z : _≡_ {A = ℕ} 0 1 = cc in absurd (omega arith)
 
   unshown : (o : InterruptOutcome) → Within windows bytes o → (place : ℕ) → ((at : ℕ) → Shows windows at place → ⊥)
-      → getD (written windows o bytes) place 0 ≡ getD bytes place 0
+      → getD (interruptWritten windows o bytes) place 0 ≡ getD bytes place 0
   unshown (posted d v m) s place never =
       rw (written-there windows bytes d v m (s .there))
       (other-bytes bytes (s .place) v m place (s .small)
@@ -201,7 +200,7 @@ stays-inside registers request windows bytes =
     (length-written windows bytes o, set-inside windows bytes o w, unshown windows bytes o w)
 
 unposted : (windows bytes : List ℕ) (o : InterruptOutcome) → ((descriptor vector : ℕ) (m : Notification) → o ≡ posted descriptor vector m → ⊥)
-    → written windows o bytes ≡ bytes
+    → interruptWritten windows o bytes ≡ bytes
 unposted windows bytes (posted descriptor vector m) h = absurd (h descriptor vector m refl)
 unposted windows bytes passed h = refl
 unposted windows bytes (remapped r) h = refl

@@ -3,7 +3,7 @@ use Prim.Native.Nat.{ℕ, _^_, _<_}
 use mathlib.Core.Path.{_≡_, refl, ap, ap₂, sym, _∙_}
 use native.Mathlib.Omega.{arith}
 use Rattle.image.specs.declared.EntryAddress.{EntryAddress}
-use Rattle.image.specs.Entries.{placeOf}
+use Rattle.image.specs.Answers.{placeOf}
 use Rattle.image.proofs.Places.{placeOf-injective}
 use Rattle.faults.specs.Answers.{faultOf}
 use Rattle.faults.specs.declared.fault.Fault.{Fault}

@@ -18,7 +18,7 @@ use Rattle.registers.specs.declared.Registers.{Registers}
 use Rattle.faults.specs.Record.{interruptFault}
 use Rattle.irte.specs.Irte.{Irte, remaps, posts, reservedIrte, irteCheck, faultProcessingDisabled}
 use Rattle.irte.specs.Source.{sourceAllowed}
-use Rattle.interrupts.specs.Claims.{wholeIndex, entryAt, beforeTable, IndexBound, EntryOfIndex, NoWrap, AtMostTen, NoneBeforeTable}
+use Rattle.interrupts.specs.Claims.{wholeIndex, indexedEntry, beforeTable, IndexBound, EntryOfIndex, NoWrap, AtMostTen, NoneBeforeTable}
 use Rattle.interrupts.specs.Descriptor.{Notification, reservedDescriptor, descriptorCheck}
 use Rattle.interrupts.specs.Interrupts.{Delivery, fault, remap, post, onIrte, descriptorRules, indexRules, InterruptOutcome, passed, refused, delivered, interruptRules}
 use Rattle.interrupts.specs.declared.InterruptRequest.{InterruptRequest}
@@ -108,7 +108,7 @@ module _ (m : Memory) where
 
 module _ (registers : Registers) (request : InterruptRequest) (m : Memory) where
   abbrev Answered : Rules InterruptOutcome → Type 0
-  Answered q = Words (entryAt registers request) (named q m) × (beforeTable (run q m) ≡ true → named q m ≡ [])
+  Answered q = Words (indexedEntry registers request) (named q m) × (beforeTable (run q m) ≡ true → named q m ≡ [])
 
   delivered-before : (source index : ℕ) (d : Delivery) → beforeTable (delivered source index d) ≡ earlyD d
   unfolding interruptFault

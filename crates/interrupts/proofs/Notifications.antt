@@ -8,7 +8,7 @@ use Rattle.image.specs.Check.{go}
 use Rattle.image.specs.Choice.{if_then_else_}
 use Rattle.image.specs.Windows.{ofWindows}
 use Rattle.image.proofs.Choices.{past, same-go}
-use Rattle.interrupts.specs.Claims.{bitAt, due, entryAt, NotificationExactly}
+use Rattle.interrupts.specs.Claims.{bitAt, due, indexedEntry, NotificationExactly}
 use Rattle.interrupts.specs.Descriptor.{Notification, silent, notification, reservedDescriptor, notificationDestination, notificationDue, notificationOf, descriptorCheck}
 use Rattle.interrupts.proofs.EntryBits.{entry-bit}
 use Rattle.interrupts.proofs.Raised.{Posting, raised, fields-of, posted-over}
@@ -31,7 +31,7 @@ notification-exactly registers request windows bytes are at vector n e =
     let over = posted-over registers request windows bytes e in
     let good = over .0 in
     let p : Posting registers request m at vector n = rw (over .1) at (raised registers request m) in
-    let urg : p .urgent ≡ bitAt windows bytes (8 * entryAt registers request + 14) =
-    fields-of registers request m p .2 ∙ entry-bit windows bytes good are 2 (entryAt registers request) 14 (p .told .fetched) (omega arith) in
+    let urg : p .urgent ≡ bitAt windows bytes (8 * indexedEntry registers request + 14) =
+    fields-of registers request m p .2 ∙ entry-bit windows bytes good are 2 (indexedEntry registers request) 14 (p .told .fetched) (omega arith) in
     ap due (sym (notified (registers .eime) (p .urgent) (p .d) (p .checked))) ∙ due-of (registers .eime) (p .urgent) (p .d)
     ∙ rw (urg, entry-bit windows bytes good are 8 at 256 (p .fetched) (omega arith), entry-bit windows bytes good are 8 at 257 (p .fetched) (omega arith))

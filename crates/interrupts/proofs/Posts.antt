@@ -15,7 +15,7 @@ use types.Run.{OneOf}
 use Rattle.image.specs.Bits.{bits, bit}
 use Rattle.image.specs.Choice.{if_then_else_}
 use Rattle.interrupts.specs.Answers.{outcomeOf}
-use Rattle.interrupts.specs.Post.{withBit, written}
+use Rattle.interrupts.specs.Post.{withBit, interruptWritten}
 use Rattle.interrupts.specs.declared.answer.InterruptAnswer.{InterruptAnswer}
 use Rattle.interrupts.specs.declared.answer.InterruptAnswer.the-variants.{Passed, Remapped, Posted, Blocked, Refused}
 use Rattle.interrupts.proofs.answer.InterruptAnswer as declared
@@ -53,7 +53,7 @@ module _ (byte place : ℕ) where
 
 -- an answer that isn't a post leaves the image
 pub unposted : (r : InterruptAnswer) (windows image : List ℕ) → OneOf (0 ∷ 1 ∷ 3 ∷ 4 ∷ []) (tagOf declared.the-type r)
-    → image ≡ written windows (outcomeOf r) image
+    → image ≡ interruptWritten windows (outcomeOf r) image
 unposted Passed windows image h = refl
 unposted (Remapped r) windows image h = refl
 unposted (Posted p) windows image h =

@@ -22,7 +22,7 @@ use Rattle.image.proofs.WindowEntries.{whole-at}
 use Rattle.registers.specs.declared.Registers.{Registers}
 use Rattle.irte.specs.Irte.{Irte, asks, stops, asked, remaps, posts, remappedBy, descriptorAddress, reservedIrte, irteOf, irteCheck, urgentOf, faultProcessingDisabled}
 use Rattle.irte.specs.Source.{sourceAllowed}
-use Rattle.interrupts.specs.Claims.{wholeIndex, entryAt, beforeTable, outcome}
+use Rattle.interrupts.specs.Claims.{wholeIndex, indexedEntry, beforeTable, answerOver}
 use Rattle.interrupts.specs.Descriptor.{Notification, descriptorCheck}
 use Rattle.interrupts.specs.Interrupts.{Delivery, fault, post, descriptorRules, onIrte, indexRules, InterruptOutcome, passed, remapped, posted, blocked, refused, delivered, interruptRules, interruptAnswer}
 use Rattle.interrupts.specs.declared.InterruptRequest.{InterruptRequest}
@@ -33,7 +33,7 @@ module _ (registers : Registers) (request : InterruptRequest) (m : Memory) where
   pub record Told (i : Irte) : Type 0 where
     pub e : ℕ
     pub in-table : wholeIndex request < 2 ^ (registers .s + 1)
-    pub fetched : entry 2 m (entryAt registers request) ≡ found e
+    pub fetched : entry 2 m (indexedEntry registers request) ≡ found e
     pub checked : irteCheck registers (request .source .id) e ≡ go i
 
   -- it asks for a post to a descriptor that can be fetched, and whose check gives the notification
@@ -67,7 +67,7 @@ module _ (registers : Registers) (request : InterruptRequest) (m : Memory) where
   unfolding indexRules run
   index-raised =
       chosen (λ q. From (run q m)) (leb (2 ^ (registers .s + 1)) (wholeIndex request)) (λ h. tt)
-      (λ h. run-cases remappingEntry (entryAt registers request) (fault 0x23 false) (irteCheck registers (request .source .id))
+      (λ h. run-cases remappingEntry (indexedEntry registers request) (fault 0x23 false) (irteCheck registers (request .source .id))
       (λ e reason. fault reason (faultProcessingDisabled e)) (onIrte (registers .eime)) m From tt (λ e reason there stops. tt)
       (λ e i there goes. descriptor-raised i (record { e = e; in-table = leb-false _ _ h; fetched = there; checked = goes })))
 
@@ -142,7 +142,7 @@ pub within : (registers : Registers) (request : InterruptRequest) (windows bytes
     → Within windows bytes (interruptAnswer registers request windows bytes)
 within registers request windows bytes =
     chosen (Within windows bytes) (badWindows windows (length bytes)) (λ bad. tt)
-    (λ good. by good (outcome registers request m) (raised registers request m))
+    (λ good. by good (answerOver registers request m) (raised registers request m))
   where
     m : Memory
     m = ofWindows windows bytes
@@ -161,10 +161,10 @@ within registers request windows bytes =
 -- a post's windows aren't refused, so that the rules gave it
 pub posted-over : (registers : Registers) (request : InterruptRequest) (windows bytes : List ℕ) {descriptor vector : ℕ} {n : Notification}
     → interruptAnswer registers request windows bytes ≡ posted descriptor vector n
-    → (badWindows windows (length bytes) ≡ false) × (outcome registers request (ofWindows windows bytes) ≡ posted descriptor vector n)
+    → (badWindows windows (length bytes) ≡ false) × (answerOver registers request (ofWindows windows bytes) ≡ posted descriptor vector n)
 posted-over registers request windows bytes {descriptor} {vector} {n} e = by (badWindows windows (length bytes)) e
   where
-    by : (t : Bool) → (if t then refused 1 else outcome registers request (ofWindows windows bytes)) ≡ posted descriptor vector n
-        → (t ≡ false) × (outcome registers request (ofWindows windows bytes) ≡ posted descriptor vector n)
+    by : (t : Bool) → (if t then refused 1 else answerOver registers request (ofWindows windows bytes)) ≡ posted descriptor vector n
+        → (t ≡ false) × (answerOver registers request (ofWindows windows bytes) ≡ posted descriptor vector n)
     by true h = let z : _≡_ {A = ℕ} 0 1 = cc in absurd (omega arith)
     by false h = (refl, h)

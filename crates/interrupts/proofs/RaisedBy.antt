@@ -12,7 +12,7 @@ use Rattle.image.proofs.Choices.{past}
 use Rattle.registers.specs.declared.Registers.{Registers}
 use Rattle.irte.specs.Irte.{Remapped, Irte, remaps, posts, remappedBy, descriptorAddress, reservedIrte, irteOf, irteCheck, urgentOf, faultProcessingDisabled}
 use Rattle.irte.specs.Source.{sourceAllowed}
-use Rattle.interrupts.specs.Claims.{entryAt}
+use Rattle.interrupts.specs.Claims.{indexedEntry}
 use Rattle.interrupts.specs.RaisedBy.{ItsEntry, RemappedByEntry, PostedByEntry, Raises, remapping, posting, OneSource, ExactSource}
 use Rattle.interrupts.specs.declared.InterruptRequest.{InterruptRequest}
 use Rattle.interrupts.proofs.Raised.{Told, Posting, raised, asked-for}
@@ -74,7 +74,7 @@ posted-by-entry registers request m descriptor vector n h =
 
 -- the entry of a request that raises an interrupt admits its source
 admits : (registers : Registers) (request : InterruptRequest) (m : Memory) (e : ℕ)
-    → entry 2 m (entryAt registers request) ≡ found e → Raises registers request m
+    → entry 2 m (indexedEntry registers request) ≡ found e → Raises registers request m
     → sourceAllowed (request .source .id) e ≡ true
 admits registers request m e there raises = by raises
   where

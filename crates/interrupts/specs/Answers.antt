@@ -1,6 +1,6 @@
 -- What the code's checks and answers say, in document 01's numbers.
 use mathlib.Core.Path.{_≡_}
-use Rattle.image.specs.Entries.{placeOf}
+use Rattle.image.specs.Answers.{placeOf}
 use Rattle.image.specs.Place.{Place, noEntry, entryAt}
 use Rattle.faults.specs.Answers.{faultOf}
 use Rattle.faults.specs.Reason.{numberOf}

@@ -16,12 +16,12 @@ use Rattle.image.specs.Windows.{windowsOf, here, spotIn, ofWindows, byteAt, bad
 use Rattle.registers.specs.declared.Registers.{Registers}
 use Rattle.interrupts.specs.Descriptor.{Notification, silent, notification}
 use Rattle.interrupts.specs.Interrupts.{InterruptOutcome, passed, remapped, posted, blocked, refused, interruptRules, interruptPlace, interruptAnswer}
-use Rattle.interrupts.specs.Post.{written}
+use Rattle.interrupts.specs.Post.{interruptWritten}
 use Rattle.interrupts.specs.Request.{handleOf}
 use Rattle.interrupts.specs.declared.InterruptRequest.{InterruptRequest}
 
-abbrev pub outcome : Registers → InterruptRequest → Memory → InterruptOutcome
-outcome registers request m = run (interruptRules registers request) m
+abbrev pub answerOver : Registers → InterruptRequest → Memory → InterruptOutcome
+answerOver registers request m = run (interruptRules registers request) m
 
 abbrev pub namedWords : Registers → InterruptRequest → Memory → List ℕ
 namedWords registers request m = named (interruptRules registers request) m
@@ -46,7 +46,7 @@ sets (refused number) n = false
 abbrev pub SetsExactly : Type 0
 SetsExactly = (registers : Registers) (request : InterruptRequest) (windows bytes : List ℕ) (n : ℕ) →
     let o = interruptAnswer registers request windows bytes in
-    bitAt windows (written windows o bytes) n ≡ (bitAt windows bytes n || sets o n)
+    bitAt windows (interruptWritten windows o bytes) n ≡ (bitAt windows bytes n || sets o n)
 
 -- the index as the whole number that it is: with SHV the handle plus data 15:0, else the handle
 abbrev pub wholeIndex : InterruptRequest → ℕ
@@ -54,8 +54,8 @@ wholeIndex request =
     handleOf (request .address) + (if bit (request .address) 3 then bits (request .«data») 15 0 else 0)
 
 -- the entry of that index
-abbrev pub entryAt : Registers → InterruptRequest → ℕ
-entryAt registers request = registers .«interrupt_table» + 16 * wholeIndex request
+abbrev pub indexedEntry : Registers → InterruptRequest → ℕ
+indexedEntry registers request = registers .«interrupt_table» + 16 * wholeIndex request
 
 -- a post answers a notification exactly where ON was clear and either the entry's URG was set or SN was clear, so with SetsExactly ON goes
 -- from 0 to 1 exactly with a notification; the premise says that the run is made of bytes
@@ -63,13 +63,13 @@ abbrev pub NotificationExactly : Type 0
 NotificationExactly = (registers : Registers) (request : InterruptRequest) (windows bytes : List ℕ) → ((n : ℕ) → getD bytes n 0 < 256) →
     (descriptor vector : ℕ) (m : Notification) → interruptAnswer registers request windows bytes ≡ posted descriptor vector m →
     due m ≡ (not (bitAt windows bytes (8 * descriptor + 256))
-    && (bitAt windows bytes (8 * entryAt registers request + 14) || not (bitAt windows bytes (8 * descriptor + 257))))
+    && (bitAt windows bytes (8 * indexedEntry registers request + 14) || not (bitAt windows bytes (8 * descriptor + 257))))
 
 -- a refused, blocked, passed or remapped request leaves every byte
 abbrev pub LeavesAll : Type 0
 LeavesAll = (registers : Registers) (request : InterruptRequest) (windows bytes : List ℕ) →
     let o = interruptAnswer registers request windows bytes in
-    ((descriptor vector : ℕ) (m : Notification) → o ≡ posted descriptor vector m → ⊥) → written windows o bytes ≡ bytes
+    ((descriptor vector : ℕ) (m : Notification) → o ≡ posted descriptor vector m → ⊥) → interruptWritten windows o bytes ≡ bytes
 
 -- a window shows a place of the run at a host address
 abbrev pub Shows : (windows : List ℕ) (at place : ℕ) → Type 0
@@ -79,9 +79,9 @@ Shows windows at place = (left : ℕ) × (spotIn (windowsOf windows) 1 at ≡ he
 abbrev pub StaysInside : Type 0
 StaysInside = (registers : Registers) (request : InterruptRequest) (windows bytes : List ℕ) →
     let o = interruptAnswer registers request windows bytes in
-    (length (written windows o bytes) ≡ length bytes)
+    (length (interruptWritten windows o bytes) ≡ length bytes)
     × ((n : ℕ) → sets o n ≡ true → (place : ℕ) × Shows windows (n / 8) place × (place < length bytes))
-    × ((place : ℕ) → ((at : ℕ) → Shows windows at place → ⊥) → getD (written windows o bytes) place 0 ≡ getD bytes place 0)
+    × ((place : ℕ) → ((at : ℕ) → Shows windows at place → ⊥) → getD (interruptWritten windows o bytes) place 0 ≡ getD bytes place 0)
 
 abbrev pub IndexBound : Type 0
 IndexBound = (request : InterruptRequest) → wholeIndex request ≤ 131070
@@ -113,7 +113,7 @@ beforeTable (refused number) = true
 -- an answer given before the table names no word
 abbrev pub NoneBeforeTable : Type 0
 NoneBeforeTable = (registers : Registers) (request : InterruptRequest) (m : Memory) →
-    beforeTable (outcome registers request m) ≡ true → namedWords registers request m ≡ []
+    beforeTable (answerOver registers request m) ≡ true → namedWords registers request m ≡ []
 
 -- an access fault: 23h or 27h
 abbrev pub accessReason : (reason : ℕ) → Bool
@@ -129,15 +129,15 @@ AccessFault (refused number) = ⊥
 -- it means an entry or a descriptor that couldn't be fetched: it isn't whole in the memory
 abbrev pub InterruptAccessMeansUnfetched : Type 0
 InterruptAccessMeansUnfetched = (registers : Registers) (request : InterruptRequest) (m : Memory) →
-    AccessFault (outcome registers request m) → EndsUnfetched (interruptRules registers request) m
+    AccessFault (answerOver registers request m) → EndsUnfetched (interruptRules registers request) m
 
 -- the customer's demand 3 for interrupts: over a memory that has the same in the named words the same answer, the entry concerned among
 -- its parts, unless it was an access fault
 abbrev pub Isolated : Type 0
 Isolated = (registers : Registers) (request : InterruptRequest) (m m′ : Memory) →
-    (AccessFault (outcome registers request m) → ⊥) →
+    (AccessFault (answerOver registers request m) → ⊥) →
     SameIn (namedWords registers request m) m m′ →
-    (outcome registers request m ≡ outcome registers request m′)
+    (answerOver registers request m ≡ answerOver registers request m′)
     × (interruptPlace registers request m ≡ interruptPlace registers request m′)
 
 -- and so the same bits are set, by host address, both with windows that aren't refused
@@ -145,6 +145,6 @@ abbrev pub SameBits : Type 0
 SameBits = (registers : Registers) (request : InterruptRequest) (windows bytes windows′ bytes′ : List ℕ) →
     badWindows windows (length bytes) ≡ false → badWindows windows′ (length bytes′) ≡ false →
     let m = ofWindows windows bytes in
-    (AccessFault (outcome registers request m) → ⊥) → SameIn (namedWords registers request m) m (ofWindows windows′ bytes′) →
-    (n : ℕ) → bitAt windows′ (written windows′ (interruptAnswer registers request windows′ bytes′) bytes′) n
+    (AccessFault (answerOver registers request m) → ⊥) → SameIn (namedWords registers request m) m (ofWindows windows′ bytes′) →
+    (n : ℕ) → bitAt windows′ (interruptWritten windows′ (interruptAnswer registers request windows′ bytes′) bytes′) n
     ≡ (bitAt windows′ bytes′ n || sets (interruptAnswer registers request windows bytes) n)

@@ -22,10 +22,10 @@ notified at silent bytes = bytes
 notified at (notification vector destination) bytes = setBit at 256 bytes
 
 -- a post sets the vector's request bit, in the descriptor that stands whole in a single window; any other outcome leaves the run as it came
-abbrev pub written : (windows : List ℕ) → InterruptOutcome → List ℕ → List ℕ
-written windows passed bytes = bytes
-written windows (remapped r) bytes = bytes
-written windows (posted descriptor vector n) bytes =
+abbrev pub interruptWritten : (windows : List ℕ) → InterruptOutcome → List ℕ → List ℕ
+interruptWritten windows passed bytes = bytes
+interruptWritten windows (remapped r) bytes = bytes
+interruptWritten windows (posted descriptor vector n) bytes =
     onSpot (spotIn (windowsOf windows) 64 descriptor) bytes (λ at left. notified at n (setBit at vector bytes))
-written windows (blocked f) bytes = bytes
-written windows (refused number) bytes = bytes
+interruptWritten windows (blocked f) bytes = bytes
+interruptWritten windows (refused number) bytes = bytes

@@ -9,7 +9,7 @@ use Rattle.image.specs.Memory.{Memory, found, entry}
 use Rattle.registers.specs.declared.Registers.{Registers}
 use Rattle.irte.specs.Irte.{Remapped, remappedBy, descriptorAddress, reservedIrte}
 use Rattle.irte.specs.Source.{sourceAllowed}
-use Rattle.interrupts.specs.Claims.{outcome, wholeIndex, entryAt}
+use Rattle.interrupts.specs.Claims.{answerOver, wholeIndex, indexedEntry}
 use Rattle.interrupts.specs.Descriptor.{Notification}
 use Rattle.interrupts.specs.Interrupts.{remapped, posted}
 use Rattle.interrupts.specs.declared.InterruptRequest.{InterruptRequest}
@@ -17,7 +17,7 @@ use Rattle.interrupts.specs.declared.InterruptRequest.{InterruptRequest}
 -- e is the entry of the request's whole index: inside the table, fetched, present, without a reserved bit, and for this source
 pub record ItsEntry (registers : Registers) (request : InterruptRequest) (m : Memory) (e : ℕ) : Type 0 where
   pub in-table : wholeIndex request < 2 ^ (registers .s + 1)
-  pub fetched : entry 2 m (entryAt registers request) ≡ found e
+  pub fetched : entry 2 m (indexedEntry registers request) ≡ found e
   pub present : bit e 0 ≡ true
   pub valid : reservedIrte registers e ≡ false
   pub admitted : sourceAllowed (request .source .id) e ≡ true
@@ -25,20 +25,20 @@ pub record ItsEntry (registers : Registers) (request : InterruptRequest) (m : Me
 -- a remapped answer is that entry's: vector, destination and modes
 abbrev pub RemappedByEntry : Type 0
 RemappedByEntry = (registers : Registers) (request : InterruptRequest) (m : Memory) (r : Remapped) →
-    outcome registers request m ≡ remapped r →
+    answerOver registers request m ≡ remapped r →
     (e : ℕ) × ItsEntry registers request m e × (bit e 15 ≡ false) × (r ≡ remappedBy (registers .eime) e)
 
 -- a post's descriptor and vector are that entry's
 abbrev pub PostedByEntry : Type 0
 PostedByEntry = (registers : Registers) (request : InterruptRequest) (m : Memory) (descriptor vector : ℕ) (n : Notification) →
-    outcome registers request m ≡ posted descriptor vector n →
+    answerOver registers request m ≡ posted descriptor vector n →
     (e : ℕ) × ItsEntry registers request m e × (bit e 15 ≡ true)
     × (descriptor ≡ descriptorAddress e) × (vector ≡ bits e 23 16)
 
 -- a request raises an interrupt: it is remapped or posted
 pub data Raises (registers : Registers) (request : InterruptRequest) (m : Memory) : Type 0 where
-  remapping : {r : Remapped} → outcome registers request m ≡ remapped r → Raises registers request m
-  posting : {descriptor vector : ℕ} {n : Notification} → outcome registers request m ≡ posted descriptor vector n →
+  remapping : {r : Remapped} → answerOver registers request m ≡ remapped r → Raises registers request m
+  posting : {descriptor vector : ℕ} {n : Notification} → answerOver registers request m ≡ posted descriptor vector n →
       Raises registers request m
 
 -- an entry whose source check admits one source alone raises no interrupt for a request of another, whatever its handle and subhandle
@@ -52,5 +52,5 @@ OneSource = (registers : Registers) (m : Memory) (index e owner : ℕ) →
 -- such is an entry with SVT (83:82) 1 and SQ (81:80) 0: its SID (79:64) alone
 abbrev pub ExactSource : Type 0
 ExactSource = (registers : Registers) (m : Memory) (request : InterruptRequest) (e : ℕ) →
-    entry 2 m (entryAt registers request) ≡ found e → bits e 83 82 ≡ 1 → bits e 81 80 ≡ 0 →
+    entry 2 m (indexedEntry registers request) ≡ found e → bits e 83 82 ≡ 1 → bits e 81 80 ≡ 0 →
     Raises registers request m → request .source .id ≡ bits e 79 64

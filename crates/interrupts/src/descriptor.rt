@@ -1,7 +1,7 @@
 // The posted interrupt descriptor.
 ghost use mathlib.Core.Path.{_≡_};
 ghost use Rattle.image.specs.Bits.{anySet};
-ghost use Rattle.image.specs.Entries.{number64};
+ghost use Rattle.image.specs.Answers.{number64};
 ghost use Rattle.interrupts.specs.Descriptor.{reservedDescriptor, notificationDestination, notificationDue, notificationOf, descriptorCheck};
 ghost use Rattle.image.specs.Place.{entryAt};
 ghost use Rattle.interrupts.specs.Answers.{dueOf, descriptorChecked, descriptorPlace};

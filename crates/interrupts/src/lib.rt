@@ -8,7 +8,7 @@ ghost use Rattle.image.specs.Rules.{run};
 ghost use Rattle.image.specs.Windows.{ofWindows, badWindows};
 ghost use Rattle.interrupts.specs.Answers.{outcomeOf, entryOf};
 ghost use Rattle.interrupts.specs.Interrupts.{requestRules, interruptRules, concerned, interruptPlace, interruptAnswer, interruptAnswerPlace};
-ghost use Rattle.interrupts.specs.Post.{written};
+ghost use Rattle.interrupts.specs.Post.{interruptWritten};
 
 mod answer;
 mod descriptor;
@@ -103,7 +103,7 @@ pub fn interrupt_request(
 ) -> InterruptAnswer
     ensures { λ r. ⌜ outcomeOf r ≡ interruptAnswer registers request (now (windows .entry)) (now (image .entry)) ⌝ }
     ensures { λ r. ⌜ entryOf r ≡ interruptAnswerPlace registers request (now (windows .entry)) (now (image .entry)) ⌝ }
-    ensures { λ r. ⌜ now (image .exit) ≡ written (now (windows .entry)) (interruptAnswer registers request (now (windows .entry)) (now (image .entry))) (now (image .entry)) ⌝ }
+    ensures { λ r. ⌜ now (image .exit) ≡ interruptWritten (now (windows .entry)) (interruptAnswer registers request (now (windows .entry)) (now (image .entry))) (now (image .entry)) ⌝ }
 {
     if bad_windows(windows, image.len()) {
         return InterruptAnswer::Refused(1);

@@ -6,7 +6,7 @@ ghost use lib.ListN.{length};
 ghost use Rattle.image.specs.Windows.{windowsOf, here, spotIn, badWindows};
 ghost use Rattle.interrupts.specs.Answers.{dueOf};
 ghost use Rattle.interrupts.specs.Interrupts as rules;
-ghost use Rattle.interrupts.specs.Post.{setBit, written};
+ghost use Rattle.interrupts.specs.Post.{setBit, interruptWritten};
 use crate::answer::Posted;
 use crate::descriptor::Notification;
 use image::place64;
@@ -27,7 +27,7 @@ pub(crate) fn write_post(windows: &[u64], image: &mut [u8], posted: Posted)
     requires { ⌜ (badWindows (now windows) (length (now image)) ≡ false)
         × ((place : ℕ) × (left : ℕ) × (spotIn (windowsOf (now windows)) 64 (posted .descriptor) ≡ here place left))
         × (posted .descriptor % 64 ≡ 0) ⌝ }
-    ensures { λ _. ⌜ now (image .exit) ≡ written (now (windows .entry)) (rules.posted (posted .descriptor) (posted .vector) (dueOf (posted .notification))) (now (image .entry)) ⌝ }
+    ensures { λ _. ⌜ now (image .exit) ≡ interruptWritten (now (windows .entry)) (rules.posted (posted .descriptor) (posted .vector) (dueOf (posted .notification))) (now (image .entry)) ⌝ }
 {
     let notification = posted.notification;
     let at = place64(windows, image.len(), posted.descriptor);

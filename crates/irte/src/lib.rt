@@ -1,6 +1,6 @@
 // The interrupt remapping table entry (IRTE): a remapped one, or with bit 15 a posted one.
 ghost use mathlib.Core.Path.{_≡_};
-ghost use Rattle.image.specs.Entries.{number16};
+ghost use Rattle.image.specs.Answers.{number16};
 ghost use Rattle.image.specs.Place.{Place, entryAt};
 ghost use Rattle.irte.specs.Answers.{remappedOf, askedOf, IrteNames};
 ghost use Rattle.irte.specs.Irte.{destinationOf, remappedBy, irteOf, asks, asked};

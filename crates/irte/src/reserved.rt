@@ -1,7 +1,7 @@
 // The reserved bits of a remapping entry.
 ghost use mathlib.Core.Path.{_≡_};
 ghost use Prim.Native.Nat.{_^_, _<_};
-ghost use Rattle.image.specs.Entries.{number16};
+ghost use Rattle.image.specs.Answers.{number16};
 ghost use Rattle.irte.specs.Irte.{descriptorAddress, reservedInAll, reservedInRemapped, reservedInPosted, reservedIrte};
 use image::Entry16;
 use image::any_set16;

@@ -1,6 +1,6 @@
 // The source check of a remapping entry.
 ghost use mathlib.Core.Path.{_≡_};
-ghost use Rattle.image.specs.Entries.{number16};
+ghost use Rattle.image.specs.Answers.{number16};
 ghost use Rattle.irte.specs.Source.{sameSource, busInRange, sourceAllowed};
 use image::Entry16;
 use image::bits16;

@@ -11,7 +11,7 @@ use lib.Dec.{eqb}
 use lib.ListN.{length, getD, set, replicate, length-set, length-replicate, getD-replicate}
 use lib.Seq.{getD-set-same}
 use Rattle.image.specs.Choice.{if_then_else_}
-use Rattle.tables.specs.Tables.{entryOf, present, mapsPage, tableEntry, tableOf, emptyTable}
+use Rattle.tables.specs.Tables.{heldEntry, present, mapsPage, tableEntry, tableOf, emptyTable}
 use Rattle.tables.specs.declared.Tree.{Tree}
 use Rattle.marking.specs.Marking.{Marked, thenMark, freePage, leadsToFree, markEntry, markEntries, markTable, markLevel, markLevels, markAll}
 use Rattle.marking.proofs.Turns.{there}
@@ -72,15 +72,15 @@ module _ (bytes marks : List ℕ) (tree : Tree) (w : WellBuilt bytes marks tree)
       pub passed : Passed (Seen level (suc z)) m
       pub stays : (page n : ℕ) → getD made page 0 ≡ suc n → getD (m .1) page 0 ≡ suc n
 
-    module _ (h : leadsOn level (entryOf bytes (8 * z)) ≡ true) (l : Leads tree marks (w .from) z level (entryOf bytes (8 * z))) where
+    module _ (h : leadsOn level (heldEntry bytes (8 * z)) ≡ true) (l : Leads tree marks (w .from) z level (heldEntry bytes (8 * z))) where
       abbrev f : ℕ
       f = l .page
 
-      down : tableOf (tree .start) (entryOf bytes (8 * z)) ≡ 4096 * f
+      down : tableOf (tree .start) (heldEntry bytes (8 * z)) ≡ 4096 * f
       down = led-to bytes marks tree w z level (s .among (z / 512) level mark) h l
 
       deep : 0 < level
-      deep = leads-deep level (entryOf bytes (8 * z)) h
+      deep = leads-deep level (heldEntry bytes (8 * z)) h
 
       free : getD made f 0 ≡ 0
       free = still-free f (l .level) (l .alone) (getD made f 0) refl
@@ -88,11 +88,11 @@ module _ (bytes marks : List ℕ) (tree : Tree) (w : WellBuilt bytes marks tree)
       inside : f < length made
       inside = let k = marked-inside marks f {n = level - 1} (l .level ∙ omega (arith, deep)) in omega (arith, s .sized)
 
-      to-free : leadsToFree (tree .start) made (entryOf bytes (8 * z)) ≡ true
+      to-free : leadsToFree (tree .start) made (heldEntry bytes (8 * z)) ≡ true
       to-free =
           let back : 4096 * f / 4096 ≡ f = omega arith in
           let none : getD made f 1 ≡ 0 = there made f 1 0 inside ∙ free in
-          rw (down, back, eq-eqb (entryOf bytes (8 * z)) (tableEntry (tree .start) (4096 * f)) (l .entry), eq-eqb (getD made f 1) 0 none)
+          rw (down, back, eq-eqb (heldEntry bytes (8 * z)) (tableEntry (tree .start) (4096 * f)) (l .entry), eq-eqb (getD made f 1) 0 none)
 
       marked : Sofar (Seen level (suc z)) (set made f level)
       marked =
@@ -128,9 +128,9 @@ module _ (bytes marks : List ℕ) (tree : Tree) (w : WellBuilt bytes marks tree)
       passed-marked : Turn (true, set made f level)
       passed-marked = record { passed = record { good = refl; sofar = marked }; stays = stays-marked }
 
-      led-on : Turn (if_then_else_ {A = Marked} (leadsToFree (tree .start) made (entryOf bytes (8 * z))) (true, set made (tableOf (tree .start) (entryOf bytes (8 * z)) / 4096) level) (false, made))
+      led-on : Turn (if_then_else_ {A = Marked} (leadsToFree (tree .start) made (heldEntry bytes (8 * z))) (true, set made (tableOf (tree .start) (heldEntry bytes (8 * z)) / 4096) level) (false, made))
       led-on =
-          let back : tableOf (tree .start) (entryOf bytes (8 * z)) / 4096 ≡ f = omega (arith, down) in
+          let back : tableOf (tree .start) (heldEntry bytes (8 * z)) / 4096 ≡ f = omega (arith, down) in
           rw (to-free, back) passed-marked
 
     unmarked : Turn (true, made)
@@ -140,12 +140,12 @@ module _ (bytes marks : List ℕ) (tree : Tree) (w : WellBuilt bytes marks tree)
           stays = λ page n m. m;
         }
 
-    entry-passes : Turn (markEntry (tree .start) level (entryOf bytes (8 * z)) made)
+    entry-passes : Turn (markEntry (tree .start) level (heldEntry bytes (8 * z)) made)
     unfolding markEntry
     entry-passes = go (present e) (mapsPage level e) refl
       where
         e : ℕ
-        e = entryOf bytes (8 * z)
+        e = heldEntry bytes (8 * z)
 
         go : (p m : Bool) → leadsOn level e ≡ (p && not m)
             → Turn (if_then_else_ {A = Marked} (not p || m) (true, made) (if leadsToFree (tree .start) made e then (true, set made (tableOf (tree .start) e / 4096) level) else (false, made)))
@@ -163,7 +163,7 @@ module _ (bytes marks : List ℕ) (tree : Tree) (w : WellBuilt bytes marks tree)
       let here : z / 512 ≡ page = omega arith in
       let next : 8 * z + 8 ≡ 8 * suc z = omega arith in
       let sum : z + suc k ≡ suc z + k = omega arith in
-      let one = markEntry (tree .start) level (entryOf bytes (8 * z)) made in
+      let one = markEntry (tree .start) level (heldEntry bytes (8 * z)) made in
       let turn = entry-passes level z made low s (rw here mark) in
       let rest = entries-pass level k (suc z) page (one .1) low (turn .passed .sofar) (turn .stays page level mark) (omega arith) (omega arith) in
       then-passed (Seen level (suc z)) (Seen level (z + suc k)) one (markEntries bytes (tree .start) level k (8 * z + 8)) (turn .passed)
@@ -257,12 +257,12 @@ empty-passes bytes tree pages placed sized top empty =
     whole : (page below : ℕ) → getD (topAlone tree pages) page 0 ≡ suc below → 4096 * page ≡ tree .top
     whole page below m = let t = top-alone tree pages page below inside m in omega (arith, t .0, placed .top-aligned)
 
-    none-leads : (n below : ℕ) → getD (topAlone tree pages) (n / 512) 0 ≡ suc below → leadsOn below (entryOf bytes (8 * n)) ≡ true → ⊥
+    none-leads : (n below : ℕ) → getD (topAlone tree pages) (n / 512) 0 ≡ suc below → leadsOn below (heldEntry bytes (8 * n)) ≡ true → ⊥
     none-leads n below m h =
         let t = top-alone tree pages (n / 512) below inside m in
         let at : tree .top + 8 * (n % 512) ≡ 8 * n = omega (arith, t .0, placed .top-aligned) in
-        let gone : present (entryOf bytes (8 * n)) ≡ false = rw (← at) (each-absent 512 bytes (tree .top) (n % 512) empty (omega arith)) in
-        contradicts (absent-ends below (entryOf bytes (8 * n)) gone) h
+        let gone : present (heldEntry bytes (8 * n)) ≡ false = rw (← at) (each-absent 512 bytes (tree .top) (n % 512) empty (omega arith)) in
+        contradicts (absent-ends below (heldEntry bytes (8 * n)) gone) h
 
     alone : WellBuilt bytes (topAlone tree pages) tree
     alone =

@@ -5,11 +5,11 @@ use mathlib.Core.Path.{_≡_, refl, _∙_}
 use mathlib.Core.List.{List}
 use native.Mathlib.Omega.{arith}
 use lib.ListN.{length}
-use Rattle.tables.specs.Tables.{entryOf, absent}
+use Rattle.tables.specs.Tables.{heldEntry, absent}
 use Rattle.tables.specs.declared.Tree.{Tree}
 use Rattle.leaves.specs.WellBuilt.{WellBuilt, NoneEmpty}
 
-module _ (bytes bytes′ marks : List ℕ) (tree : Tree) (same : (x : ℕ) → entryOf bytes′ (8 * x) ≡ entryOf bytes (8 * x)) where
+module _ (bytes bytes′ marks : List ℕ) (tree : Tree) (same : (x : ℕ) → heldEntry bytes′ (8 * x) ≡ heldEntry bytes (8 * x)) where
   pub built-alike : length bytes′ ≡ length bytes → WellBuilt bytes marks tree → WellBuilt bytes′ marks tree
   built-alike long w =
       record {

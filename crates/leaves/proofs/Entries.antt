@@ -13,11 +13,11 @@ use lib.Seq.{length-take-le, take-at, drop-at, getD-take, getD-drop, getD-append
 use Rattle.image.specs.Bytes.{littleEndian, bytesOf}
 use Rattle.image.specs.Memory.{wordAt, withWord}
 use Rattle.image.proofs.Bytes.{length-bytesOf}
-use Rattle.image.proofs.GoodWindows.{both}
+use Rattle.image.proofs.Choices.{both}
 use Rattle.image.proofs.Same.{same-entry}
 use Rattle.image.proofs.Stores.{stored, not-stored}
 use Rattle.image.proofs.Words.{inside, wordsIn, spell-one}
-use Rattle.tables.specs.Tables.{entryOf, present, absent, zeroed}
+use Rattle.tables.specs.Tables.{heldEntry, present, absent, wordsZeroed}
 
 -- a number's bytes spell it
 spelled-bytes : (n word : ℕ) → word < 256 ^ n → littleEndian (bytesOf n word) ≡ word
@@ -55,21 +55,21 @@ module _ (bytes : List ℕ) (at word : ℕ) where
       ∙ getD-append-add (take at bytes ++ bytesOf 8 word) (drop (at + 8) bytes) (k - (at + 8)) 0
       ∙ getD-drop (at + 8) bytes (k - (at + 8)) 0 ∙ ap (λ (i : ℕ). getD bytes i 0) place′
 
-  pub entry-kept : (other : ℕ) → (other + 8 ≤ at) ⊎ (at + 8 ≤ other) → entryOf (withWord bytes at word) other ≡ entryOf bytes other
-  unfolding entryOf
+  pub entry-kept : (other : ℕ) → (other + 8 ≤ at) ⊎ (at + 8 ≤ other) → heldEntry (withWord bytes at word) other ≡ heldEntry bytes other
+  unfolding heldEntry
   entry-kept other apart = go (decLe (at + 8) (length bytes))
     where
       side : (k : ℕ) → other ≤ k → k < other + 8 → (other + 8 ≤ at) ⊎ (at + 8 ≤ other) → (k < at) ⊎ (at + 8 ≤ k)
       side k from to (inl h) = inl (omega arith)
       side k from to (inr h) = inr (omega arith)
 
-      go : Dec (at + 8 ≤ length bytes) → entryOf (withWord bytes at word) other ≡ entryOf bytes other
+      go : Dec (at + 8 ≤ length bytes) → heldEntry (withWord bytes at word) other ≡ heldEntry bytes other
       go (yes h) =
           rw (same-entry bytes (withWord bytes at word) length-stored 1 other (λ k from to. byte-kept h k (side k from (omega arith) apart)))
-      go (no h) = ap (λ (b : List ℕ). entryOf b other) (not-stored bytes at word (omega arith))
+      go (no h) = ap (λ (b : List ℕ). heldEntry b other) (not-stored bytes at word (omega arith))
 
-  pub entry-stored : at + 8 ≤ length bytes → word < 2 ^ 64 → entryOf (withWord bytes at word) at ≡ word
-  unfolding entryOf wordAt wordsIn
+  pub entry-stored : at + 8 ≤ length bytes → word < 2 ^ 64 → heldEntry (withWord bytes at word) at ≡ word
+  unfolding heldEntry wordAt wordsIn
   entry-stored h fits =
       let still : at + 8 ≤ length (withWord bytes at word) = rw length-stored h in
       let first : length (take at bytes) ≡ at = length-take-le at bytes (omega arith) in
@@ -77,22 +77,22 @@ module _ (bytes : List ℕ) (at word : ℕ) where
       (spelled-bytes 8 word fits)
 
 -- so many words that are 0
-pub length-zeroed : (n : ℕ) (bytes : List ℕ) (at : ℕ) → length (zeroed n bytes at) ≡ length bytes
-unfolding zeroed
+pub length-zeroed : (n : ℕ) (bytes : List ℕ) (at : ℕ) → length (wordsZeroed n bytes at) ≡ length bytes
+unfolding wordsZeroed
 length-zeroed zero bytes at = refl
 length-zeroed (suc n) bytes at = length-zeroed n (withWord bytes at 0) (at + 8) ∙ length-stored bytes at 0
 
 pub zeroed-elsewhere : (n : ℕ) (bytes : List ℕ) (at other : ℕ) → (other + 8 ≤ at) ⊎ (at + 8 * n ≤ other)
-    → entryOf (zeroed n bytes at) other ≡ entryOf bytes other
-unfolding zeroed
+    → heldEntry (wordsZeroed n bytes at) other ≡ heldEntry bytes other
+unfolding wordsZeroed
 zeroed-elsewhere zero bytes at other apart = refl
 zeroed-elsewhere (suc n) bytes at other (inl h) =
     zeroed-elsewhere n (withWord bytes at 0) (at + 8) other (inl (omega arith)) ∙ entry-kept bytes at 0 other (inl h)
 zeroed-elsewhere (suc n) bytes at other (inr h) =
     zeroed-elsewhere n (withWord bytes at 0) (at + 8) other (inr (omega arith)) ∙ entry-kept bytes at 0 other (inr (omega arith))
 
-pub zeroed-there : (n : ℕ) (bytes : List ℕ) (at k : ℕ) → at + 8 * n ≤ length bytes → k < n → entryOf (zeroed n bytes at) (at + 8 * k) ≡ 0
-unfolding zeroed
+pub zeroed-there : (n : ℕ) (bytes : List ℕ) (at k : ℕ) → at + 8 * n ≤ length bytes → k < n → heldEntry (wordsZeroed n bytes at) (at + 8 * k) ≡ 0
+unfolding wordsZeroed
 zeroed-there zero bytes at k h less = absurd (omega arith)
 zeroed-there (suc n) bytes at zero h less =
     let here : at + 8 * 0 ≡ at = omega arith in
@@ -103,12 +103,12 @@ zeroed-there (suc n) bytes at (suc k) h less =
     rw next (zeroed-there n (withWord bytes at 0) (at + 8) k (rw (length-stored bytes at 0) (omega arith)) (omega arith))
 
 -- none of so many entries is present
-pub each-absent : (n : ℕ) (bytes : List ℕ) (at k : ℕ) → absent n bytes at ≡ true → k < n → present (entryOf bytes (at + 8 * k)) ≡ false
+pub each-absent : (n : ℕ) (bytes : List ℕ) (at k : ℕ) → absent n bytes at ≡ true → k < n → present (heldEntry bytes (at + 8 * k)) ≡ false
 unfolding absent
 each-absent zero bytes at k h less = absurd (omega arith)
 each-absent (suc n) bytes at zero h less =
     let here : at + 8 * 0 ≡ at = omega arith in
-    rw here (not-true (present (entryOf bytes at)) (both (not (present (entryOf bytes at))) (absent n bytes (at + 8)) h .0))
+    rw here (not-true (present (heldEntry bytes at)) (both (not (present (heldEntry bytes at))) (absent n bytes (at + 8)) h .0))
 each-absent (suc n) bytes at (suc k) h less =
     let next : at + 8 * suc k ≡ at + 8 + 8 * k = omega arith in
-    rw next (each-absent n bytes (at + 8) k (both (not (present (entryOf bytes at))) (absent n bytes (at + 8)) h .1) (omega arith))
+    rw next (each-absent n bytes (at + 8) k (both (not (present (heldEntry bytes at))) (absent n bytes (at + 8)) h .1) (omega arith))

@@ -9,8 +9,8 @@ use native.Mathlib.Omega.{arith}
 use lib.ListN.{length, getD, set}
 use lib.Seq.{getD-set-same}
 use Rattle.image.specs.Memory.{withWord}
-use Rattle.image.proofs.GoodWindows.{both}
-use Rattle.tables.specs.Tables.{entryOf, present, mapsPage, absent, emptyTable, tableEntry, zeroed}
+use Rattle.image.proofs.Choices.{both}
+use Rattle.tables.specs.Tables.{heldEntry, present, mapsPage, absent, emptyTable, tableEntry, wordsZeroed}
 use Rattle.tables.specs.declared.Tree.{Tree}
 use Rattle.leaves.specs.WellBuilt.{WellBuilt, NoneEmpty}
 use Rattle.leaves.proofs.Entries.{entry-stored, each-absent}
@@ -20,17 +20,17 @@ use Rattle.leaves.proofs.Steps.{contradicts, other-kept, other-mark, ma
 pub record Filled (bytes : List ℕ) (page : ℕ) : Type 0 where
   pub entry : ℕ
   pub in-it : entry / 512 ≡ page
-  pub on : present (entryOf bytes (8 * entry)) ≡ true
+  pub on : present (heldEntry bytes (8 * entry)) ≡ true
 
 some-entry : (n : ℕ) (bytes : List ℕ) (x page : ℕ) → absent n bytes (8 * x) ≡ false → 512 * page ≤ x → x + n ≤ 512 * page + 512 → Filled bytes page
 unfolding absent
 some-entry zero bytes x page h from to = absurd (contradicts h refl)
-some-entry (suc n) bytes x page h from to = go (present (entryOf bytes (8 * x))) refl h (some-entry n bytes (suc x) page)
+some-entry (suc n) bytes x page h from to = go (present (heldEntry bytes (8 * x))) refl h (some-entry n bytes (suc x) page)
   where
     next : 8 * x + 8 ≡ 8 * suc x
     next = omega arith
 
-    go : (t : Bool) → present (entryOf bytes (8 * x)) ≡ t → (not t && absent n bytes (8 * x + 8)) ≡ false
+    go : (t : Bool) → present (heldEntry bytes (8 * x)) ≡ t → (not t && absent n bytes (8 * x + 8)) ≡ false
         → (absent n bytes (8 * suc x) ≡ false → 512 * page ≤ suc x → suc x + n ≤ 512 * page + 512 → Filled bytes page) → Filled bytes page
     go true e h later = record { entry = x; in-it = omega arith; on = e }
     go false e h later = later (rw next at h) (omega arith) (omega arith)
@@ -47,7 +47,7 @@ not-empty bytes page f = go (emptyTable bytes (4096 * page)) refl
     go false e = refl
     go true e =
         let place : 4096 * page + 8 * (f .entry % 512) ≡ 8 * f .entry = omega (arith, f .in-it) in
-        let gone : present (entryOf bytes (8 * f .entry)) ≡ false = rw (← place) (each-absent 512 bytes (4096 * page) (f .entry % 512) e (omega arith)) in
+        let gone : present (heldEntry bytes (8 * f .entry)) ≡ false = rw (← place) (each-absent 512 bytes (4096 * page) (f .entry % 512) e (omega arith)) in
         absurd (contradicts gone (f .on))
 
 -- all but the top one and another
@@ -59,7 +59,7 @@ pub all-but : (bytes marks : List ℕ) (tree : Tree) (other : ℕ) → NoneEmpty
 all-but bytes marks tree other h page n m top apart = filled-page bytes page (h page n m top)
 
 -- an entry that stays
-kept : (bytes after : List ℕ) (page : ℕ) → ((y : ℕ) → y / 512 ≡ page → entryOf after (8 * y) ≡ entryOf bytes (8 * y)) → Filled bytes page → Filled after page
+kept : (bytes after : List ℕ) (page : ℕ) → ((y : ℕ) → y / 512 ≡ page → heldEntry after (8 * y) ≡ heldEntry bytes (8 * y)) → Filled bytes page → Filled after page
 kept bytes after page same f = record { entry = f .entry; in-it = f .in-it; on = rw (same (f .entry) (f .in-it)) (f .on) }
 
 -- all others are, and the other too, or is the top one
@@ -87,13 +87,13 @@ module _ (bytes marks : List ℕ) (tree : Tree) (x word other : ℕ) (inside : 8
 
 -- a table is made, and is empty
 module _ (bytes marks : List ℕ) (tree : Tree) (w : WellBuilt bytes marks tree) (x level f : ℕ) (mark : getD marks (x / 512) 0 ≡ suc level)
-    (deep : 0 < level) (there : f < length marks) (free : getD marks f 0 ≡ 0) (was : present (entryOf bytes (8 * x)) ≡ false) where
+    (deep : 0 < level) (there : f < length marks) (free : getD marks f 0 ≡ 0) (was : present (heldEntry bytes (8 * x)) ≡ false) where
   abbrev made : List ℕ
-  made = withWord (zeroed 512 bytes (4096 * f)) (8 * x) (tableEntry (tree .start) (4096 * f))
+  made = withWord (wordsZeroed 512 bytes (4096 * f)) (8 * x) (tableEntry (tree .start) (4096 * f))
 
-  leading : present (entryOf made (8 * x)) ≡ true
+  leading : present (heldEntry made (8 * x)) ≡ true
   leading =
-      both (present (entryOf made (8 * x))) (not (mapsPage level (entryOf made (8 * x)))) (made-leads bytes marks tree w x level f mark deep there free was) .0
+      both (present (heldEntry made (8 * x))) (not (mapsPage level (heldEntry made (8 * x)))) (made-leads bytes marks tree w x level f mark deep there free was) .0
 
   pub made-but : FilledBut bytes marks tree (x / 512) → FilledBut made (set marks f level) tree f
   made-but h page n m top apart = go (ℕ-discrete page (x / 512))

@@ -9,8 +9,8 @@ use lib.Dec.{eqb, leb, ltb}
 use lib.Pow.{pow-mono}
 use Rattle.image.specs.Bits.{bits}
 use Rattle.image.specs.Choice.{if_then_else_}
+use Rattle.image.proofs.Choices.{both, neither}
 use Rattle.image.proofs.Fields.{fits}
-use Rattle.image.proofs.GoodWindows.{both, neither}
 use Rattle.registers.specs.declared.Registers.{Registers}
 use Rattle.dma.specs.InterruptRange.{meetsInterruptRange}
 use Rattle.dma.specs.Translation.{overflows}
@@ -24,7 +24,7 @@ use Rattle.builder.specs.declared.items.Item.{Item}
 use Rattle.builder.specs.declared.items.Taken.{Taken}
 use Rattle.builder.proofs.ItemLaws.{none-of, both-0, frame-below}
 use Rattle.leaves.specs.Claims.{Leaves, ItemsLeave}
-use Rattle.leaves.specs.Leaves.{Leaf, none, leaf, leafOver, placeOver, holds, leftBy, left}
+use Rattle.leaves.specs.Leaves.{Leaf, none, leaf, leafOver, leafPlace, holds, leftBy, left}
 use Rattle.leaves.specs.WellBuilt.{WellBuilt, NoneEmpty}
 use Rattle.leaves.proofs.Addresses.{above}
 use Rattle.leaves.proofs.Mapped.{Changed, mapped-changed}
@@ -174,7 +174,7 @@ module _ (registers : Registers) (tree : Tree) (item : Item) (t : Tables) (haw :
   pub record Left (after : Tables) : Type 0 where
     pub built : WellBuilt (after .bytes) (after .marks) tree
     pub leaves : (q : ℕ) → q < 2 ^ (12 + 9 * (tree .below + 1)) → leafOver (after .bytes) tree q ≡ leftBy item q (leafOver (t .bytes) tree q)
-    pub kept : (q : ℕ) → q < 2 ^ (12 + 9 * (tree .below + 1)) → holds item q ≡ false → placeOver (after .bytes) tree q ≡ placeOver (t .bytes) tree q
+    pub kept : (q : ℕ) → q < 2 ^ (12 + 9 * (tree .below + 1)) → holds item q ≡ false → leafPlace (after .bytes) tree q ≡ leafPlace (t .bytes) tree q
     pub none-empty : NoneEmpty (t .bytes) (t .marks) tree → NoneEmpty (after .bytes) (after .marks) tree
 
   module _ (fine : itemReason registers (tree .below + 1) item ≡ 0) where

@@ -10,7 +10,7 @@ use Rattle.image.specs.Choice.{if_then_else_}
 use Rattle.image.specs.Memory.{withWord}
 use Rattle.tables.specs.Mapped.{newTable, withLeaf, mapped}
 use Rattle.tables.specs.Pages.{lowest, freePages}
-use Rattle.tables.specs.Tables.{Tables, tables, entryOf, present, mapsPage}
+use Rattle.tables.specs.Tables.{Tables, tables, heldEntry, present, mapsPage}
 use Rattle.tables.specs.Way.{way}
 use Rattle.tables.specs.declared.Tree.{Tree}
 use Rattle.tables.specs.declared.way.Stop.{Stop}
@@ -55,7 +55,7 @@ module _ (tree : Tree) (place last word : ℕ) (reached : place < 2 ^ (12 + 9 * 
       let a : present (entryOn (t .bytes) place page last) ≡ false = rw same at absent in
       let x = number place page last in
       let mark : getD (t .marks) (x / 512) 0 ≡ suc last = rw (page-is place page last) (passed-mark (t .bytes) (t .marks) tree w place p) in
-      let was = absent-ends last (entryOf (t .bytes) (8 * x)) a in
+      let was = absent-ends last (heldEntry (t .bytes) (8 * x)) a in
       rw same
       (record {
         built = stored-built (t .bytes) (t .marks) tree w x last mark word fits was no-further;
@@ -110,7 +110,7 @@ module _ (tree : Tree) (place last word : ℕ) (reached : place < 2 ^ (12 + 9 * 
           let at : 8 * number place (a .page) (last + (stop .below - last)) ≡ stop .at =
           ap (λ (n : ℕ). 8 * number place (a .page) n) back ∙ sym (placed place (a .page) (stop .below)) ∙ sym (ap (λ (s : Stop). s .at) (a .is)) in
           let entry : entryOn (t .bytes) place (a .page) (last + (stop .below - last)) ≡ stop .entry =
-          ap (entryOf (t .bytes)) (ap (λ (n : ℕ). 8 * number place (a .page) n) back ∙ sym (placed place (a .page) (stop .below)))
+          ap (heldEntry (t .bytes)) (ap (λ (n : ℕ). 8 * number place (a .page) n) back ∙ sym (placed place (a .page) (stop .below)))
           ∙ sym (ap (λ (s : Stop). s .entry) (a .is)) in
           fuller tree place last (leaf last word) t (FilledBut (t .bytes) (t .marks) tree (a .page)) (NoneEmpty (t .bytes) (t .marks) tree)
           (all-but (t .bytes) (t .marks) tree (a .page))

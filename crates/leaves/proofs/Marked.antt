@@ -12,8 +12,8 @@ use lib.Dec.{eqb}
 use lib.ListN.{length, getD, set, replicate, length-set, length-replicate, getD-replicate, List·getD-eq-default}
 use lib.Seq.{getD-set-same}
 use Rattle.image.specs.Choice.{if_then_else_}
-use Rattle.image.proofs.GoodWindows.{both}
-use Rattle.tables.specs.Tables.{entryOf, present, mapsPage, tableEntry, tableOf, emptyTable}
+use Rattle.image.proofs.Choices.{both}
+use Rattle.tables.specs.Tables.{heldEntry, present, mapsPage, tableEntry, tableOf, emptyTable}
 use Rattle.tables.specs.declared.Tree.{Tree}
 use Rattle.marking.specs.Marking.{Marked, thenMark, freePage, leadsToFree, markEntry, markEntries, markTable, markLevel, markLevels, markAll}
 use Rattle.marking.proofs.Turns.{there}
@@ -76,8 +76,8 @@ module _ (bytes : List ℕ) (tree : Tree) (pages : ℕ) (placed : Placed tree pa
     pub sized : length marks ≡ pages
     pub top-marked : getD marks (tree .top / 4096) 0 ≡ tree .below + 1
     pub from : ℕ → ℕ
-    pub leads : (x n : ℕ) → S x n → getD marks (x / 512) 0 ≡ suc n → leadsOn n (entryOf bytes (8 * x)) ≡ true
-        → Leads tree marks from x n (entryOf bytes (8 * x))
+    pub leads : (x n : ℕ) → S x n → getD marks (x / 512) 0 ≡ suc n → leadsOn n (heldEntry bytes (8 * x)) ≡ true
+        → Leads tree marks from x n (heldEntry bytes (8 * x))
     pub filled : (page n : ℕ) → S (512 * page) n → getD marks page 0 ≡ suc n → (4096 * page ≡ tree .top → ⊥) → emptyTable bytes (4096 * page) ≡ false
 
   fewer : (S T : (x n : ℕ) → Type 0) (marks : List ℕ) → ((x n : ℕ) → T x n → getD marks (x / 512) 0 ≡ suc n → S x n) → Good S marks → Good T marks
@@ -107,20 +107,20 @@ module _ (bytes : List ℕ) (tree : Tree) (pages : ℕ) (placed : Placed tree pa
         go (no apart) = g .filled page n (inr (s .0, omega (arith, s .1, apart))) m top
 
     -- it leads nowhere
-    passes : leadsOn level (entryOf bytes (8 * z)) ≡ false → Good (Seen level (suc z)) marks
+    passes : leadsOn level (heldEntry bytes (8 * z)) ≡ false → Good (Seen level (suc z)) marks
     passes h = record { sized = g .sized; top-marked = g .top-marked; from = g .from; leads = led; filled = full-next }
       where
-        led : (x n : ℕ) → Seen level (suc z) x n → getD marks (x / 512) 0 ≡ suc n → leadsOn n (entryOf bytes (8 * x)) ≡ true
-            → Leads tree marks (g .from) x n (entryOf bytes (8 * x))
+        led : (x n : ℕ) → Seen level (suc z) x n → getD marks (x / 512) 0 ≡ suc n → leadsOn n (heldEntry bytes (8 * x)) ≡ true
+            → Leads tree marks (g .from) x n (heldEntry bytes (8 * x))
         led x n (inl s) m l = g .leads x n (inl s) m l
         led x n (inr s) m l = go (ℕ-discrete x z)
           where
-            go : Dec (x ≡ z) → Leads tree marks (g .from) x n (entryOf bytes (8 * x))
+            go : Dec (x ≡ z) → Leads tree marks (g .from) x n (heldEntry bytes (8 * x))
             go (yes same) = absurd (contradicts h (rw (s .0, same) at l))
             go (no apart) = g .leads x n (inr (s .0, omega (arith, s .1, apart))) m l
 
     -- it leads to a free page
-    module _ (f : ℕ) (is : entryOf bytes (8 * z) ≡ tableEntry (tree .start) (4096 * f)) (free : getD marks f 0 ≡ 0) (inside : f < length marks) where
+    module _ (f : ℕ) (is : heldEntry bytes (8 * z) ≡ tableEntry (tree .start) (4096 * f)) (free : getD marks f 0 ≡ 0) (inside : f < length marks) where
       abbrev from′ : ℕ → ℕ
       from′ page = if eqb page f then z else g .from page
 
@@ -140,10 +140,10 @@ module _ (bytes : List ℕ) (tree : Tree) (pages : ℕ) (placed : Placed tree pa
               let k = getD-set-same marks f level 0 inside in
               omega (arith, seen-deep level (suc z) (512 * page) n s)
 
-          kept : (x n : ℕ) → level ≤ n → Leads tree marks (g .from) x n (entryOf bytes (8 * x)) → leadsOn n (entryOf bytes (8 * x)) ≡ true
-              → Leads tree (set marks f level) from′ x n (entryOf bytes (8 * x))
+          kept : (x n : ℕ) → level ≤ n → Leads tree marks (g .from) x n (heldEntry bytes (8 * x)) → leadsOn n (heldEntry bytes (8 * x)) ≡ true
+              → Leads tree (set marks f level) from′ x n (heldEntry bytes (8 * x))
           kept x n less l h =
-              let deep = leads-deep n (entryOf bytes (8 * x)) h in
+              let deep = leads-deep n (heldEntry bytes (8 * x)) h in
               let not-f : l .page ≡ f → ⊥ = λ same. (let k = l .level in let k′ : getD marks f 0 ≡ n = rw same at k in omega arith) in
               record {
                 page = l .page;
@@ -158,8 +158,8 @@ module _ (bytes : List ℕ) (tree : Tree) (pages : ℕ) (placed : Placed tree pa
               let k = getD-set-same marks f level 0 inside in
               omega arith
 
-          led : (x n : ℕ) → Seen level (suc z) x n → getD (set marks f level) (x / 512) 0 ≡ suc n → leadsOn n (entryOf bytes (8 * x)) ≡ true
-              → Leads tree (set marks f level) from′ x n (entryOf bytes (8 * x))
+          led : (x n : ℕ) → Seen level (suc z) x n → getD (set marks f level) (x / 512) 0 ≡ suc n → leadsOn n (heldEntry bytes (8 * x)) ≡ true
+              → Leads tree (set marks f level) from′ x n (heldEntry bytes (8 * x))
           led x n s m h = go s (ℕ-discrete x z)
             where
               less : level ≤ n
@@ -168,7 +168,7 @@ module _ (bytes : List ℕ) (tree : Tree) (pages : ℕ) (placed : Placed tree pa
               m′ : getD marks (x / 512) 0 ≡ suc n
               m′ = sym (other-mark marks f level (x / 512) (outside x n less m)) ∙ m
 
-              go : Seen level (suc z) x n → Dec (x ≡ z) → Leads tree (set marks f level) from′ x n (entryOf bytes (8 * x))
+              go : Seen level (suc z) x n → Dec (x ≡ z) → Leads tree (set marks f level) from′ x n (heldEntry bytes (8 * x))
               go s (yes same) =
                   let m″ : getD marks (z / 512) 0 ≡ suc n = rw same at m′ in
                   let n-is : level ≡ n = omega arith in
@@ -186,13 +186,13 @@ module _ (bytes : List ℕ) (tree : Tree) (pages : ℕ) (placed : Placed tree pa
       pub good : Good (Seen level (suc z)) after
       pub stays : (page n : ℕ) → getD marks page 0 ≡ suc n → getD after page 0 ≡ suc n
 
-    lead : (e : ℕ) → e ≡ entryOf bytes (8 * z) → leadsToFree (tree .start) marks e ≡ true → Step (set marks (tableOf (tree .start) e / 4096) level)
+    lead : (e : ℕ) → e ≡ heldEntry bytes (8 * z) → leadsToFree (tree .start) marks e ≡ true → Step (set marks (tableOf (tree .start) e / 4096) level)
     lead e same h =
         let start = tree .start in
         let f = tableOf start e / 4096 in
         let b = both (eqb e (tableEntry start (tableOf start e))) (freePage marks (tableOf start e)) h in
         let whole = table-whole start e (placed .start-aligned) in
-        let is : entryOf bytes (8 * z) ≡ tableEntry start (4096 * f) =
+        let is : heldEntry bytes (8 * z) ≡ tableEntry start (4096 * f) =
         sym same ∙ eqb-true e (tableEntry start (tableOf start e)) (b .0) ∙ ap (tableEntry start) whole in
         let none = eqb-true (getD marks f 1) 0 (b .1) in
         let inside = free-inside marks f none in
@@ -202,13 +202,13 @@ module _ (bytes : List ℕ) (tree : Tree) (pages : ℕ) (placed : Placed tree pa
           stays = λ page n m. other-mark marks f level page (λ same. let m′ : getD marks f 0 ≡ suc n = rw same at m in omega arith) ∙ m;
         }
 
-    entry-step : markEntry (tree .start) level (entryOf bytes (8 * z)) marks .0 ≡ true
-        → Step (markEntry (tree .start) level (entryOf bytes (8 * z)) marks .1)
+    entry-step : markEntry (tree .start) level (heldEntry bytes (8 * z)) marks .0 ≡ true
+        → Step (markEntry (tree .start) level (heldEntry bytes (8 * z)) marks .1)
     unfolding markEntry
     entry-step = go (not (present e) || mapsPage level e) refl (leadsToFree (tree .start) marks e) refl
       where
         e : ℕ
-        e = entryOf bytes (8 * z)
+        e = heldEntry bytes (8 * z)
 
         ended : (p m : Bool) → (not p || m) ≡ true → (p && not m) ≡ false
         ended true true h = refl
@@ -232,7 +232,7 @@ module _ (bytes : List ℕ) (tree : Tree) (pages : ℕ) (placed : Placed tree pa
   entries-step level (suc k) z page marks g mark full from to h =
       let here : z / 512 ≡ page = omega arith in
       let next : 8 * z + 8 ≡ 8 * suc z = omega arith in
-      let one = markEntry (tree .start) level (entryOf bytes (8 * z)) marks in
+      let one = markEntry (tree .start) level (heldEntry bytes (8 * z)) marks in
       let good = then-good one (markEntries bytes (tree .start) level k (8 * z + 8)) h in
       let step = entry-step level z marks g (rw here mark) (rw here full) (good .0) in
       let rest : markEntries bytes (tree .start) level k (8 * suc z) (one .1) .0 ≡ true =

@@ -11,19 +11,19 @@ use lib.Dec.{eqb}
 use lib.ListN.{length, getD, List·getD-eq-default}
 use Rattle.image.specs.Choice.{if_then_else_}
 use Rattle.image.specs.Place.{Place, noEntry, entryAt}
-use Rattle.image.proofs.GoodWindows.{both}
+use Rattle.image.proofs.Choices.{both}
 use Rattle.dma.specs.Walk.{placeIn}
-use Rattle.tables.specs.Tables.{entryOf, present, mapsPage, tableOf}
+use Rattle.tables.specs.Tables.{heldEntry, present, mapsPage, tableOf}
 use Rattle.tables.specs.Way.{ends, stopIn, wayTo, way}
 use Rattle.tables.specs.declared.Tree.{Tree}
 use Rattle.tables.specs.declared.way.Stop.{Stop}
-use Rattle.leaves.specs.Leaves.{Leaf, none, leaf, leafAt, leafOver, placeOver}
+use Rattle.leaves.specs.Leaves.{Leaf, none, leaf, leafAtStop, leafOver, leafPlace}
 use Rattle.leaves.specs.WellBuilt.{leadsOn, Leads, WellBuilt}
 use Rattle.leaves.proofs.Addresses.{above, index, number, index-small, above-next, above-split, above-all, placed, table-back}
 
 -- the entry on the way in a page that is a table with so many levels below it
 abbrev pub entryOn : (bytes : List ℕ) (q page n : ℕ) → ℕ
-entryOn bytes q page n = entryOf bytes (8 * number q page n)
+entryOn bytes q page n = heldEntry bytes (8 * number q page n)
 
 pub data Passes (bytes : List ℕ) (tree : Tree) (q : ℕ) : ℕ → ℕ → Type 0 where
   at-top : {n page : ℕ} → n ≡ tree .below → 4096 * page ≡ tree .top → Passes bytes tree q n page
@@ -55,15 +55,15 @@ module _ (bytes bytes′ : List ℕ) (tree : Tree) (q : ℕ) (same : endOver byt
   unfolding leafOver endOver
   leaf-same = sym (by (way bytes′ tree q 0)) ∙ ap leafOf same ∙ by (way bytes tree q 0)
     where
-      by : (stop : Stop) → leafOf (endAt stop) ≡ leafAt stop
+      by : (stop : Stop) → leafOf (endAt stop) ≡ leafAtStop stop
       by stop = go (present (stop .entry))
         where
           go : (t : Bool) → leafOf (if t then at-page stop else no-page) ≡ (if t then leaf (stop .below) (stop .entry) else none)
           go true = refl
           go false = refl
 
-  pub place-same : placeOver bytes′ tree q ≡ placeOver bytes tree q
-  unfolding placeOver endOver
+  pub place-same : leafPlace bytes′ tree q ≡ leafPlace bytes tree q
+  unfolding leafPlace endOver
   place-same = sym (by (way bytes′ tree q 0)) ∙ ap placeOf same ∙ by (way bytes tree q 0)
     where
       by : (stop : Stop) → placeOf (endAt stop) ≡ (if present (stop .entry) then entryAt (stop .at) else noEntry)
@@ -118,7 +118,7 @@ module _ (bytes : List ℕ) (start q last n page : ℕ) where
   unfolding wayTo
   way-here h = go n (rw (← placed q page n) at h)
     where
-      go : (n : ℕ) → ends last n (entryOf bytes (placeIn q (4096 * page) n)) ≡ true
+      go : (n : ℕ) → ends last n (heldEntry bytes (placeIn q (4096 * page) n)) ≡ true
           → wayTo bytes start q last n (4096 * page) ≡ stopIn bytes q n (4096 * page)
       go zero h = refl
       go (suc n) h = rw h
@@ -153,10 +153,10 @@ passing-too bytes tree q r {n} {page} same (onward upper p leads down) =
 
 module _ (bytes marks : List ℕ) (tree : Tree) (w : WellBuilt bytes marks tree) where
   -- the table that an entry leads to
-  pub led-to : (x n : ℕ) → getD marks (x / 512) 0 ≡ suc n → (h : leadsOn n (entryOf bytes (8 * x)) ≡ true)
-      → (l : Leads tree marks (w .from) x n (entryOf bytes (8 * x))) → tableOf (tree .start) (entryOf bytes (8 * x)) ≡ 4096 * l .page
+  pub led-to : (x n : ℕ) → getD marks (x / 512) 0 ≡ suc n → (h : leadsOn n (heldEntry bytes (8 * x)) ≡ true)
+      → (l : Leads tree marks (w .from) x n (heldEntry bytes (8 * x))) → tableOf (tree .start) (heldEntry bytes (8 * x)) ≡ 4096 * l .page
   led-to x n mark h l =
-      let deep : 0 < n = leads-deep n (entryOf bytes (8 * x)) h in
+      let deep : 0 < n = leads-deep n (heldEntry bytes (8 * x)) h in
       let there : l .page < length marks = marked-inside marks (l .page) {n = n - 1} (l .level ∙ omega arith) in
       rw (l .entry) (table-back (tree .start) (l .page) (w .placed .start-aligned) (omega (arith, w .placed .fits)))
 
@@ -290,7 +290,7 @@ module _ (bytes marks : List ℕ) (tree : Tree) (w : WellBuilt bytes marks tree)
 
   -- a way goes on passing where the entries over a level are the same
   pub passing-still : (bytes′ : List ℕ) (level : ℕ)
-      → ((x n : ℕ) → level < n → getD marks (x / 512) 0 ≡ suc n → entryOf bytes′ (8 * x) ≡ entryOf bytes (8 * x))
+      → ((x n : ℕ) → level < n → getD marks (x / 512) 0 ≡ suc n → heldEntry bytes′ (8 * x) ≡ heldEntry bytes (8 * x))
       → (q : ℕ) {n page : ℕ} → level ≤ n → Passes bytes tree q n page → Passes bytes′ tree q n page
   passing-still bytes′ level same q less (at-top level′ top) = at-top level′ top
   passing-still bytes′ level same q {n} {page} less (onward upper p leads down) =

@@ -16,7 +16,7 @@ use lib.Seq.{getD-set-same, getD-set-other}
 use Rattle.image.specs.Bits.{bits}
 use Rattle.image.specs.Choice.{if_then_else_}
 use Rattle.image.specs.Memory.{withWord}
-use Rattle.tables.specs.Tables.{entryOf, present, tableEntry, tableOf, zeroed}
+use Rattle.tables.specs.Tables.{heldEntry, present, tableEntry, tableOf, wordsZeroed}
 use Rattle.tables.specs.Way.{wayTo}
 use Rattle.tables.specs.declared.Tree.{Tree}
 use Rattle.leaves.specs.Leaves.{none, leaf, leafOver}
@@ -50,10 +50,10 @@ pub contradicts : {b : Bool} → b ≡ false → b ≡ true → ⊥
 contradicts f t = let z : _≡_ {A = Bool} true false = sym t ∙ f in let y : _≡_ {A = ℕ} 0 1 = cc in omega arith
 
 -- an entry elsewhere stays
-pub other-kept : (bytes : List ℕ) (x word y : ℕ) → (y ≡ x → ⊥) → entryOf (withWord bytes (8 * x) word) (8 * y) ≡ entryOf bytes (8 * y)
+pub other-kept : (bytes : List ℕ) (x word y : ℕ) → (y ≡ x → ⊥) → heldEntry (withWord bytes (8 * x) word) (8 * y) ≡ heldEntry bytes (8 * y)
 other-kept bytes x word y apart = go (decLe y x)
   where
-    go : Dec (y ≤ x) → entryOf (withWord bytes (8 * x) word) (8 * y) ≡ entryOf bytes (8 * y)
+    go : Dec (y ≤ x) → heldEntry (withWord bytes (8 * x) word) (8 * y) ≡ heldEntry bytes (8 * y)
     go (yes h) = entry-kept bytes (8 * x) word (8 * y) (inl (omega (arith, apart)))
     go (no h) = entry-kept bytes (8 * x) word (8 * y) (inr (omega arith))
 
@@ -62,7 +62,7 @@ module _ (bytes marks : List ℕ) (tree : Tree) (w : WellBuilt bytes marks tree)
   in-region = let h = marked-inside marks (x / 512) mark in omega (arith, w .sized)
 
   -- an entry that leads nowhere over another such
-  module _ (word : ℕ) (fits : word < 2 ^ 64) (was : leadsOn level (entryOf bytes (8 * x)) ≡ false) (is : leadsOn level word ≡ false) where
+  module _ (word : ℕ) (fits : word < 2 ^ 64) (was : leadsOn level (heldEntry bytes (8 * x)) ≡ false) (is : leadsOn level word ≡ false) where
     pub stored-built : WellBuilt (withWord bytes (8 * x) word) marks tree
     stored-built =
         record {
@@ -73,13 +73,13 @@ module _ (bytes marks : List ℕ) (tree : Tree) (w : WellBuilt bytes marks tree)
           leads = led;
         }
       where
-        led : (y n : ℕ) → getD marks (y / 512) 0 ≡ suc n → leadsOn n (entryOf (withWord bytes (8 * x) word) (8 * y)) ≡ true
-            → Leads tree marks (w .from) y n (entryOf (withWord bytes (8 * x) word) (8 * y))
+        led : (y n : ℕ) → getD marks (y / 512) 0 ≡ suc n → leadsOn n (heldEntry (withWord bytes (8 * x) word) (8 * y)) ≡ true
+            → Leads tree marks (w .from) y n (heldEntry (withWord bytes (8 * x) word) (8 * y))
         led y n m h = go (ℕ-discrete y x)
           where
-            go : Dec (y ≡ x) → Leads tree marks (w .from) y n (entryOf (withWord bytes (8 * x) word) (8 * y))
+            go : Dec (y ≡ x) → Leads tree marks (w .from) y n (heldEntry (withWord bytes (8 * x) word) (8 * y))
             go (yes same) =
-                let e : entryOf (withWord bytes (8 * x) word) (8 * y) ≡ word = rw same (entry-stored bytes (8 * x) word in-region fits) in
+                let e : heldEntry (withWord bytes (8 * x) word) (8 * y) ≡ word = rw same (entry-stored bytes (8 * x) word in-region fits) in
                 let m′ : getD marks (x / 512) 0 ≡ suc n = rw same at m in
                 let deep : n ≡ level = omega arith in
                 absurd (contradicts is (rw (e, deep) at h))
@@ -146,9 +146,9 @@ table-leads start page level aligned deep =
 
 -- a table is made in a free page
 module _ (bytes marks : List ℕ) (tree : Tree) (w : WellBuilt bytes marks tree) (x level f : ℕ) (mark : getD marks (x / 512) 0 ≡ suc level)
-    (deep : 0 < level) (there : f < length marks) (free : getD marks f 0 ≡ 0) (was : present (entryOf bytes (8 * x)) ≡ false) where
+    (deep : 0 < level) (there : f < length marks) (free : getD marks f 0 ≡ 0) (was : present (heldEntry bytes (8 * x)) ≡ false) where
   abbrev cleared : List ℕ
-  cleared = zeroed 512 bytes (4096 * f)
+  cleared = wordsZeroed 512 bytes (4096 * f)
 
   abbrev made : List ℕ
   made = withWord cleared (8 * x) (tableEntry (tree .start) (4096 * f))
@@ -159,22 +159,22 @@ module _ (bytes marks : List ℕ) (tree : Tree) (w : WellBuilt bytes marks tree)
   made-sized : length made ≡ 4096 * length marks
   made-sized = length-stored cleared (8 * x) (tableEntry (tree .start) (4096 * f)) ∙ length-zeroed 512 bytes (4096 * f) ∙ w .sized
 
-  pub made-here : entryOf made (8 * x) ≡ tableEntry (tree .start) (4096 * f)
+  pub made-here : heldEntry made (8 * x) ≡ tableEntry (tree .start) (4096 * f)
   made-here =
       let h = marked-inside marks (x / 512) mark in
       entry-stored cleared (8 * x) (tableEntry (tree .start) (4096 * f)) (rw (length-zeroed 512 bytes (4096 * f)) (omega (arith, w .sized)))
       (omega (arith, w .placed .fits))
 
-  made-in-it : (y : ℕ) → y / 512 ≡ f → entryOf made (8 * y) ≡ 0
+  made-in-it : (y : ℕ) → y / 512 ≡ f → heldEntry made (8 * y) ≡ 0
   made-in-it y in-it =
       let place : 8 * y ≡ 4096 * f + 8 * (y % 512) = omega arith in
       other-kept cleared x (tableEntry (tree .start) (4096 * f)) y (λ same. not-free x level mark (rw same at in-it))
       ∙ rw place (zeroed-there 512 bytes (4096 * f) (y % 512) (omega (arith, w .sized)) (omega arith))
 
-  pub made-other : (y : ℕ) → (y ≡ x → ⊥) → (y / 512 ≡ f → ⊥) → entryOf made (8 * y) ≡ entryOf bytes (8 * y)
+  pub made-other : (y : ℕ) → (y ≡ x → ⊥) → (y / 512 ≡ f → ⊥) → heldEntry made (8 * y) ≡ heldEntry bytes (8 * y)
   made-other y apart outside = other-kept cleared x (tableEntry (tree .start) (4096 * f)) y apart ∙ go (decLe y (512 * f))
     where
-      go : Dec (y ≤ 512 * f) → entryOf cleared (8 * y) ≡ entryOf bytes (8 * y)
+      go : Dec (y ≤ 512 * f) → heldEntry cleared (8 * y) ≡ heldEntry bytes (8 * y)
       go (yes h) = zeroed-elsewhere 512 bytes (4096 * f) (8 * y) (inl (omega (arith, outside)))
       go (no h) = zeroed-elsewhere 512 bytes (4096 * f) (8 * y) (inr (omega (arith, outside)))
 
@@ -194,13 +194,13 @@ module _ (bytes marks : List ℕ) (tree : Tree) (w : WellBuilt bytes marks tree)
       top : getD (set marks f level) (tree .top / 4096) 0 ≡ tree .below + 1
       top = other-mark marks f level (tree .top / 4096) (λ same. let m = w .top-marked in let m′ : getD marks f 0 ≡ tree .below + 1 = rw same at m in omega arith) ∙ w .top-marked
 
-      led : (y n : ℕ) → getD (set marks f level) (y / 512) 0 ≡ suc n → leadsOn n (entryOf made (8 * y)) ≡ true
-          → Leads tree (set marks f level) from′ y n (entryOf made (8 * y))
+      led : (y n : ℕ) → getD (set marks f level) (y / 512) 0 ≡ suc n → leadsOn n (heldEntry made (8 * y)) ≡ true
+          → Leads tree (set marks f level) from′ y n (heldEntry made (8 * y))
       led y n m h = go (ℕ-discrete (y / 512) f) (ℕ-discrete y x)
         where
-          go : Dec (y / 512 ≡ f) → Dec (y ≡ x) → Leads tree (set marks f level) from′ y n (entryOf made (8 * y))
+          go : Dec (y / 512 ≡ f) → Dec (y ≡ x) → Leads tree (set marks f level) from′ y n (heldEntry made (8 * y))
           go (yes in-it) d =
-              let gone : leadsOn n (entryOf made (8 * y)) ≡ false = rw (made-in-it y in-it) (absent-ends n 0 zero-absent) in
+              let gone : leadsOn n (heldEntry made (8 * y)) ≡ false = rw (made-in-it y in-it) (absent-ends n 0 zero-absent) in
               absurd (contradicts gone h)
           go (no outside) (yes same) =
               let m′ : getD marks (y / 512) 0 ≡ suc n = sym (other-mark marks f level (y / 512) outside) ∙ m in
@@ -216,7 +216,7 @@ module _ (bytes marks : List ℕ) (tree : Tree) (w : WellBuilt bytes marks tree)
               let m′ : getD marks (y / 512) 0 ≡ suc n = sym (other-mark marks f level (y / 512) outside) ∙ m in
               let e = made-other y apart outside in
               let l = w .leads y n m′ (rw e at h) in
-              let n-deep : 0 < n = leads-deep n (entryOf bytes (8 * y)) (rw e at h) in
+              let n-deep : 0 < n = leads-deep n (heldEntry bytes (8 * y)) (rw e at h) in
               let not-f : l .page ≡ f → ⊥ = λ same. (let k = l .level in let k′ : getD marks f 0 ≡ n = rw same at k in omega arith) in
               record {
                 page = l .page;
@@ -225,10 +225,10 @@ module _ (bytes marks : List ℕ) (tree : Tree) (w : WellBuilt bytes marks tree)
                 alone = rw (ne-eqb (l .page) f not-f) (l .alone);
               }
 
-  pub made-leads : leadsOn level (entryOf made (8 * x)) ≡ true
+  pub made-leads : leadsOn level (heldEntry made (8 * x)) ≡ true
   made-leads = rw made-here (table-leads (tree .start) f level (w .placed .start-aligned) deep)
 
-  made-down : tableOf (tree .start) (entryOf made (8 * x)) ≡ 4096 * f
+  made-down : tableOf (tree .start) (heldEntry made (8 * x)) ≡ 4096 * f
   made-down = rw made-here (table-back (tree .start) f (w .placed .start-aligned) (omega (arith, w .placed .fits)))
 
   pub made-absent : (q n : ℕ) → present (entryOn made q f n) ≡ false
@@ -271,13 +271,13 @@ module _ (bytes marks : List ℕ) (tree : Tree) (w : WellBuilt bytes marks tree)
 
 -- an empty table is released
 module _ (bytes marks : List ℕ) (tree : Tree) (w : WellBuilt bytes marks tree) (x level f : ℕ) (mark : getD marks (x / 512) 0 ≡ suc level)
-    (leads : leadsOn level (entryOf bytes (8 * x)) ≡ true) (down : tableOf (tree .start) (entryOf bytes (8 * x)) ≡ 4096 * f)
-    (low : level ≤ tree .below) (empty : (y : ℕ) → y / 512 ≡ f → present (entryOf bytes (8 * y)) ≡ false) where
+    (leads : leadsOn level (heldEntry bytes (8 * x)) ≡ true) (down : tableOf (tree .start) (heldEntry bytes (8 * x)) ≡ 4096 * f)
+    (low : level ≤ tree .below) (empty : (y : ℕ) → y / 512 ≡ f → present (heldEntry bytes (8 * y)) ≡ false) where
   abbrev freed : List ℕ
   freed = withWord bytes (8 * x) 0
 
   deep : 0 < level
-  deep = leads-deep level (entryOf bytes (8 * x)) leads
+  deep = leads-deep level (heldEntry bytes (8 * x)) leads
 
   same-page : w .leads x level mark leads .page ≡ f
   same-page = let h = led-to bytes marks tree w x level mark leads (w .leads x level mark leads) in omega (arith, sym h ∙ down)
@@ -291,7 +291,7 @@ module _ (bytes marks : List ℕ) (tree : Tree) (w : WellBuilt bytes marks tree)
   pub f-inside : f < length marks
   f-inside = marked-inside marks f {n = level - 1} (f-level ∙ omega (arith, deep))
 
-  freed-here : entryOf freed (8 * x) ≡ 0
+  freed-here : heldEntry freed (8 * x) ≡ 0
   freed-here =
       let h = marked-inside marks (x / 512) mark in
       entry-stored bytes (8 * x) 0 (omega (arith, w .sized)) (omega arith)
@@ -309,17 +309,17 @@ module _ (bytes marks : List ℕ) (tree : Tree) (w : WellBuilt bytes marks tree)
       top : getD (set marks f 0) (tree .top / 4096) 0 ≡ tree .below + 1
       top = other-mark marks f 0 (tree .top / 4096) (λ same. let m = w .top-marked in let m′ : getD marks f 0 ≡ tree .below + 1 = rw same at m in omega (arith, f-level, m′)) ∙ w .top-marked
 
-      led : (y n : ℕ) → getD (set marks f 0) (y / 512) 0 ≡ suc n → leadsOn n (entryOf freed (8 * y)) ≡ true
-          → Leads tree (set marks f 0) (w .from) y n (entryOf freed (8 * y))
+      led : (y n : ℕ) → getD (set marks f 0) (y / 512) 0 ≡ suc n → leadsOn n (heldEntry freed (8 * y)) ≡ true
+          → Leads tree (set marks f 0) (w .from) y n (heldEntry freed (8 * y))
       led y n m h = go (ℕ-discrete (y / 512) f) (ℕ-discrete y x)
         where
-          go : Dec (y / 512 ≡ f) → Dec (y ≡ x) → Leads tree (set marks f 0) (w .from) y n (entryOf freed (8 * y))
+          go : Dec (y / 512 ≡ f) → Dec (y ≡ x) → Leads tree (set marks f 0) (w .from) y n (heldEntry freed (8 * y))
           go (yes in-it) d =
               let m′ : getD (set marks f 0) f 0 ≡ suc n = rw in-it at m in
               let z = getD-set-same marks f 0 0 f-inside in
               absurd (omega arith)
           go (no outside) (yes same) =
-              let gone : leadsOn n (entryOf freed (8 * y)) ≡ false = rw (same, freed-here) (absent-ends n 0 zero-absent) in
+              let gone : leadsOn n (heldEntry freed (8 * y)) ≡ false = rw (same, freed-here) (absent-ends n 0 zero-absent) in
               absurd (contradicts gone h)
           go (no outside) (no apart) =
               let m′ : getD marks (y / 512) 0 ≡ suc n = sym (other-mark marks f 0 (y / 512) outside) ∙ m in

@@ -9,9 +9,9 @@ use lib.Dec.{eqb}
 use lib.ListN.{getD}
 use Rattle.image.specs.Choice.{if_then_else_}
 use Rattle.image.specs.Memory.{withWord}
-use Rattle.image.proofs.GoodWindows.{both}
-use Rattle.tables.specs.Tables.{Tables, tables, entryOf, present, mapsPage, emptyTable}
-use Rattle.tables.specs.Unmapped.{withoutTable, released, leafHere, unmapped}
+use Rattle.image.proofs.Choices.{both}
+use Rattle.tables.specs.Tables.{Tables, tables, heldEntry, present, mapsPage, emptyTable}
+use Rattle.tables.specs.Unmapped.{withoutTable, freedTables, leafHere, unmapped}
 use Rattle.tables.specs.Way.{stopIn, way}
 use Rattle.tables.specs.declared.Tree.{Tree}
 use Rattle.tables.specs.declared.way.Stop.{Stop}
@@ -62,7 +62,7 @@ module _ (tree : Tree) (place : ℕ) where
       let mark : getD (t .marks) (x / 512) 0 ≡ suc (suc below) =
       rw (page-is place upper (suc below)) (passed-mark (t .bytes) (t .marks) tree w place p) in
       let all : emptyTable (t .bytes) (4096 * page) ≡ true = rw table at empty in
-      let absent : (y : ℕ) → y / 512 ≡ page → present (entryOf (t .bytes) (8 * y)) ≡ false =
+      let absent : (y : ℕ) → y / 512 ≡ page → present (heldEntry (t .bytes) (8 * y)) ≡ false =
       λ y in-it. (let spot : 8 * y ≡ 4096 * page + 8 * (y % 512) = omega arith in rw spot (each-absent 512 (t .bytes) (4096 * page) (y % 512) all (omega arith))) in
       let index-back : 4096 * page / 4096 ≡ page = omega arith in
       rw (table, at, index-back)
@@ -83,9 +83,9 @@ module _ (tree : Tree) (place : ℕ) where
 
   released-kept : (k below page : ℕ) (t : Tables) → WellBuilt (t .bytes) (t .marks) tree → below + k ≡ tree .below
       → Passes (t .bytes) tree place below page
-      → Kept tree t (released tree place k below t)
-      × (FilledBut (t .bytes) (t .marks) tree page → NoneEmpty (released tree place k below t .bytes) (released tree place k below t .marks) tree)
-  unfolding released
+      → Kept tree t (freedTables tree place k below t)
+      × (FilledBut (t .bytes) (t .marks) tree page → NoneEmpty (freedTables tree place k below t .bytes) (freedTables tree place k below t .marks) tree)
+  unfolding freedTables
   released-kept zero below page t w level passes = (
     record { built = w; same = λ q. refl },
     λ full. and-it (t .bytes) (t .marks) tree page (λ other. absurd (other (top-only (t .bytes) passes (omega arith)))) full,
@@ -99,11 +99,11 @@ module _ (tree : Tree) (place : ℕ) where
       go : (b : Bool) → emptyTable (t .bytes) (way (t .bytes) tree place below .table) ≡ b
           → ((upper : ℕ) (v : Tables) → WellBuilt (v .bytes) (v .marks) tree → suc below + k ≡ tree .below
           → Passes (v .bytes) tree place (suc below) upper
-          → Kept tree v (released tree place k (suc below) v)
-          × (FilledBut (v .bytes) (v .marks) tree upper → NoneEmpty (released tree place k (suc below) v .bytes) (released tree place k (suc below) v .marks) tree))
-          → Kept tree t (if b then released tree place k (suc below) u else t)
+          → Kept tree v (freedTables tree place k (suc below) v)
+          × (FilledBut (v .bytes) (v .marks) tree upper → NoneEmpty (freedTables tree place k (suc below) v .bytes) (freedTables tree place k (suc below) v .marks) tree))
+          → Kept tree t (if b then freedTables tree place k (suc below) u else t)
           × (FilledBut (t .bytes) (t .marks) tree page
-          → NoneEmpty ((if b then released tree place k (suc below) u else t) .bytes) ((if b then released tree place k (suc below) u else t) .marks) tree)
+          → NoneEmpty ((if b then freedTables tree place k (suc below) u else t) .bytes) ((if b then freedTables tree place k (suc below) u else t) .marks) tree)
       go false e on =
           let table : way (t .bytes) tree place below .table ≡ 4096 * page = ap (λ (s : Stop). s .table) (stop-there (t .bytes) tree place below page passes) in
           let some : emptyTable (t .bytes) (4096 * page) ≡ false = rw table at e in (
@@ -121,12 +121,12 @@ module _ (tree : Tree) (place : ℕ) where
     -- its entry is at a place of the last table on the way
     cut : (page : ℕ) → Passes (t .bytes) tree place last page → mapsPage last (entryOn (t .bytes) place page last) ≡ true
         → Changed tree place last none t
-        (released tree place (tree .below - last) last (tables (withWord (t .bytes) (8 * number place page last) 0) (t .marks)))
+        (freedTables tree place (tree .below - last) last (tables (withWord (t .bytes) (8 * number place page last) 0) (t .marks)))
         (NoneEmpty (t .bytes) (t .marks) tree)
     cut page p maps =
         let x = number place page last in
         let mark : getD (t .marks) (x / 512) 0 ≡ suc last = rw (page-is place page last) (passed-mark (t .bytes) (t .marks) tree w place p) in
-        let was = maps-ends last (entryOf (t .bytes) (8 * x)) maps in
+        let was = maps-ends last (heldEntry (t .bytes) (8 * x)) maps in
         let is = absent-ends last 0 zero-absent in
         let small : 0 < 2 ^ 64 = omega arith in
         let u : Tables = tables (withWord (t .bytes) (8 * x) 0) (t .marks) in
@@ -135,7 +135,7 @@ module _ (tree : Tree) (place : ℕ) where
         record {
           built = kept .0 .built;
           here = λ q h.
-              leaf-same (u .bytes) (released tree place (tree .below - last) last u .bytes) tree q (kept .0 .same q)
+              leaf-same (u .bytes) (freedTables tree place (tree .below - last) last u .bytes) tree q (kept .0 .same q)
               ∙ stored-here (t .bytes) (t .marks) tree w x last mark 0 small was is place page p refl q h ∙ rw zero-absent;
           elsewhere = λ q hq h. kept .0 .same q ∙ stored-elsewhere (t .bytes) (t .marks) tree w x last mark 0 small was is place page p refl reached q hq h;
           filled = λ full. kept .1 (stored-but (t .bytes) (t .marks) tree x 0 page (in-region (t .bytes) (t .marks) tree w x last mark) small (page-is place page last) (all-but (t .bytes) (t .marks) tree page full));
@@ -151,9 +151,9 @@ module _ (tree : Tree) (place : ℕ) where
         stop = way (t .bytes) tree place last
 
         go : Arrived (t .bytes) (t .marks) tree w place last stop → (b : Bool) → leafHere last stop ≡ b
-            → (if_then_else_ {A = ℕ × Tables} b (0, released tree place (tree .below - last) last (tables (withWord (t .bytes) (stop .at) 0) (t .marks))) (8, t)) .0 ≡ 0
+            → (if_then_else_ {A = ℕ × Tables} b (0, freedTables tree place (tree .below - last) last (tables (withWord (t .bytes) (stop .at) 0) (t .marks))) (8, t)) .0 ≡ 0
             → Changed tree place last none t
-            ((if_then_else_ {A = ℕ × Tables} b (0, released tree place (tree .below - last) last (tables (withWord (t .bytes) (stop .at) 0) (t .marks))) (8, t)) .1)
+            ((if_then_else_ {A = ℕ × Tables} b (0, freedTables tree place (tree .below - last) last (tables (withWord (t .bytes) (stop .at) 0) (t .marks))) (8, t)) .1)
             (NoneEmpty (t .bytes) (t .marks) tree)
         go a false e taken = absurd (omega arith)
         go a true e taken =
@@ -162,8 +162,8 @@ module _ (tree : Tree) (place : ℕ) where
             let there : stop ≡ stopIn (t .bytes) place last (4096 * a .page) = a .is ∙ ap (λ (n : ℕ). stopIn (t .bytes) place n (4096 * a .page)) level in
             let at : 8 * number place (a .page) last ≡ stop .at = sym (placed place (a .page) last) ∙ sym (ap (λ (s : Stop). s .at) there) in
             let entry : entryOn (t .bytes) place (a .page) last ≡ stop .entry =
-            ap (entryOf (t .bytes)) (sym (placed place (a .page) last)) ∙ sym (ap (λ (s : Stop). s .entry) there) in
+            ap (heldEntry (t .bytes)) (sym (placed place (a .page) last)) ∙ sym (ap (λ (s : Stop). s .entry) there) in
             subst (λ (at : ℕ). Changed tree place last none t
-            (released tree place (tree .below - last) last (tables (withWord (t .bytes) at 0) (t .marks)))
+            (freedTables tree place (tree .below - last) last (tables (withWord (t .bytes) at 0) (t .marks)))
             (NoneEmpty (t .bytes) (t .marks) tree)) at
             (cut (a .page) (subst (λ (n : ℕ). Passes (t .bytes) tree place n (a .page)) level (a .passes)) (rw entry (b .1)))

@@ -9,7 +9,7 @@ use Rattle.tables.specs.Tables.{Tables, emptyTable}
 use Rattle.tables.specs.declared.Tree.{Tree}
 use Rattle.marking.specs.Marking.{markAll}
 use Rattle.builder.specs.Items.{itemAt, takeItems}
-use Rattle.leaves.specs.Leaves.{leafOver, placeOver, holds, left}
+use Rattle.leaves.specs.Leaves.{leafOver, leafPlace, holds, left}
 use Rattle.leaves.specs.WellBuilt.{Placed, WellBuilt, NoneEmpty}
 
 -- tables that the builder lets pass are as built here
@@ -43,7 +43,7 @@ pub record Leaves (tree : Tree) (numbers : List ℕ) (n i : ℕ) (before after :
       → leafOver (after .bytes) tree address ≡ left numbers n i address (leafOver (before .bytes) tree address)
   pub kept : (address : ℕ) → address < 2 ^ (12 + 9 * (tree .below + 1))
       → ((j : ℕ) → i ≤ j → j < i + n → holds (itemAt numbers j) address ≡ false)
-      → placeOver (after .bytes) tree address ≡ placeOver (before .bytes) tree address
+      → leafPlace (after .bytes) tree address ≡ leafPlace (before .bytes) tree address
   pub none-empty : NoneEmpty (before .bytes) (before .marks) tree → NoneEmpty (after .bytes) (after .marks) tree
 
 abbrev pub ItemsLeave : Type 0

@@ -23,16 +23,16 @@ onLeaf none absent some = absent
 onLeaf (leaf below e) absent some = some below e
 
 -- where a way ends
-abbrev pub leafAt : Stop → Leaf
-leafAt stop = if present (stop .entry) then leaf (stop .below) (stop .entry) else none
+abbrev pub leafAtStop : Stop → Leaf
+leafAtStop stop = if present (stop .entry) then leaf (stop .below) (stop .entry) else none
 
 -- the page over an address: at the end of the way to it, all levels down
 unfoldable pub leafOver : (bytes : List ℕ) → Tree → (address : ℕ) → Leaf
-leafOver bytes tree address = leafAt (way bytes tree address 0)
+leafOver bytes tree address = leafAtStop (way bytes tree address 0)
 
 -- the entry that maps it, by its place in the region
-unfoldable pub placeOver : (bytes : List ℕ) → Tree → (address : ℕ) → Place
-placeOver bytes tree address =
+unfoldable pub leafPlace : (bytes : List ℕ) → Tree → (address : ℕ) → Place
+leafPlace bytes tree address =
     if present (way bytes tree address 0 .entry) then entryAt (way bytes tree address 0 .at) else noEntry
 
 -- an item's page holds an address

@@ -6,7 +6,7 @@ use mathlib.Core.Bool.{Bool, true, false, not, _&&_}
 use mathlib.Core.List.{List}
 use mathlib.Core.Path.{_≡_}
 use lib.ListN.{length, getD}
-use Rattle.tables.specs.Tables.{entryOf, present, mapsPage, tableEntry, emptyTable}
+use Rattle.tables.specs.Tables.{heldEntry, present, mapsPage, tableEntry, emptyTable}
 use Rattle.tables.specs.declared.Tree.{Tree}
 
 -- a region of so many pages, and the top table in it: both begin at multiples of 4096, the region ends at or below 2^52, and there is
@@ -34,8 +34,8 @@ pub record WellBuilt (bytes marks : List ℕ) (tree : Tree) : Type 0 where
   pub sized : length bytes ≡ 4096 * length marks
   pub top-marked : getD marks (tree .top / 4096) 0 ≡ tree .below + 1
   pub from : (page : ℕ) → ℕ
-  pub leads : (n below : ℕ) → getD marks (n / 512) 0 ≡ suc below → leadsOn below (entryOf bytes (8 * n)) ≡ true
-      → Leads tree marks from n below (entryOf bytes (8 * n))
+  pub leads : (n below : ℕ) → getD marks (n / 512) 0 ≡ suc below → leadsOn below (heldEntry bytes (8 * n)) ≡ true
+      → Leads tree marks from n below (heldEntry bytes (8 * n))
 
 -- no table but the top one is empty: pages of emptied tables are free
 abbrev pub NoneEmpty : (bytes marks : List ℕ) → Tree → Type 0

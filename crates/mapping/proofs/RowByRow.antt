@@ -10,7 +10,7 @@ use lib.Seq.{take-at, take-all, drop-drop, drop-append-add}
 use Rattle.dma.specs.InterruptRange.{spanAt}
 use Rattle.regions.specs.Region.{Region}
 use Rattle.mapping.specs.Filled.{FilledWith}
-use Rattle.mapping.specs.Rows.{rowOf, rowsOf, laidOver}
+use Rattle.mapping.specs.Rows.{spanRow, rowsOf, laidOver}
 use Rattle.mapping.specs.Search.{FirstSpan}
 use Rattle.mapping.specs.Spans.{Span, spanOf, spansAfter}
 use Rattle.mapping.specs.Told.{room}
@@ -18,7 +18,7 @@ use Rattle.mapping.specs.Told.{room}
 pub rows-append : (a b : List Span) → rowsOf (a ++ b) ≡ rowsOf a ++ rowsOf b
 unfolding rowsOf
 rows-append [] b = refl
-rows-append (s ∷ ss) b = ap (λ l. rowOf s ++ l) (rows-append ss b) ∙ sym (append-assoc (rowOf s) (rowsOf ss) (rowsOf b))
+rows-append (s ∷ ss) b = ap (λ l. spanRow s ++ l) (rows-append ss b) ∙ sym (append-assoc (spanRow s) (rowsOf ss) (rowsOf b))
 
 pub rows-length : (l : List Span) → length (rowsOf l) ≡ 4 * length l
 unfolding rowsOf
@@ -26,7 +26,7 @@ rows-length [] = refl
 rows-length (s ∷ ss) = let rest = rows-length ss in omega arith
 
 -- a row takes the place of another
-pub put-length : (before after : List ℕ) (n : ℕ) (s : Span) → after ≡ take n before ++ (rowOf s ++ drop (n + 4) before)
+pub put-length : (before after : List ℕ) (n : ℕ) (s : Span) → after ≡ take n before ++ (spanRow s ++ drop (n + 4) before)
     → n + 4 ≤ length before → length after ≡ length before
 put-length before after n s is fits = ap length is ∙ simp (length-append, length-take, length-drop) (omega arith)
 
@@ -81,7 +81,7 @@ module _ (region : (address : ℕ) → Region) (end : ℕ) (before : List ℕ) w
           }
 
       pub done-more : {after′ : List ℕ} → 4 * count + 4 ≤ length before
-          → after′ ≡ take (4 * count) after ++ (rowOf span ++ drop (4 * count + 4) after)
+          → after′ ≡ take (4 * count) after ++ (spanRow span ++ drop (4 * count + 4) after)
           → Done region end before after′ (count + 1) (start + spanAt (r .level))
       unfolding rowsOf
       done-more {after′} fits is =
@@ -109,4 +109,4 @@ module _ (region : (address : ℕ) → Region) (end : ℕ) (before : List ℕ) w
           row-more =
               let four : 4 * (count + 1) ≡ 4 * count + 4 = omega arith in
               is
-              ∙ rw (first, last, four, rows-append (d .spans) (span ∷ [])) (sym (append-assoc (rowsOf (d .spans)) (rowOf span) (drop (4 * count + 4) before)))
+              ∙ rw (first, last, four, rows-append (d .spans) (span ∷ [])) (sym (append-assoc (rowsOf (d .spans)) (spanRow span) (drop (4 * count + 4) before)))

@@ -14,18 +14,18 @@ valueOf (fault reason) = reason
 valueOf (refused number) = number
 valueOf nothing = 0
 
-abbrev pub kindOf : What → ℕ
-kindOf (page frame) = 0
-kindOf (fault reason) = 1
-kindOf (refused number) = 2
-kindOf nothing = 3
+abbrev pub whatKind : What → ℕ
+whatKind (page frame) = 0
+whatKind (fault reason) = 1
+whatKind (refused number) = 2
+whatKind nothing = 3
 
-abbrev pub rowOf : Span → List ℕ
-rowOf s = s .start ∷ s .size ∷ valueOf (s .what) ∷ (4 * kindOf (s .what) + rightsNumber (s .rights)) ∷ []
+abbrev pub spanRow : Span → List ℕ
+spanRow s = s .start ∷ s .size ∷ valueOf (s .what) ∷ (4 * whatKind (s .what) + rightsNumber (s .rights)) ∷ []
 
 unfoldable pub rowsOf : List Span → List ℕ
 rowsOf [] = []
-rowsOf (s ∷ ss) = rowOf s ++ rowsOf ss
+rowsOf (s ∷ ss) = spanRow s ++ rowsOf ss
 
 -- numbers in the place of the first ones; all others stay
 abbrev pub laidOver : (numbers buffer : List ℕ) → List ℕ

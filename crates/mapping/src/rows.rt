@@ -4,7 +4,7 @@ ghost use mathlib.Core.Path.{_≡_};
 ghost use lib.ListN.{length, take, drop};
 ghost use Prim.Native.Nat.{_+_, _*_, _<_, _≤_, _^_, min};
 ghost use Rattle.regions.specs.Answers.{whatOf, regionOf};
-ghost use Rattle.mapping.specs.Rows.{valueOf, kindOf, rowOf};
+ghost use Rattle.mapping.specs.Rows.{valueOf, whatKind, spanRow};
 ghost use Rattle.mapping.specs.Spans.{spanOf};
 ghost use Rattle.mapping.specs.Told.{room as roomIn};
 use regions::Region;
@@ -36,7 +36,7 @@ fn value(what: What) -> u64
 }
 
 fn kind(what: What) -> u64
-    ensures { λ r. ⌜ (r ≡ kindOf (whatOf what)) × (r < 4) ⌝ }
+    ensures { λ r. ⌜ (r ≡ whatKind (whatOf what)) × (r < 4) ⌝ }
 {
     match what {
         What::Page(_) => 0,
@@ -66,7 +66,7 @@ fn smaller(a: u64, b: u64) -> u64
 
 pub(crate) fn put_span(rows: &mut [u64], count: usize, end: u64, start: u64, region: Region)
     requires { ⌜ (4 * count + 4 ≤ length (now rows)) × (start < end) × (0 < region .level) × (region .level ≤ 6) ⌝ }
-    ensures { λ r. ⌜ now (rows .exit) ≡ take (4 * count) (now (rows .entry)) ++ (rowOf (spanOf end start (regionOf region)) ++ drop (4 * count + 4) (now (rows .entry))) ⌝ }
+    ensures { λ r. ⌜ now (rows .exit) ≡ take (4 * count) (now (rows .entry)) ++ (spanRow (spanOf end start (regionOf region)) ++ drop (4 * count + 4) (now (rows .entry))) ⌝ }
 {
     let size = smaller(table_span(region.level - 1), end - start);
     let what = region.what;

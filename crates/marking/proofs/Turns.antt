@@ -10,7 +10,7 @@ use lib.Dec.{eqb}
 use lib.ListN.{length, getD, set, drop, replicate, length-replicate, replicate-append-replicate}
 use lib.Seq.{drop-cons, drop-length, set-at}
 use Rattle.image.specs.Choice.{if_then_else_}
-use Rattle.tables.specs.Tables.{entryOf, present, mapsPage, tableOf, emptyTable}
+use Rattle.tables.specs.Tables.{heldEntry, present, mapsPage, tableOf, emptyTable}
 use Rattle.tables.specs.declared.Tree.{Tree}
 use Rattle.tables.proofs.Folds.{again, none-left}
 use Rattle.marking.specs.Marking.{Marked, thenMark, freePage, leadsToFree, markEntry, markEntries, markTable, markLevel, markLevels, markAll}
@@ -52,7 +52,7 @@ module _ (start below e : ℕ) (marks : List ℕ) where
 
 module _ (bytes : List ℕ) (start below at : ℕ) (marks : List ℕ) (n : ℕ) where
   pub entries-first : 0 < n
-      → thenMark (markEntry start below (entryOf bytes at) marks) (markEntries bytes start below (n - 1) (at + 8))
+      → thenMark (markEntry start below (heldEntry bytes at) marks) (markEntries bytes start below (n - 1) (at + 8))
       ≡ markEntries bytes start below n at marks
   unfolding markEntries
   entries-first h = sym (ap (λ (k : ℕ). markEntries bytes start below k at marks) (again n h))

@@ -8,7 +8,7 @@ use mathlib.Core.List.{List}
 use lib.Dec.{eqb, ltb}
 use lib.ListN.{length, getD, set, replicate}
 use Rattle.image.specs.Choice.{if_then_else_}
-use Rattle.tables.specs.Tables.{entryOf, present, mapsPage, tableEntry, tableOf, emptyTable}
+use Rattle.tables.specs.Tables.{heldEntry, present, mapsPage, tableEntry, tableOf, emptyTable}
 use Rattle.tables.specs.declared.Tree.{Tree}
 
 -- good so far or not, and the marks
@@ -37,7 +37,7 @@ markEntry start below e marks =
 unfoldable pub markEntries : (bytes : List ℕ) (start below : ℕ) → (n at : ℕ) (marks : List ℕ) → Marked
 markEntries bytes start below zero at marks = (true, marks)
 markEntries bytes start below (suc n) at marks =
-    thenMark (markEntry start below (entryOf bytes at) marks) (markEntries bytes start below n (at + 8))
+    thenMark (markEntry start below (heldEntry bytes at) marks) (markEntries bytes start below n (at + 8))
 
 module _ (bytes : List ℕ) (tree : Tree) where
   -- a page, if it is a table of the level that has so many below it

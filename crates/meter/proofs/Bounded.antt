@@ -14,7 +14,7 @@ use lib.Ieee.Exact.{HasValue}
 use lib.Ieee.Fits.{core, round-is, and-l, and-r, up-pos, down-pos}
 use lib.Ieee.Order.{transfer, round-mono, le-of-values}
 use lib.Ieee.Scale.{round-same, round-val, round-under, grid, finite}
-use Rattle.meter.specs.Meter.{nought, half, most, tickLoad}
+use Rattle.meter.specs.Meter.{nought, oneHalf, most, tickLoad}
 use Rattle.meter.specs.Refused.{finite as isFinite}
 use Rattle.meter.specs.Runs.{InRange}
 use Rattle.meter.proofs.Exactly.{mul-of, add-of, half-value, count-value, never}
@@ -103,13 +103,13 @@ in-range n d D h = (
 module _ (x : Float) (a c count : ℕ) (C : 0 < c) (value : HasValue x false a c) (load : a ≤ 131070 * c) (few : count ≤ 65535) where
   pub stays-positive : InRange (tickLoad x count)
   stays-positive =
-      let halved : mul binary64 x half ≡ round binary64 false a (c * 2) =
-      mul-of binary64 x half a c 1 2 C (lit< tt) value half-value ∙ ap (λ (i : ℕ). round binary64 false i (c * 2)) (mul-one a) in
+      let halved : mul binary64 x oneHalf ≡ round binary64 false a (c * 2) =
+      mul-of binary64 x oneHalf a c 1 2 C (lit< tt) value half-value ∙ ap (λ (i : ℕ). round binary64 false i (c * 2)) (mul-one a) in
       let s = small a (c * 2) (omega arith) (omega arith) in
       let g = grid binary64 a (c * 2) in
       let exact = subst (λ (y : Float). HasValue y false g (2 ^ 1074)) (sym halved) (s .0) in
       let added : tickLoad x count ≡ round binary64 false (g * 1 + count * 2 ^ 1074) (2 ^ 1074 * 1) =
-      add-of binary64 (mul binary64 x half) (ofInt binary64 (pos count)) g (2 ^ 1074) count 1 (pow-pos 1074) (lit< tt) exact (count-value count (omega arith)) in
+      add-of binary64 (mul binary64 x oneHalf) (ofInt binary64 (pos count)) g (2 ^ 1074) count 1 (pow-pos 1074) (lit< tt) exact (count-value count (omega arith)) in
       let scaled : count * 2 ^ 1074 ≤ 65535 * 2 ^ 1074 = mul-le-mul-right (2 ^ 1074) few in
       subst InRange (sym added)
       (in-range (g * 1 + count * 2 ^ 1074) (2 ^ 1074 * 1) (mul-pos {n = 1} (pow-pos 1074) (lit< tt)) (total g count (2 ^ 1074) (s .1) scaled))
@@ -139,7 +139,7 @@ minus-is : round binary64 true 0 1 ≡ fin true 0 (pos 0)
 unfolding round size span climb units odd
 minus-is = refl
 
-half-minus : (m : ℕ) (e : ℤ) → m * up e ≡ 0 → mul binary64 (fin true m e) half ≡ fin true 0 (pos 0)
+half-minus : (m : ℕ) (e : ℤ) → m * up e ≡ 0 → mul binary64 (fin true m e) oneHalf ≡ fin true 0 (pos 0)
 unfolding mul ofBits ofFields odd
 half-minus m e none =
     round-same binary64 true (m * up e * (1 * 1)) (down e * 2) 0 1 (mul-pos (down-pos e) (lit< tt)) (lit< tt)

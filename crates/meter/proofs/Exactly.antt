@@ -14,8 +14,8 @@ use lib.Ieee.Back.{round-whole}
 use lib.Ieee.Exact.{HasValue, round-exact}
 use lib.Ieee.Fits.{up-pos, down-pos}
 use lib.Ieee.Scale.{round-same}
-use Rattle.meter.specs.Meter.{nought, half, tickLoad}
-use Rattle.meter.specs.Runs.{weighed, quiet}
+use Rattle.meter.specs.Meter.{nought, oneHalf, tickLoad}
+use Rattle.meter.specs.Runs.{weighedByHalving, quiet}
 
 -- the load after a reset and these counts, the newest first
 unfoldable pub loadAfter : List ℕ → Float
@@ -82,7 +82,7 @@ unrounded a n small deep =
     (lt-of-lt-of-le (shl-lt 53 j small) (pow-mono {j = 1074 + 1024} (omega arith)))
     (ap (λ (i : ℕ). a * 2 ^ i) whole ∙ ap (λ (i : ℕ). a * i) (pow-add 2 j n) ∙ sym (mul-assoc a (2 ^ j) (2 ^ n)))
 
-pub half-value : HasValue half false 1 2
+pub half-value : HasValue oneHalf false 1 2
 unfolding ofBits ofFields odd
 half-value = (refl, refl)
 
@@ -101,12 +101,12 @@ pow-suc n = let one-more : suc n ≡ n + 1 = omega arith in ap (λ (i : ℕ). 2 
 pub tick-exact : (x : Float) (a n c : ℕ) → HasValue x false a (2 ^ n) → n < 1074 → c ≤ 2 ^ 53 → a + c * 2 ^ suc n < 2 ^ 53
     → HasValue (tickLoad x c) false (a + c * 2 ^ suc n) (2 ^ suc n)
 tick-exact x a n c value deep few small =
-    let halved : mul binary64 x half ≡ round binary64 false a (2 ^ suc n) =
-    mul-of binary64 x half a (2 ^ n) 1 2 (pow-pos n) (lit< tt) value half-value
+    let halved : mul binary64 x oneHalf ≡ round binary64 false a (2 ^ suc n) =
+    mul-of binary64 x oneHalf a (2 ^ n) 1 2 (pow-pos n) (lit< tt) value half-value
     ∙ ap₂ (λ (i j : ℕ). round binary64 false i j) (mul-one a) (sym (pow-suc n)) in
     let exact = subst (λ (y : Float). HasValue y false a (2 ^ suc n)) (sym halved) (unrounded a (suc n) (omega arith) (omega arith)) in
     let added : tickLoad x c ≡ round binary64 false (a + c * 2 ^ suc n) (2 ^ suc n) =
-    add-of binary64 (mul binary64 x half) (ofInt binary64 (pos c)) a (2 ^ suc n) c 1 (pow-pos (suc n)) (lit< tt) exact (count-value c few)
+    add-of binary64 (mul binary64 x oneHalf) (ofInt binary64 (pos c)) a (2 ^ suc n) c 1 (pow-pos (suc n)) (lit< tt) exact (count-value c few)
     ∙ ap₂ (λ (i j : ℕ). round binary64 false (i + c * 2 ^ suc n) j) (mul-one a) (mul-one (2 ^ suc n)) in
     subst (λ (y : Float). HasValue y false (a + c * 2 ^ suc n) (2 ^ suc n)) (sym added) (unrounded (a + c * 2 ^ suc n) (suc n) small (omega arith))
 
@@ -121,8 +121,8 @@ rescale (fin t m e) a c b d C h v = (
 )
 
 -- less than 2^17 for each unit
-weighed-lt : (k : ℕ) (cs : List ℕ) → Counts cs → weighed k cs < 131072 * 2 ^ k
-unfolding weighed Counts
+weighed-lt : (k : ℕ) (cs : List ℕ) → Counts cs → weighedByHalving k cs < 131072 * 2 ^ k
+unfolding weighedByHalving Counts
 weighed-lt k [] h = mul-pos (lit< tt) (pow-pos k)
 weighed-lt zero (c ∷ cs) h = omega (arith, h .0)
 weighed-lt (suc k) (c ∷ cs) h =
@@ -135,8 +135,8 @@ few k h =
     let up-to : 2 ^ k ≤ 2 ^ 32 = pow-mono {j = 32} h in
     omega (arith, up-to)
 
-pub exactly : (k : ℕ) (cs : List ℕ) → Counts cs → length cs ≤ suc k → k ≤ 31 → HasValue (loadAfter cs) false (weighed k cs) (2 ^ k)
-unfolding loadAfter weighed Counts
+pub exactly : (k : ℕ) (cs : List ℕ) → Counts cs → length cs ≤ suc k → k ≤ 31 → HasValue (loadAfter cs) false (weighedByHalving k cs) (2 ^ k)
+unfolding loadAfter weighedByHalving Counts
 exactly k [] h short deep = rescale nought 0 1 0 (2 ^ k) (lit< tt) (sym (zero-mul (2 ^ k))) nought-value
 exactly zero (c ∷ []) h short deep =
     rescale (tickLoad nought c) (0 + c * 2 ^ 1) (2 ^ 1) c 1 (lit< tt) (omega arith)
@@ -144,12 +144,12 @@ exactly zero (c ∷ []) h short deep =
 exactly zero (c ∷ d ∷ cs) h short deep = absurd (omega arith)
 exactly (suc k) (c ∷ cs) h short deep =
     let all = weighed-lt (suc k) (c ∷ cs) h in
-    subst (λ (i : ℕ). HasValue (tickLoad (loadAfter cs) c) false i (2 ^ suc k)) (add-comm (weighed k cs) (c * 2 ^ suc k))
-    (tick-exact (loadAfter cs) (weighed k cs) k c (exactly k cs (h .1) (omega arith) (omega arith)) (omega arith) (omega (arith, h .0))
+    subst (λ (i : ℕ). HasValue (tickLoad (loadAfter cs) c) false i (2 ^ suc k)) (add-comm (weighedByHalving k cs) (c * 2 ^ suc k))
+    (tick-exact (loadAfter cs) (weighedByHalving k cs) k c (exactly k cs (h .1) (omega arith) (omega arith)) (omega arith) (omega (arith, h .0))
     (omega (arith, all, few (suc k) (omega arith))))
 
 -- the first 32 ticks after a reset
-pub first-32 : (cs : List ℕ) → Counts cs → length cs ≤ 32 → HasValue (loadAfter cs) false (weighed 31 cs) (2 ^ 31)
+pub first-32 : (cs : List ℕ) → Counts cs → length cs ≤ 32 → HasValue (loadAfter cs) false (weighedByHalving 31 cs) (2 ^ 31)
 first-32 cs h short = exactly 31 cs h short (lit≤ tt)
 
 quiet-length : (c k : ℕ) → length (quiet c k) ≡ suc k
@@ -157,8 +157,8 @@ unfolding quiet
 quiet-length c zero = refl
 quiet-length c (suc k) = ap suc (quiet-length c k)
 
-quiet-weight : (c k : ℕ) → weighed k (quiet c k) ≡ c
-unfolding quiet weighed
+quiet-weight : (c k : ℕ) → weighedByHalving k (quiet c k) ≡ c
+unfolding quiet weighedByHalving
 quiet-weight c zero = refl
 quiet-weight c (suc k) = omega (arith, quiet-weight c k, zero-mul (2 ^ suc k))
 

@@ -4,11 +4,12 @@ use mathlib.Core.Path.{_≡_, refl, ap, ap₂, sym, _∙_, subst}
 use mathlib.Core.Bool.{Bool, true, false, cond, not, _&&_, _||_}
 use mathlib.Core.List.{List, [], _∷_, map}
 use native.Mathlib.Omega.{arith}
+use borrow.Author.Tests.{not-true, not-false}
 use lib.Dec.{T, eqb, eqb→eq}
 use lib.ListN.{length, getD, set}
 use Rattle.meter.specs.declared.Meter.{Meter}
-use Rattle.meter.specs.Meter.{ticked, byteOf}
-use Rattle.meter.specs.Refused.{some, badCount, badMeter, refused}
+use Rattle.meter.specs.Meter.{ticked, meterByte}
+use Rattle.meter.specs.Refused.{some, badCount, badMeter, tickRefused}
 use Rattle.meter.specs.Row.{tickedAll, tickRow}
 use Rattle.meter.proofs.Exactly.{never}
 
@@ -35,7 +36,7 @@ marks zero ms cs bs = bs
 marks (suc i) [] cs bs = bs
 marks (suc i) (m ∷ ms) [] bs = bs
 marks (suc i) (m ∷ ms) (c ∷ cs) [] = []
-marks (suc i) (m ∷ ms) (c ∷ cs) (b ∷ bs) = byteOf (ticked m c) ∷ marks i ms cs bs
+marks (suc i) (m ∷ ms) (c ∷ cs) (b ∷ bs) = meterByte (ticked m c) ∷ marks i ms cs bs
 
 and-more : (a b c : Bool) → (a && b && c) ≡ (a && (b && c))
 and-more true b c = refl
@@ -83,14 +84,14 @@ steps-next zero (m ∷ ms) (c ∷ cs) d l k = refl
 steps-next (suc i) (m ∷ ms) (c ∷ cs) d l k = ap (λ (t : List Meter). ticked m c ∷ t) (steps-next i ms cs d (omega arith) (omega arith))
 
 pub marks-next : (i : ℕ) (ms : List Meter) (cs bs : List ℕ) (d : Meter) → i < length ms → i < length cs → i < length bs
-    → set (marks i ms cs bs) i (byteOf (ticked (getD (steps i ms cs) i d) (getD cs i 0))) ≡ marks (suc i) ms cs bs
+    → set (marks i ms cs bs) i (meterByte (ticked (getD (steps i ms cs) i d) (getD cs i 0))) ≡ marks (suc i) ms cs bs
 unfolding steps marks
 marks-next i [] cs bs d l k h = absurd (omega arith)
 marks-next i (m ∷ ms) [] bs d l k h = absurd (omega arith)
 marks-next i (m ∷ ms) (c ∷ cs) [] d l k h = absurd (omega arith)
 marks-next zero (m ∷ ms) (c ∷ cs) (b ∷ bs) d l k h = refl
 marks-next (suc i) (m ∷ ms) (c ∷ cs) (b ∷ bs) d l k h =
-    ap (λ (t : List ℕ). byteOf (ticked m c) ∷ t) (marks-next i ms cs bs d (omega arith) (omega arith) (omega arith))
+    ap (λ (t : List ℕ). meterByte (ticked m c) ∷ t) (marks-next i ms cs bs d (omega arith) (omega arith) (omega arith))
 
 -- ---- after all turns
 shuffle : (a b c d : Bool) → (not (a || b) && not (c || d)) ≡ not ((a || c) || (b || d))
@@ -114,25 +115,17 @@ steps-all [] cs = refl
 steps-all (m ∷ ms) [] = refl
 steps-all (m ∷ ms) (c ∷ cs) = ap (λ (t : List Meter). ticked m c ∷ t) (steps-all ms cs)
 
-pub marks-all : (ms : List Meter) (cs bs : List ℕ) → length cs ≡ length ms → length bs ≡ length ms → marks (length ms) ms cs bs ≡ map byteOf (tickedAll ms cs)
+pub marks-all : (ms : List Meter) (cs bs : List ℕ) → length cs ≡ length ms → length bs ≡ length ms → marks (length ms) ms cs bs ≡ map meterByte (tickedAll ms cs)
 unfolding marks tickedAll
 marks-all [] cs [] same one = refl
 marks-all [] cs (b ∷ bs) same one = absurd (omega arith)
 marks-all (m ∷ ms) [] bs same one = absurd (omega arith)
 marks-all (m ∷ ms) (c ∷ cs) [] same one = absurd (omega arith)
-marks-all (m ∷ ms) (c ∷ cs) (b ∷ bs) same one = ap (λ (t : List ℕ). byteOf (ticked m c) ∷ t) (marks-all ms cs bs (omega arith) (omega arith))
+marks-all (m ∷ ms) (c ∷ cs) (b ∷ bs) same one = ap (λ (t : List ℕ). meterByte (ticked m c) ∷ t) (marks-all ms cs bs (omega arith) (omega arith))
 
 holds : (t : Bool) → t ≡ true → T t
 holds true _ = tt
 holds false e = never (sym e)
-
-flip : (t : Bool) → not t ≡ true → t ≡ false
-flip true e = never (sym e)
-flip false e = refl
-
-flop : (t : Bool) → not t ≡ false → t ≡ true
-flop true e = refl
-flop false e = never e
 
 pub both-true : (a b : Bool) → (a && b) ≡ true → (a ≡ true) × (b ≡ true)
 both-true true b e = (refl, e)
@@ -163,7 +156,7 @@ module _ (ms : List Meter) (cs bs : List ℕ) where
   kept = (false, ms, bs)
 
   abbrev done : Bool × List Meter × List ℕ
-  done = (true, tickedAll ms cs, map byteOf (tickedAll ms cs))
+  done = (true, tickedAll ms cs, map meterByte (tickedAll ms cs))
 
   abbrev bads : Bool
   bads = some badCount cs || some badMeter ms
@@ -175,10 +168,10 @@ module _ (ms : List Meter) (cs bs : List ℕ) where
   uneven e = judged false e
 
   pub one-bad : even ≡ true → not bads ≡ false → kept ≡ tickRow ms cs bs
-  one-bad e f = sym (ap (λ (t : Bool). cond t kept done) (flop bads f)) ∙ judged true e
+  one-bad e f = sym (ap (λ (t : Bool). cond t kept done) (not-false bads f)) ∙ judged true e
 
   pub all-good : even ≡ true → not bads ≡ true → done ≡ tickRow ms cs bs
-  all-good e f = sym (ap (λ (t : Bool). cond t kept done) (flip bads f)) ∙ judged true e
+  all-good e f = sym (ap (λ (t : Bool). cond t kept done) (not-true bads f)) ∙ judged true e
 
   outcome : (g h : Bool) → even ≡ g → (g && allFit (cond g (length ms) 0) ms cs) ≡ h
       → (h, steps (cond h (length ms) 0) ms cs, marks (cond h (length ms) 0) ms cs bs) ≡ tickRow ms cs bs

@@ -11,10 +11,10 @@ use lib.Ieee.{Float, le, ofBits, ofFields, odd}
 use lib.Ieee.Exact.{HasValue}
 use Rattle.meter.specs.declared.Gate.the-variants.{Off}
 use Rattle.meter.specs.declared.Meter.{Meter}
-use Rattle.meter.specs.Meter.{nought, most, tickLoad, tripsOf, ticked, byteOf, cleared}
-use Rattle.meter.specs.Refused.{some, badCount, badLoad, badGate, badMeter, refused}
+use Rattle.meter.specs.Meter.{nought, most, tickLoad, tripsOf, ticked, meterByte, cleared}
+use Rattle.meter.specs.Refused.{some, badCount, badLoad, badGate, badMeter, tickRefused}
 use Rattle.meter.specs.Row.{tickedAll, tickRow, resetRow}
-use Rattle.meter.specs.Runs.{Tick, rowAfter, countsAt, meterAt, weighed, quiet, FirstTicks, Decays, InRange, NeverAbove, StaysInRange, BytesTell}
+use Rattle.meter.specs.Runs.{Tick, rowAfter, countsAt, meterAt, weighedByHalving, quiet, FirstTicks, Decays, InRange, NeverAbove, StaysInRange, BytesTell}
 use Rattle.meter.proofs.Exactly.{never, loadAfter, Counts, first-32, decays}
 use Rattle.meter.proofs.Bounded.{stays-bounded}
 
@@ -42,7 +42,7 @@ cleared-at [] place inside = absurd (omega arith)
 cleared-at (m ∷ row) zero inside = refl
 cleared-at (m ∷ row) (suc place) inside = cleared-at row place (omega arith)
 
-byte-at : (row : List Meter) (place : ℕ) → place < length row → getD (map byteOf row) place 0 ≡ byteOf (meterAt row place)
+byte-at : (row : List Meter) (place : ℕ) → place < length row → getD (map meterByte row) place 0 ≡ meterByte (meterAt row place)
 byte-at [] place inside = absurd (omega arith)
 byte-at (m ∷ row) zero inside = refl
 byte-at (m ∷ row) (suc place) inside = byte-at row place (omega arith)
@@ -63,7 +63,7 @@ none test [] place other h inside = absurd (omega arith)
 none test (x ∷ xs) zero other h inside = neither (test x) (some test xs) h .0
 none test (x ∷ xs) (suc place) other h inside = none test xs place other (neither (test x) (some test xs) h .1) (omega arith)
 
-module _ (row : List Meter) (counts bytes : List ℕ) (good : refused row counts bytes ≡ false) where
+module _ (row : List Meter) (counts bytes : List ℕ) (good : tickRefused row counts bytes ≡ false) where
   parts : (not (eqb (length counts) (length row) && eqb (length bytes) (length row)) ≡ false) × (some badCount counts ≡ false) × (some badMeter row ≡ false)
   parts =
       let lists = not (eqb (length counts) (length row) && eqb (length bytes) (length row)) in
@@ -93,21 +93,21 @@ stays-in-range row counts bytes place good inside =
 
 pub bytes-tell : BytesTell
 bytes-tell row counts bytes place good inside =
-    ap (λ (t : Bool). getD (cond {A = Bool × List Meter × List ℕ} t (false, row, bytes) (true, tickedAll row counts, map byteOf (tickedAll row counts)) .2) place 0) good
+    ap (λ (t : Bool). getD (cond {A = Bool × List Meter × List ℕ} t (false, row, bytes) (true, tickedAll row counts, map meterByte (tickedAll row counts)) .2) place 0) good
     ∙ byte-at (tickedAll row counts) place (subst (λ (n : ℕ). place < n) (sym (tickedAll-length row counts)) inside)
-    ∙ ap byteOf (at-place row counts bytes good place inside)
+    ∙ ap meterByte (at-place row counts bytes good place inside)
 
 -- ---- a row after a reset and ticks
 module _ (row : List Meter) where
   after-length : (ticks : List Tick) → length (rowAfter row ticks) ≡ length row
   unfolding rowAfter
   after-length [] = cleared-length row
-  after-length (tick ∷ earlier) = go (refused was (tick .counts) (tick .bytes)) (after-length earlier)
+  after-length (tick ∷ earlier) = go (tickRefused was (tick .counts) (tick .bytes)) (after-length earlier)
     where
       was : List Meter
       was = rowAfter row earlier
 
-      go : (t : Bool) → length was ≡ length row → length (cond {A = Bool × List Meter × List ℕ} t (false, was, tick .bytes) (true, tickedAll was (tick .counts), map byteOf (tickedAll was (tick .counts))) .1) ≡ length row
+      go : (t : Bool) → length was ≡ length row → length (cond {A = Bool × List Meter × List ℕ} t (false, was, tick .bytes) (true, tickedAll was (tick .counts), map meterByte (tickedAll was (tick .counts))) .1) ≡ length row
       go true before = before
       go false before = tickedAll-length was (tick .counts) ∙ before
 
@@ -118,13 +118,13 @@ module _ (row : List Meter) where
     load-after : (ticks : List Tick) → meterAt (rowAfter row ticks) place .load ≡ loadAfter (countsAt row place ticks)
     unfolding rowAfter countsAt loadAfter
     load-after [] = cleared-at row place inside
-    load-after (tick ∷ earlier) = go (load-after earlier) (refused was (tick .counts) (tick .bytes)) refl
+    load-after (tick ∷ earlier) = go (load-after earlier) (tickRefused was (tick .counts) (tick .bytes)) refl
       where
         was : List Meter
         was = rowAfter row earlier
 
-        go : meterAt was place .load ≡ loadAfter (countsAt row place earlier) → (t : Bool) → refused was (tick .counts) (tick .bytes) ≡ t
-            → meterAt (cond {A = Bool × List Meter × List ℕ} t (false, was, tick .bytes) (true, tickedAll was (tick .counts), map byteOf (tickedAll was (tick .counts))) .1) place .load
+        go : meterAt was place .load ≡ loadAfter (countsAt row place earlier) → (t : Bool) → tickRefused was (tick .counts) (tick .bytes) ≡ t
+            → meterAt (cond {A = Bool × List Meter × List ℕ} t (false, was, tick .bytes) (true, tickedAll was (tick .counts), map meterByte (tickedAll was (tick .counts))) .1) place .load
             ≡ loadAfter (cond t (countsAt row place earlier) (getD (tick .counts) place 0 ∷ countsAt row place earlier))
         go before true e = before
         go before false e =
@@ -134,12 +134,12 @@ module _ (row : List Meter) where
     all-few : (ticks : List Tick) → Counts (countsAt row place ticks)
     unfolding countsAt Counts
     all-few [] = tt
-    all-few (tick ∷ earlier) = go (all-few earlier) (refused was (tick .counts) (tick .bytes)) refl
+    all-few (tick ∷ earlier) = go (all-few earlier) (tickRefused was (tick .counts) (tick .bytes)) refl
       where
         was : List Meter
         was = rowAfter row earlier
 
-        go : Counts (countsAt row place earlier) → (t : Bool) → refused was (tick .counts) (tick .bytes) ≡ t → Counts (cond t (countsAt row place earlier) (getD (tick .counts) place 0 ∷ countsAt row place earlier))
+        go : Counts (countsAt row place earlier) → (t : Bool) → tickRefused was (tick .counts) (tick .bytes) ≡ t → Counts (cond t (countsAt row place earlier) (getD (tick .counts) place 0 ∷ countsAt row place earlier))
         go before true e = before
         go before false e = (few was (tick .counts) (tick .bytes) e place (within earlier), before)
 
@@ -151,7 +151,7 @@ always (c ∷ counts) h = stays-bounded (loadAfter counts) c (always counts (h .
 -- ---- the claims
 pub first-ticks : FirstTicks
 first-ticks row ticks place inside short =
-    subst (λ (x : Float). HasValue x false (weighed 31 (countsAt row place ticks)) (2 ^ 31)) (sym (load-after row place inside ticks))
+    subst (λ (x : Float). HasValue x false (weighedByHalving 31 (countsAt row place ticks)) (2 ^ 31)) (sym (load-after row place inside ticks))
     (first-32 (countsAt row place ticks) (all-few row place inside ticks) short)
 
 pub decay : Decays

@@ -11,15 +11,15 @@ use Rattle.meter.specs.declared.Meter.{Meter}
 abbrev pub nought : Float
 nought = ofBits binary64 0
 
-abbrev pub half : Float
-half = ofBits binary64 0x3fe0_0000_0000_0000
+abbrev pub oneHalf : Float
+oneHalf = ofBits binary64 0x3fe0_0000_0000_0000
 
 abbrev pub most : Float
 most = ofBits binary64 0x40ff_ffe0_0000_0000
 
 -- halved, then the count added, in that order
 abbrev pub tickLoad : Float → ℕ → Float
-tickLoad load count = add binary64 (mul binary64 load half) (ofInt binary64 (pos count))
+tickLoad load count = add binary64 (mul binary64 load oneHalf) (ofInt binary64 (pos count))
 
 abbrev pub ticked : Meter → ℕ → Meter
 ticked meter count = record { load = tickLoad (meter .load) count; gate = meter .gate }
@@ -31,8 +31,8 @@ tripsOf (Above limit) load = lt limit load
 tripsOf (Outside low high) load = lt load low || lt high load
 
 -- a meter's lent byte
-abbrev pub byteOf : Meter → ℕ
-byteOf meter = cond (tripsOf (meter .gate) (meter .load)) 1 0
+abbrev pub meterByte : Meter → ℕ
+meterByte meter = cond (tripsOf (meter .gate) (meter .load)) 1 0
 
 -- a load of 0, and the gate as it was
 abbrev pub cleared : Meter → Meter

@@ -40,8 +40,8 @@ some test [] = false
 some test (x ∷ xs) = test x || some test xs
 
 -- counts or bytes not one per meter, a bad count, or a bad meter
-abbrev pub refused : List Meter → List ℕ → List ℕ → Bool
-refused row counts bytes =
+abbrev pub tickRefused : List Meter → List ℕ → List ℕ → Bool
+tickRefused row counts bytes =
     not (eqb (length counts) (length row) && eqb (length bytes) (length row))
     || some badCount counts
     || some badMeter row

@@ -1,6 +1,6 @@
 // A storm meter: a load that halves on each tick, and a gate that the load may trip.
 ghost use mathlib.Core.Path.{_≡_};
-ghost use Rattle.meter.specs.Meter.{tickLoad, ticked, tripsOf, byteOf, cleared};
+ghost use Rattle.meter.specs.Meter.{tickLoad, ticked, tripsOf, meterByte, cleared};
 
 mod check;
 mod row;
@@ -51,7 +51,7 @@ pub fn trips(gate: Gate, load: f64) -> bool
 
 // What becomes of the meter's lent byte.
 pub fn byte(meter: Meter) -> u8
-    ensures { λ r. ⌜ r ≡ byteOf meter ⌝ }
+    ensures { λ r. ⌜ r ≡ meterByte meter ⌝ }
 {
     let gate = meter.gate;
     trips(gate, meter.load) as u8

@@ -16,9 +16,9 @@ use Rattle.dma.specs.Walk.{Step, done, down, onStep, placeIn, walkRules}
 use Rattle.dma.proofs.Walks.{every-walk}
 use Rattle.pasid.specs.declared.ScalableRegisters.{ScalableRegisters}
 use Rattle.pasid.specs.declared.table.PasidEntry.{PasidEntry}
-use Rattle.second.specs.Second.{fault as noPage, atTop, unfetchable, secondStep, secondRules}
+use Rattle.second.specs.Second.{fault as noPage, atTop, noSecondEntry, secondStep, secondRules}
 use Rattle.second.specs.declared.step.Wanted.{Wanted}
-use Rattle.nested.specs.Pages.{Pages, reached, fault, Handed, handed, unfetched, wantedOfEntry, wantedOfPage, toEntry, toPage, intermediateRules, locate, pageRules, walkStep, firstRules, pagesRules}
+use Rattle.nested.specs.Pages.{Pages, reached, fault, FirstHanded, firstHanded, noFirstEntry, wantedOfEntry, wantedOfPage, toEntry, toPage, intermediateRules, locate, hostPageRules, walkStep, firstRules, pagesRules}
 use Rattle.nested.specs.Then.{thenRules}
 use Rattle.nested.specs.Way.{Located, located, lost, onLocated, entryRules, ended, wayRules}
 
@@ -90,27 +90,27 @@ module _ {S A : Type 0} (kind : EntryKind) (address : ℕ) (find : S → (place 
       after (lost a) ih = few-answer _ a
 
 module _ (r : ScalableRegisters) (p : PasidEntry) where
-  few-intermediate : (wanted : Wanted) (address : ℕ) (s : Handed) → p .«second_levels» ≤ 5 → Few 5 (intermediateRules r p wanted address (s .flags))
+  few-intermediate : (wanted : Wanted) (address : ℕ) (s : FirstHanded) → p .«second_levels» ≤ 5 → Few 5 (intermediateRules r p wanted address (s .flags))
   unfolding intermediateRules
   few-intermediate wanted address s few =
       few-if 5 (overflows (r .base) (p .«second_levels») address) (answer (noPage 0x74 (p .fpd))) _ (λ over. few-answer 5 _)
       (λ within.
       few-more (p .«second_levels») 5 _ few
-      (few-walk address (unfetchable r p wanted) (secondStep r p wanted) (p .«second_levels») (p .«second_top») (atTop (s .flags))))
+      (few-walk address (noSecondEntry r p wanted) (secondStep r p wanted) (p .«second_levels») (p .«second_top») (atTop (s .flags))))
 
   module _ (second : p .kind ≡ 3 → p .«second_levels» ≤ 5) where
-    few-locate : (s : Handed) (place : ℕ) → Few 5 (locate r p s place)
+    few-locate : (s : FirstHanded) (place : ℕ) → Few 5 (locate r p s place)
     unfolding locate
     few-locate s place =
         few-if 5 (eqb (p .kind) 3) _ (answer (located place s))
         (λ three. few-map (toEntry (s .top) place) 5 _ (few-intermediate (wantedOfEntry p) place s (second (eqb-true (p .kind) 3 three))))
         (λ other. few-answer 5 _)
 
-    few-page : (write : Bool) (a : Pages) → Few 5 (pageRules r p write a)
-    unfolding pageRules
+    few-page : (write : Bool) (a : Pages) → Few 5 (hostPageRules r p write a)
+    unfolding hostPageRules
     few-page write (reached frame level host flags) =
         few-if 5 (eqb (p .kind) 3) _ (answer (reached frame level host flags))
-        (λ three. few-map (toPage host) 5 _ (few-intermediate (wantedOfPage write) host (handed false flags) (second (eqb-true (p .kind) 3 three))))
+        (λ three. few-map (toPage host) 5 _ (few-intermediate (wantedOfPage write) host (firstHanded false flags) (second (eqb-true (p .kind) 3 three))))
         (λ other. few-answer 5 _)
     few-page write (fault reason fpd) = few-answer 5 _
 
@@ -118,6 +118,6 @@ module _ (r : ScalableRegisters) (p : PasidEntry) where
     pub few-pages : (address : ℕ) (write : Bool) → p .«first_levels» ≤ 5 → Few 35 (pagesRules r p address write)
     few-pages address write first =
         few-more (p .«first_levels» * 6 + 5) 35 _ (omega arith)
-        (few-then (λ w. w) (pageRules r p write) (λ a. Unit {0}) (p .«first_levels» * 6) 5 (firstRules r p address write (p .«first_levels») (p .«first_top») (handed true []))
-        (few-way firstLevelEntry address (locate r p) (unfetched p) (walkStep r p address write) 5 few-locate (p .«first_levels») (p .«first_top») (handed true []))
+        (few-then (λ w. w) (hostPageRules r p write) (λ a. Unit {0}) (p .«first_levels» * 6) 5 (firstRules r p address write (p .«first_levels») (p .«first_top») (firstHanded true []))
+        (few-way firstLevelEntry address (locate r p) (noFirstEntry p) (walkStep r p address write) 5 few-locate (p .«first_levels») (p .«first_top») (firstHanded true []))
         (λ a here. few-page write a))

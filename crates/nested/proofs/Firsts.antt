@@ -16,7 +16,7 @@ use Rattle.pasid.specs.declared.ScalableRegisters.{ScalableRegisters}
 use Rattle.pasid.specs.declared.table.PasidEntry.{PasidEntry}
 use Rattle.flags.specs.Flags.{flag}
 use Rattle.first.specs.First.{FirstStep, down as downTo, page, fault as stop, onFirst, firstFlags, firstReserved, flagClear, notSnooped, userDenied, writeDenied, firstFrame, firstStep}
-use Rattle.nested.specs.Pages.{Pages, reached, fault, Handed, handed, entryFlags, unfetched, locate, walkStep, firstRules}
+use Rattle.nested.specs.Pages.{Pages, reached, fault, FirstHanded, firstHanded, entryFlags, noFirstEntry, locate, walkStep, firstRules}
 use Rattle.nested.specs.Way.{Located, located, lost}
 use Rattle.image.specs.EntryKind.{firstLevelEntry}
 use Rattle.nested.specs.Answers.{LevelGrows}
@@ -49,21 +49,21 @@ one-by-one p dirty place l = by dirty (p .eafe)
     by false true = together (l ++ (flag place 5 ∷ [])) _ _ ∙ together l _ _
     by false false = together (l ++ (flag place 5 ∷ [])) _ _ ∙ together l _ _
 
-module _ (r : ScalableRegisters) (p : PasidEntry) (address : ℕ) (write : Bool) (level place : ℕ) (s : Handed) (e : ℕ) where
+module _ (r : ScalableRegisters) (p : PasidEntry) (address : ℕ) (write : Bool) (level place : ℕ) (s : FirstHanded) (e : ℕ) where
   told : {x : FirstStep} → x ≡ firstStep r p write (s .writable) level e
-      → onFirst x (λ table. down table (handed false (s .flags ++ entryFlags p write false place e)))
+      → onFirst x (λ table. down table (firstHanded false (s .flags ++ entryFlags p write false place e)))
       (λ frame level. done (reached frame level (hostAddress level frame address) (s .flags ++ entryFlags p write true place e)))
       (λ reason fpd. done (fault reason fpd))
       ≡ walkStep r p address write level place s e
   told h =
       ap
-      (λ x. onFirst x (λ table. down table (handed false (s .flags ++ entryFlags p write false place e)))
+      (λ x. onFirst x (λ table. down table (firstHanded false (s .flags ++ entryFlags p write false place e)))
       (λ frame level. done (reached frame level (hostAddress level frame address) (s .flags ++ entryFlags p write true place e)))
       (λ reason fpd. done (fault reason fpd)))
       h
 
   pub down-told : {table : ℕ} → downTo table ≡ firstStep r p write (s .writable) level e
-      → down table (handed false (s .flags ++ entryFlags p write false place e)) ≡ walkStep r p address write level place s e
+      → down table (firstHanded false (s .flags ++ entryFlags p write false place e)) ≡ walkStep r p address write level place s e
   down-told h = told h
 
   pub page-told : {frame of : ℕ} → page frame of ≡ firstStep r p write (s .writable) level e
@@ -103,19 +103,19 @@ above-one r p write writable level e some h =
 
 -- a level of the first level over a memory, and the last entry that it tries
 module _ (r : ScalableRegisters) (p : PasidEntry) (address : ℕ) (write : Bool) where
-  abbrev pub levelOver : Memory → (below table : ℕ) → Handed → Step Handed Pages
-  levelOver = wayOver firstLevelEntry address (locate r p) (unfetched p) (walkStep r p address write)
+  abbrev pub levelOver : Memory → (below table : ℕ) → FirstHanded → Step FirstHanded Pages
+  levelOver = wayOver firstLevelEntry address (locate r p) (noFirstEntry p) (walkStep r p address write)
 
-  abbrev pub levelTried : (before : Place) → Memory → (below table : ℕ) → Handed → Place
-  levelTried = triedOver firstLevelEntry address (locate r p) (unfetched p) (walkStep r p address write)
+  abbrev pub levelTried : (before : Place) → Memory → (below table : ℕ) → FirstHanded → Place
+  levelTried = triedOver firstLevelEntry address (locate r p) (noFirstEntry p) (walkStep r p address write)
 
-module _ (r : ScalableRegisters) (p : PasidEntry) (address : ℕ) (write : Bool) (m : Memory) (n table : ℕ) (s : Handed) where
-  step-leads : (place : ℕ) (t : Handed) (e next : ℕ) (u : Handed) → down next u ≡ walkStep r p address write (suc n) place t e → 0 < n
+module _ (r : ScalableRegisters) (p : PasidEntry) (address : ℕ) (write : Bool) (m : Memory) (n table : ℕ) (s : FirstHanded) where
+  step-leads : (place : ℕ) (t : FirstHanded) (e next : ℕ) (u : FirstHanded) → down next u ≡ walkStep r p address write (suc n) place t e → 0 < n
   step-leads place t e next u = by (firstStep r p write (t .writable) (suc n) e) refl
     where
       by : (x : FirstStep) → x ≡ firstStep r p write (t .writable) (suc n) e
           → down next u
-          ≡ onFirst x (λ table. down table (handed false (t .flags ++ entryFlags p write false place e)))
+          ≡ onFirst x (λ table. down table (firstHanded false (t .flags ++ entryFlags p write false place e)))
           (λ frame level. done (reached frame level (hostAddress level frame address) (t .flags ++ entryFlags p write true place e)))
           (λ reason fpd. done (fault reason fpd))
           → 0 < n
@@ -124,47 +124,47 @@ module _ (r : ScalableRegisters) (p : PasidEntry) (address : ℕ) (write : Bool)
       by (stop reason fpd) is h = let z : _≡_ {A = ℕ} 0 1 = cc in absurd (omega arith)
 
   -- a level that leads down is not the last
-  pub not-last : {next : ℕ} {t : Handed} → down next t ≡ levelOver r p address write m n table s → 0 < n
+  pub not-last : {next : ℕ} {t : FirstHanded} → down next t ≡ levelOver r p address write m n table s → 0 < n
   not-last =
-      leads-by firstLevelEntry address (locate r p) (unfetched p) (walkStep r p address write) m n table s (λ next. 0 < n) step-leads
+      leads-by firstLevelEntry address (locate r p) (noFirstEntry p) (walkStep r p address write) m n table s (λ next. 0 < n) step-leads
 
 -- one level, by what the way to its entry says
-module _ (r : ScalableRegisters) (p : PasidEntry) (address : ℕ) (write : Bool) (m : Memory) (n table : ℕ) (s : Handed) where
-  abbrev way : Rules (Located Handed Pages)
+module _ (r : ScalableRegisters) (p : PasidEntry) (address : ℕ) (write : Bool) (m : Memory) (n table : ℕ) (s : FirstHanded) where
+  abbrev way : Rules (Located FirstHanded Pages)
   way = locate r p s (placeIn address table n)
 
   pub stopped : {a : Pages} → lost a ≡ run way m → done a ≡ levelOver r p address write m n table s
-  stopped = lost-over firstLevelEntry address (locate r p) (unfetched p) (walkStep r p address write) m n table s
+  stopped = lost-over firstLevelEntry address (locate r p) (noFirstEntry p) (walkStep r p address write) m n table s
 
   pub stopped-at : (before : Place) {here : Place} {a : Pages} → lost a ≡ run way m → here ≡ lastTried before way m
       → here ≡ levelTried r p address write before m n table s
   stopped-at before h there =
-      there ∙ lost-tried firstLevelEntry address (locate r p) (unfetched p) (walkStep r p address write) m n table s before h
+      there ∙ lost-tried firstLevelEntry address (locate r p) (noFirstEntry p) (walkStep r p address write) m n table s before h
 
-  module _ {place : ℕ} {t : Handed} (h : located place t ≡ run way m) where
+  module _ {place : ℕ} {t : FirstHanded} (h : located place t ≡ run way m) where
     pub entered : entryOver r p address write m (suc n) place t ≡ levelOver r p address write m n table s
-    entered = fetched-over firstLevelEntry address (locate r p) (unfetched p) (walkStep r p address write) m n table s h
+    entered = fetched-over firstLevelEntry address (locate r p) (noFirstEntry p) (walkStep r p address write) m n table s h
 
     pub entered-at : (before : Place) → entryAt place ≡ levelTried r p address write before m n table s
-    entered-at = found-tried firstLevelEntry address (locate r p) (unfetched p) (walkStep r p address write) m n table s h
+    entered-at = found-tried firstLevelEntry address (locate r p) (noFirstEntry p) (walkStep r p address write) m n table s h
 
 -- the laws of every walk with a way to its entries, at this one
-module _ (r : ScalableRegisters) (p : PasidEntry) (address : ℕ) (write : Bool) (m : Memory) (level table : ℕ) (s : Handed) (more : 0 < level) where
+module _ (r : ScalableRegisters) (p : PasidEntry) (address : ℕ) (write : Bool) (m : Memory) (level table : ℕ) (s : FirstHanded) (more : 0 < level) where
   pub ended : {a : Pages} → done a ≡ levelOver r p address write m (level - 1) table s → a ≡ run (firstRules r p address write level table s) m
-  ended = ended-way firstLevelEntry address (locate r p) (unfetched p) (walkStep r p address write) (no-entry r p) m level table s more
+  ended = ended-way firstLevelEntry address (locate r p) (noFirstEntry p) (walkStep r p address write) (no-entry r p) m level table s more
 
-  pub led : {to : ℕ} {t : Handed} → down to t ≡ levelOver r p address write m (level - 1) table s
+  pub led : {to : ℕ} {t : FirstHanded} → down to t ≡ levelOver r p address write m (level - 1) table s
       → run (firstRules r p address write (level - 1) to t) m ≡ run (firstRules r p address write level table s) m
-  led = onward-way firstLevelEntry address (locate r p) (unfetched p) (walkStep r p address write) (no-entry r p) m level table s more
+  led = onward-way firstLevelEntry address (locate r p) (noFirstEntry p) (walkStep r p address write) (no-entry r p) m level table s more
 
   pub ended-at : (before : Place) {here : Place} {a : Pages} → here ≡ levelTried r p address write before m (level - 1) table s
       → done a ≡ levelOver r p address write m (level - 1) table s → here ≡ lastTried before (firstRules r p address write level table s) m
-  ended-at = ended-way-at firstLevelEntry address (locate r p) (unfetched p) (walkStep r p address write) (no-entry r p) m level table s more
+  ended-at = ended-way-at firstLevelEntry address (locate r p) (noFirstEntry p) (walkStep r p address write) (no-entry r p) m level table s more
 
-  pub led-at : (before : Place) {here : Place} {to : ℕ} {t : Handed} → here ≡ levelTried r p address write before m (level - 1) table s
+  pub led-at : (before : Place) {here : Place} {to : ℕ} {t : FirstHanded} → here ≡ levelTried r p address write before m (level - 1) table s
       → down to t ≡ levelOver r p address write m (level - 1) table s
       → lastTried here (firstRules r p address write (level - 1) to t) m ≡ lastTried before (firstRules r p address write level table s) m
-  led-at = onward-way-at firstLevelEntry address (locate r p) (unfetched p) (walkStep r p address write) (no-entry r p) m level table s more
+  led-at = onward-way-at firstLevelEntry address (locate r p) (noFirstEntry p) (walkStep r p address write) (no-entry r p) m level table s more
 
 -- the number of flags by a larger bound
 pub grows-more : (l : Level) (most most′ : ℕ) → most ≤ most′ → LevelGrows l most → LevelGrows l most′

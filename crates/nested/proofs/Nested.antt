@@ -19,13 +19,13 @@ use Rattle.dma.specs.Page.{hostAddress}
 use Rattle.dma.specs.Translation.{overflows}
 use Rattle.pasid.specs.declared.ScalableRegisters.{ScalableRegisters}
 use Rattle.pasid.specs.declared.table.PasidEntry.{PasidEntry}
-use Rattle.first.specs.First.{unfetchable}
+use Rattle.first.specs.First.{unfetchableReason}
 use Rattle.second.specs.Answers.{Grown}
-use Rattle.second.specs.Second.{Walked, page, fault as noPage, atTop, secondStep, unfetchable as unfetchableAbove, secondRules}
+use Rattle.second.specs.Second.{Walked, page, fault as noPage, atTop, secondStep, noSecondEntry, secondRules}
 use Rattle.second.specs.declared.step.Wanted.{Wanted}
 use Rattle.second.specs.declared.walk.Walked.{Walked as WalkedCode}
 use Rattle.second.specs.declared.walk.Walked.the-variants as walked
-use Rattle.nested.specs.Pages.{Pages, reached, fault, Handed, handed, unfetched, wantedOfEntry, wantedOfPage, toEntry, toPage, intermediateRules, locate, pageRules, walkStep, firstRules, pagesRules}
+use Rattle.nested.specs.Pages.{Pages, reached, fault, FirstHanded, firstHanded, noFirstEntry, wantedOfEntry, wantedOfPage, toEntry, toPage, intermediateRules, locate, hostPageRules, walkStep, firstRules, pagesRules}
 use Rattle.nested.specs.Then.{thenRules}
 use Rattle.nested.specs.Way.{Located, located, lost}
 use Rattle.nested.proofs.Thens.{outside-then}
@@ -58,15 +58,15 @@ module _ (r : ScalableRegisters) (p : PasidEntry) (wanted : Wanted) (address : �
   unfolding intermediateRules Outside
   outside-intermediate Kind h =
       outside-if Kind (overflows (r .base) (p .«second_levels») address) (answer (noPage 0x74 (p .fpd))) _ tt
-      (outside-walk Kind address (unfetchableAbove r p wanted) (secondStep r p wanted) (λ above. h (above .top)) (p .«second_levels») (p .«second_top») (atTop flags))
+      (outside-walk Kind address (noSecondEntry r p wanted) (secondStep r p wanted) (λ above. h (above .top)) (p .«second_levels») (p .«second_top») (atTop flags))
 
 -- an entry stands at the address itself
-pub itself : (r : ScalableRegisters) (p : PasidEntry) (s : Handed) (place : ℕ) (m : Memory) → (p .kind ≡ 3 → ⊥) → located place s ≡ run (locate r p s place) m
+pub itself : (r : ScalableRegisters) (p : PasidEntry) (s : FirstHanded) (place : ℕ) (m : Memory) → (p .kind ≡ 3 → ⊥) → located place s ≡ run (locate r p s place) m
 unfolding locate run
 itself r p s place m h = rw (ne-eqb (p .kind) 3 h)
 
 -- or where the second level says
-module _ (r : ScalableRegisters) (p : PasidEntry) (s : Handed) (place : ℕ) (m : Memory) (is : p .kind ≡ 3) where
+module _ (r : ScalableRegisters) (p : PasidEntry) (s : FirstHanded) (place : ℕ) (m : Memory) (is : p .kind ≡ 3) where
   abbrev way : Rules Walked
   way = intermediateRules r p (wantedOfEntry p) place (s .flags)
 
@@ -89,34 +89,34 @@ host-aligned (suc (suc (suc zero))) frame place some few small aligned eight = s
 host-aligned (suc (suc (suc (suc n)))) frame place some few small aligned eight = absurd (omega arith)
 
 module _ (r : ScalableRegisters) (p : PasidEntry) where
-  pub outside-locate : (Kind : Located Handed Pages → Type 0) → ((top : Bool) → Kind (lost (fault (if top then 0x7B else 0x78) (p .fpd))))
-      → (s : Handed) (place : ℕ) → Outside Kind (locate r p s place)
+  pub outside-locate : (Kind : Located FirstHanded Pages → Type 0) → ((top : Bool) → Kind (lost (fault (if top then 0x7B else 0x78) (p .fpd))))
+      → (s : FirstHanded) (place : ℕ) → Outside Kind (locate r p s place)
   unfolding locate Outside
   outside-locate Kind h s place =
       outside-if Kind (eqb (p .kind) 3) (mapRules (toEntry (s .top) place) (intermediateRules r p (wantedOfEntry p) place (s .flags))) (answer (located place s))
       (outside-map (toEntry (s .top) place) Kind (intermediateRules r p (wantedOfEntry p) place (s .flags))
       (outside-intermediate r p (wantedOfEntry p) place (s .flags) (λ w. Kind (toEntry (s .top) place w)) h)) tt
 
-  pub no-entry : (s : Handed) (place : ℕ) → Outside IsLost (locate r p s place)
+  pub no-entry : (s : FirstHanded) (place : ℕ) → Outside IsLost (locate r p s place)
   no-entry = outside-locate IsLost (λ top. tt)
 
   module _ (address : ℕ) (write : Bool) where
-    pub outside-first : (Kind : Pages → Type 0) → ((top : Bool) → Kind (fault (unfetchable top) (p .fpd)))
-        → ((top : Bool) → Kind (fault (if top then 0x7B else 0x78) (p .fpd))) → (level table : ℕ) (s : Handed)
+    pub outside-first : (Kind : Pages → Type 0) → ((top : Bool) → Kind (fault (unfetchableReason top) (p .fpd)))
+        → ((top : Bool) → Kind (fault (if top then 0x7B else 0x78) (p .fpd))) → (level table : ℕ) (s : FirstHanded)
         → Outside Kind (firstRules r p address write level table s)
     outside-first Kind first second =
-        outside-way firstLevelEntry address (locate r p) (unfetched p) (walkStep r p address write) Kind (λ s. first (s .top))
+        outside-way firstLevelEntry address (locate r p) (noFirstEntry p) (walkStep r p address write) Kind (λ s. first (s .top))
         (outside-locate _ second)
 
     -- every answer to an entry that can't be fetched is 70h, 73h, 78h or 7Bh
-    pub outside-pages : (Kind : Pages → Type 0) → ((top : Bool) → Kind (fault (unfetchable top) (p .fpd)))
+    pub outside-pages : (Kind : Pages → Type 0) → ((top : Bool) → Kind (fault (unfetchableReason top) (p .fpd)))
         → ((top : Bool) → Kind (fault (if top then 0x7B else 0x78) (p .fpd))) → Outside Kind (pagesRules r p address write)
-    unfolding pageRules Outside
+    unfolding hostPageRules Outside
     outside-pages Kind first second =
-        outside-then Kind (λ w. w) (pageRules r p write) (firstRules r p address write (p .«first_levels») (p .«first_top») (handed true []))
-        (outside-first Kind first second (p .«first_levels») (p .«first_top») (handed true [])) ends
+        outside-then Kind (λ w. w) (hostPageRules r p write) (firstRules r p address write (p .«first_levels») (p .«first_top») (firstHanded true []))
+        (outside-first Kind first second (p .«first_levels») (p .«first_top») (firstHanded true [])) ends
       where
-        ends : (a : Pages) → Outside Kind (pageRules r p write a)
+        ends : (a : Pages) → Outside Kind (hostPageRules r p write a)
         ends (reached frame level host flags) =
             outside-if Kind (eqb (p .kind) 3) (mapRules (toPage host) (intermediateRules r p (wantedOfPage write) host flags)) (answer (reached frame level host flags))
             (outside-map (toPage host) Kind (intermediateRules r p (wantedOfPage write) host flags)

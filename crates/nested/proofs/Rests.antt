@@ -10,13 +10,14 @@ use Rattle.image.specs.Choice.{if_then_else_}
 use Rattle.image.specs.Memory.{Memory}
 use Rattle.image.specs.Place.{Place, lastTried}
 use Rattle.image.specs.Rules.{Rules, answer, run, mapRules, Outside}
+use Rattle.image.proofs.Choices.{above-zero}
 use Rattle.image.proofs.Places.{tried-map}
 use Rattle.image.proofs.Trees.{run-map}
 use Rattle.dma.specs.Walk.{Step, done, down, onStep, placeIn}
 use Rattle.pasid.specs.declared.ScalableRegisters.{ScalableRegisters}
 use Rattle.pasid.specs.declared.table.PasidEntry.{PasidEntry}
 use Rattle.second.specs.Second.{Walked, page, fault as noPage}
-use Rattle.nested.specs.Pages.{Pages, reached, fault, Handed, handed, wantedOfPage, toEntry, toPage, intermediateRules, locate, pageRules, firstRules}
+use Rattle.nested.specs.Pages.{Pages, reached, fault, FirstHanded, firstHanded, wantedOfPage, toEntry, toPage, intermediateRules, locate, hostPageRules, firstRules}
 use Rattle.nested.specs.Stages.{placeAt, wantedAt, kindRules, restRules}
 use Rattle.nested.specs.Then.{thenRules}
 use Rattle.nested.specs.Way.{lost}
@@ -24,36 +25,32 @@ use Rattle.nested.proofs.Firsts.{levelOver, levelTried, not-last, ended
 use Rattle.nested.proofs.Nested.{outside-first, through, through-at}
 use Rattle.nested.proofs.Thens.{Ends, run-then, tried-then}
 
-above-zero : (level : ℕ) → eqb level 0 ≡ false → 0 < level
-above-zero zero q = let z : _≡_ {A = ℕ} 0 1 = cc in absurd (omega arith)
-above-zero (suc n) q = omega arith
-
 module _ (r : ScalableRegisters) (p : PasidEntry) (address : ℕ) (write : Bool) where
   pub nested : (level : ℕ) → eqb level 0 ≡ false → (eqb level 0 || eqb (p .kind) 3) ≡ true → p .kind ≡ 3
   nested level q second = eqb-true (p .kind) 3 (rw q at second)
 
   -- what comes after the first level's page: nothing, or the page at an intermediate address
   pub page-last : (frame level host : ℕ) (flags : List ℕ) → (p .kind ≡ 3 → ⊥)
-      → answer (reached frame level host flags) ≡ pageRules r p write (reached frame level host flags)
-  unfolding pageRules
+      → answer (reached frame level host flags) ≡ hostPageRules r p write (reached frame level host flags)
+  unfolding hostPageRules
   page-last frame level host flags other = rw (ne-eqb (p .kind) 3 other)
 
-  pub page-next : (frame level host : ℕ) (s : Handed) → p .kind ≡ 3
-      → restRules r p address write 0 host s ≡ pageRules r p write (reached frame level host (s .flags))
-  unfolding pageRules restRules
+  pub page-next : (frame level host : ℕ) (s : FirstHanded) → p .kind ≡ 3
+      → restRules r p address write 0 host s ≡ hostPageRules r p write (reached frame level host (s .flags))
+  unfolding hostPageRules restRules
   page-next frame level host s is = rw (eq-eqb (p .kind) 3 is)
 
-  pub fault-last : (reason : ℕ) (fpd : Bool) → answer (fault reason fpd) ≡ pageRules r p write (fault reason fpd)
-  unfolding pageRules
+  pub fault-last : (reason : ℕ) (fpd : Bool) → answer (fault reason fpd) ≡ hostPageRules r p write (fault reason fpd)
+  unfolding hostPageRules
   fault-last reason fpd = refl
 
   -- by PGTT
-  pub second-alone : p .kind ≡ 2 → (flags : List ℕ) → flags ≡ [] → restRules r p address write 0 address (handed true flags) ≡ kindRules r p address write
+  pub second-alone : p .kind ≡ 2 → (flags : List ℕ) → flags ≡ [] → restRules r p address write 0 address (firstHanded true flags) ≡ kindRules r p address write
   unfolding restRules kindRules
   second-alone is flags none = rw (eq-eqb (p .kind) 2 is, none)
 
   pub first-too : (p .kind ≡ 2 → ⊥) → 0 < p .«first_levels» → (flags : List ℕ) → flags ≡ []
-      → restRules r p address write (p .«first_levels») (p .«first_top») (handed true flags) ≡ kindRules r p address write
+      → restRules r p address write (p .«first_levels») (p .«first_top») (firstHanded true flags) ≡ kindRules r p address write
   unfolding restRules kindRules
   first-too other some flags none =
       let more : p .«first_levels» ≡ 0 → ⊥ = λ z. omega arith in
@@ -61,73 +58,73 @@ module _ (r : ScalableRegisters) (p : PasidEntry) (address : ℕ) (write : Bool)
 
   -- the first level, then its page
   module _ (m : Memory) where
-    module _ (level at : ℕ) (s : Handed) (more : 0 < level) where
+    module _ (level at : ℕ) (s : FirstHanded) (more : 0 < level) where
       abbrev first : Rules Pages
       first = firstRules r p address write level at s
 
       -- a fault of the first level is followed by nothing
-      faults : Outside (Ends (λ w. w) (pageRules r p write)) first
-      unfolding pageRules
-      faults = outside-first r p address write (Ends (λ w. w) (pageRules r p write)) (λ top. refl) (λ top. refl) level at s
+      faults : Outside (Ends (λ w. w) (hostPageRules r p write)) first
+      unfolding hostPageRules
+      faults = outside-first r p address write (Ends (λ w. w) (hostPageRules r p write)) (λ top. refl) (λ top. refl) level at s
 
-      both : restRules r p address write level at s ≡ thenRules (λ w. w) (pageRules r p write) first
+      both : restRules r p address write level at s ≡ thenRules (λ w. w) (hostPageRules r p write) first
       unfolding restRules
       both = let some : level ≡ 0 → ⊥ = λ z. omega arith in rw (ne-eqb level 0 some)
 
-      ran : run (restRules r p address write level at s) m ≡ run (pageRules r p write (run first m)) m
-      ran = ap (λ q. run q m) both ∙ run-then (λ w. w) (pageRules r p write) first m faults
+      ran : run (restRules r p address write level at s) m ≡ run (hostPageRules r p write (run first m)) m
+      ran = ap (λ q. run q m) both ∙ run-then (λ w. w) (hostPageRules r p write) first m faults
 
       tried : (before : Place) → lastTried before (restRules r p address write level at s) m
-          ≡ lastTried (lastTried before first m) (pageRules r p write (run first m)) m
-      tried before = ap (λ q. lastTried before q m) both ∙ tried-then (λ w. w) (pageRules r p write) before first m faults
+          ≡ lastTried (lastTried before first m) (hostPageRules r p write (run first m)) m
+      tried before = ap (λ q. lastTried before q m) both ∙ tried-then (λ w. w) (hostPageRules r p write) before first m faults
 
     -- it is what the step of its first level leads to
-    module _ (level at : ℕ) (s : Handed) (more : 0 < level) where
-      abbrev over : Step Handed Pages
+    module _ (level at : ℕ) (s : FirstHanded) (more : 0 < level) where
+      abbrev over : Step FirstHanded Pages
       over = levelOver r p address write m (level - 1) at s
 
-      abbrev next : Step Handed Pages → Rules Pages
-      next x = onStep x (pageRules r p write) (restRules r p address write (level - 1))
+      abbrev next : Step FirstHanded Pages → Rules Pages
+      next x = onStep x (hostPageRules r p write) (restRules r p address write (level - 1))
 
-      pub onward : (x : Step Handed Pages) → x ≡ over → run (next x) m ≡ run (restRules r p address write level at s) m
+      pub onward : (x : Step FirstHanded Pages) → x ≡ over → run (next x) m ≡ run (restRules r p address write level at s) m
       onward (done a) h =
-          ap (λ (x : Pages). run (pageRules r p write x) m) (ended r p address write m level at s more h) ∙ sym (ran level at s more)
+          ap (λ (x : Pages). run (hostPageRules r p write x) m) (ended r p address write m level at s more h) ∙ sym (ran level at s more)
       onward (down to t) h =
           ran (level - 1) to t (not-last r p address write m (level - 1) at s h)
-          ∙ ap (λ (x : Pages). run (pageRules r p write x) m) (led r p address write m level at s more h)
+          ∙ ap (λ (x : Pages). run (hostPageRules r p write x) m) (led r p address write m level at s more h)
           ∙ sym (ran level at s more)
 
       module _ (before : Place) {here : Place} (stop : here ≡ levelTried r p address write before m (level - 1) at s) where
-        pub onward-at : (x : Step Handed Pages) → x ≡ over → lastTried here (next x) m ≡ lastTried before (restRules r p address write level at s) m
+        pub onward-at : (x : Step FirstHanded Pages) → x ≡ over → lastTried here (next x) m ≡ lastTried before (restRules r p address write level at s) m
         onward-at (done a) h =
-            ap (λ (place : Place). lastTried place (pageRules r p write a) m) (ended-at r p address write m level at s more before stop h)
-            ∙ ap (λ (x : Pages). lastTried (lastTried before (firstRules r p address write level at s) m) (pageRules r p write x) m)
+            ap (λ (place : Place). lastTried place (hostPageRules r p write a) m) (ended-at r p address write m level at s more before stop h)
+            ∙ ap (λ (x : Pages). lastTried (lastTried before (firstRules r p address write level at s) m) (hostPageRules r p write x) m)
             (ended r p address write m level at s more h)
             ∙ sym (tried level at s more before)
         onward-at (down to t) h =
             tried (level - 1) to t (not-last r p address write m (level - 1) at s h) here
-            ∙ ap (λ (place : Place). lastTried place (pageRules r p write (run (firstRules r p address write (level - 1) to t) m)) m)
+            ∙ ap (λ (place : Place). lastTried place (hostPageRules r p write (run (firstRules r p address write (level - 1) to t) m)) m)
             (led-at r p address write m level at s more before stop h)
-            ∙ ap (λ (x : Pages). lastTried (lastTried before (firstRules r p address write level at s) m) (pageRules r p write x) m)
+            ∙ ap (λ (x : Pages). lastTried (lastTried before (firstRules r p address write level at s) m) (hostPageRules r p write x) m)
             (led r p address write m level at s more h)
             ∙ sym (tried level at s more before)
 
     -- an entry that isn't found on its way ends it
-    module _ (level at : ℕ) (s : Handed) (more : 0 < level) {reason : ℕ} {fpd : Bool}
+    module _ (level at : ℕ) (s : FirstHanded) (more : 0 < level) {reason : ℕ} {fpd : Bool}
         (h : lost (fault reason fpd) ≡ run (locate r p s (placeIn address at (level - 1))) m) where
       lost-run : fault reason fpd ≡ run (restRules r p address write level at s) m
-      unfolding pageRules run
+      unfolding hostPageRules run
       lost-run = onward level at s more (done (fault reason fpd)) (stopped r p address write m (level - 1) at s h)
 
       lost-run-at : (before : Place) {here : Place} → here ≡ lastTried before (locate r p s (placeIn address at (level - 1))) m
           → here ≡ lastTried before (restRules r p address write level at s) m
-      unfolding pageRules lastTried
+      unfolding hostPageRules lastTried
       lost-run-at before there =
           onward-at level at s more before (stopped-at r p address write m (level - 1) at s before h there) (done (fault reason fpd))
           (stopped r p address write m (level - 1) at s h)
 
     -- through the second level: the page at the end, and an entry in a nested translation
-    module _ (level at place : ℕ) (s : Handed) (is : place ≡ placeAt address level at) where
+    module _ (level at place : ℕ) (s : FirstHanded) (is : place ≡ placeAt address level at) where
       abbrev way : Rules Walked
       way = intermediateRules r p (wantedAt p write level) place (s .flags)
 

@@ -8,14 +8,14 @@ use Rattle.image.specs.Place.{Place, entryAt}
 use Rattle.dma.specs.Page.{hostAddress}
 use Rattle.dma.specs.Walk.{Step, done, down}
 use Rattle.pasid.specs.Reason.{numberOf}
-use Rattle.nested.specs.Pages.{Pages, reached, fault, Handed, handed}
+use Rattle.nested.specs.Pages.{Pages, reached, fault, FirstHanded, firstHanded}
 use Rattle.nested.specs.declared.Pages.{Pages as PagesCode}
 use Rattle.nested.specs.declared.Pages.the-variants as pages
 use Rattle.nested.specs.declared.level.Level.{Level}
 use Rattle.nested.specs.declared.level.Level.the-variants as level
 
-abbrev pub levelOf : Level → (address : ℕ) (flags : List ℕ) → Step Handed Pages
-levelOf (level.Down table at count) address flags = down table (handed false (take count flags))
+abbrev pub levelOf : Level → (address : ℕ) (flags : List ℕ) → Step FirstHanded Pages
+levelOf (level.Down table at count) address flags = down table (firstHanded false (take count flags))
 levelOf (level.Page frame of at count) address flags = done (reached frame of (hostAddress of frame address) (take count flags))
 levelOf (level.Fault reason fpd at) address flags = done (fault (numberOf reason) fpd)
 

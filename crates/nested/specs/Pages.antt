@@ -14,7 +14,7 @@ use Rattle.dma.specs.Walk.{Step, done, down}
 use Rattle.pasid.specs.declared.ScalableRegisters.{ScalableRegisters}
 use Rattle.pasid.specs.declared.table.PasidEntry.{PasidEntry}
 use Rattle.flags.specs.Flags.{flag}
-use Rattle.first.specs.First.{firstFlags, flagClear, firstStep, onFirst, unfetchable}
+use Rattle.first.specs.First.{firstFlags, flagClear, firstStep, onFirst, unfetchableReason}
 use Rattle.second.specs.Second.{Walked, page, fault as noPage, atTop, secondRules}
 use Rattle.second.specs.declared.step.Wanted.{Wanted}
 use Rattle.nested.specs.Then.{thenRules}
@@ -27,22 +27,22 @@ pub data Pages : Type 0 where
   fault : (reason : ℕ) (fpd : Bool) → Pages
 
 -- what is handed to a first-level entry: whether it is the top one, whether the way to it may be written, and the flags of the entries before
-pub record Handed : Type 0 where
+pub record FirstHanded : Type 0 where
   pub top : Bool
   pub writable : Bool
   pub flags : List ℕ
 
 -- the way counts as one that may be written, until the second level says otherwise
-abbrev pub handed : (top : Bool) (flags : List ℕ) → Handed
-handed top flags = record { top = top; writable = true; flags = flags }
+abbrev pub firstHanded : (top : Bool) (flags : List ℕ) → FirstHanded
+firstHanded top flags = record { top = top; writable = true; flags = flags }
 
 -- the flags of the entry at a host address, where one of them is still clear: setting those that are set changes nothing
 abbrev pub entryFlags : PasidEntry → (write leaf : Bool) (place e : ℕ) → List ℕ
 entryFlags p write leaf place e = if flagClear p write leaf e then map (flag place) (firstFlags p write leaf) else []
 
 -- an entry that can't be fetched: 73h the top one, 70h any other
-abbrev pub unfetched : PasidEntry → Handed → Pages
-unfetched p s = fault (unfetchable (s .top)) (p .fpd)
+abbrev pub noFirstEntry : PasidEntry → FirstHanded → Pages
+noFirstEntry p s = fault (unfetchableReason (s .top)) (p .fpd)
 
 -- through the second level an entry is read, and with SLADE it counts as written, whether or not a flag of it has to be set
 abbrev pub wantedOfEntry : PasidEntry → Wanted
@@ -53,7 +53,7 @@ abbrev pub wantedOfPage : (write : Bool) → Wanted
 wantedOfPage write = record { read = not write; write = write }
 
 -- what the second level says of an entry's address, and of a page's
-abbrev pub toEntry : (top : Bool) (place : ℕ) → Walked → Located Handed Pages
+abbrev pub toEntry : (top : Bool) (place : ℕ) → Walked → Located FirstHanded Pages
 toEntry top place (page frame level writable flags) =
     located (hostAddress level frame place) (record { top = top; writable = writable; flags = flags })
 toEntry top place (noPage reason fpd) = lost (fault reason fpd)
@@ -70,30 +70,30 @@ module _ (r : ScalableRegisters) (p : PasidEntry) where
       else secondRules r p wanted address (p .«second_levels») (p .«second_top») (atTop flags)
 
   -- where a first-level entry stands: at the address itself, or in a nested translation where the second level says
-  unfoldable pub locate : Handed → (place : ℕ) → Rules (Located Handed Pages)
+  unfoldable pub locate : FirstHanded → (place : ℕ) → Rules (Located FirstHanded Pages)
   locate s place =
       if eqb (p .kind) 3 then mapRules (toEntry (s .top) place) (intermediateRules (wantedOfEntry p) place (s .flags))
       else answer (located place s)
 
   -- in a nested translation the first level's page is at an intermediate address
-  unfoldable pub pageRules : (write : Bool) → Pages → Rules Pages
-  pageRules write (reached frame level host flags) =
+  unfoldable pub hostPageRules : (write : Bool) → Pages → Rules Pages
+  hostPageRules write (reached frame level host flags) =
       if eqb (p .kind) 3 then mapRules (toPage host) (intermediateRules (wantedOfPage write) host flags)
       else answer (reached frame level host flags)
-  pageRules write (fault reason fpd) = answer (fault reason fpd)
+  hostPageRules write (fault reason fpd) = answer (fault reason fpd)
 
   module _ (address : ℕ) (write : Bool) where
-    abbrev pub walkStep : (level place : ℕ) → Handed → (e : ℕ) → Step Handed Pages
+    abbrev pub walkStep : (level place : ℕ) → FirstHanded → (e : ℕ) → Step FirstHanded Pages
     walkStep level place s e =
-        onFirst (firstStep r p write (s .writable) level e) (λ table. down table (handed false (s .flags ++ entryFlags p write false place e)))
+        onFirst (firstStep r p write (s .writable) level e) (λ table. down table (firstHanded false (s .flags ++ entryFlags p write false place e)))
         (λ frame level. done (reached frame level (hostAddress level frame address) (s .flags ++ entryFlags p write true place e)))
         (λ reason fpd. done (fault reason fpd))
 
-    abbrev pub firstRules : (level table : ℕ) → Handed → Rules Pages
-    firstRules = wayRules firstLevelEntry address locate (unfetched p) walkStep
+    abbrev pub firstRules : (level table : ℕ) → FirstHanded → Rules Pages
+    firstRules = wayRules firstLevelEntry address locate (noFirstEntry p) walkStep
 
     abbrev pub pagesRules : Rules Pages
-    pagesRules = thenRules (λ w. w) (pageRules write) (firstRules (p .«first_levels») (p .«first_top») (handed true []))
+    pagesRules = thenRules (λ w. w) (hostPageRules write) (firstRules (p .«first_levels») (p .«first_top») (firstHanded true []))
 
 -- a page as a translation can answer it: for the code's contracts
 abbrev pub Reachable : Pages → Type 0

@@ -14,7 +14,7 @@ use Rattle.pasid.specs.declared.ScalableRegisters.{ScalableRegisters}
 use Rattle.pasid.specs.declared.table.PasidEntry.{PasidEntry}
 use Rattle.second.specs.declared.step.Wanted.{Wanted}
 use Rattle.nested.specs.Answers.{pagesOf, PagesNames, PagesGrows}
-use Rattle.nested.specs.Pages.{Pages, Handed, handed, unfetched, wantedOfEntry, wantedOfPage, toPage, intermediateRules, locate, pageRules, walkStep, firstRules, pagesRules, Reachable, SecondWalkable, FirstWalkable}
+use Rattle.nested.specs.Pages.{Pages, FirstHanded, firstHanded, noFirstEntry, wantedOfEntry, wantedOfPage, toPage, intermediateRules, locate, hostPageRules, walkStep, firstRules, pagesRules, Reachable, SecondWalkable, FirstWalkable}
 use Rattle.nested.specs.Then.{thenRules}
 use Rattle.nested.specs.Way.{located}
 use Rattle.nested.specs.declared.Pages.{Pages as PagesCode}
@@ -38,14 +38,14 @@ module _ (r : ScalableRegisters) (p : PasidEntry) (address : ℕ) (write : Bool)
   kindRules = if eqb (p .kind) 2 then mapRules (toPage address) (intermediateRules r p (wantedOfPage write) address []) else pagesRules r p address write
 
   -- what is left of it: at level 0 the page at an intermediate address, else the first level from this level down, and its page
-  unfoldable pub restRules : (level at : ℕ) → Handed → Rules Pages
+  unfoldable pub restRules : (level at : ℕ) → FirstHanded → Rules Pages
   restRules level at s =
       if eqb level 0 then mapRules (toPage at) (intermediateRules r p (wantedOfPage write) at (s .flags))
-      else thenRules (λ w. w) (pageRules r p write) (firstRules r p address write level at s)
+      else thenRules (λ w. w) (hostPageRules r p write) (firstRules r p address write level at s)
 
   -- what the entry at a host address says over a memory
-  abbrev pub entryOver : Memory → (level place : ℕ) → Handed → Step Handed Pages
-  entryOver m level place s = onFetch (entry 1 m place) (done (unfetched p s)) (walkStep r p address write level place s)
+  abbrev pub entryOver : Memory → (level place : ℕ) → FirstHanded → Step FirstHanded Pages
+  entryOver m level place s = onFetch (entry 1 m place) (done (noFirstEntry p s)) (walkStep r p address write level place s)
 
 -- the code's answer is what rules answer, and a fault names the entry at which they stop, the place handed in where they try none
 abbrev pub PagesTell : PagesCode → Rules Pages → Memory → Place → (flags : List ℕ) → Type 0
@@ -55,12 +55,12 @@ PagesTell r q m before flags =
 -- the rules that are left at a stage
 abbrev pub stageRules : Walk → Stage → (flags : List ℕ) → Rules Pages
 stageRules w s flags =
-    restRules (w .space .registers) (w .space .entry) (w .asked .address) (w .asked .write) (s .level) (s .at) (handed (s .top) (take (s .count) flags))
+    restRules (w .space .registers) (w .space .entry) (w .asked .address) (w .asked .write) (s .level) (s .at) (firstHanded (s .top) (take (s .count) flags))
 
 -- a stage as a walk comes to it. A level of the first level adds at most 8 flags: 5 + 1 of the second level, where D is one, and A and EA;
 -- 5 levels make 40, D of the page's entry 1 more. The page adds 5 + 1, so that 47 is the most
-abbrev pub Fits : PasidEntry → Stage → Type 0
-Fits p s =
+abbrev pub StageFits : PasidEntry → Stage → Type 0
+StageFits p s =
     (0 < s .level → FirstWalkable p × (s .level ≤ 5) × (s .at % 4096 ≡ 0) × (s .at < 2 ^ 52) × (s .count + 8 * s .level ≤ 40))
     × (s .level ≡ 0 → SecondWalkable p × (s .count ≤ 41))
 
@@ -72,13 +72,13 @@ WayTells (way.Entry at writable count) w s m before after =
     × (at < 2 ^ 60)
     × (count ≤ s .count + 6)
     × (located at (record { top = s .top; writable = writable; flags = take count after })
-    ≡ run (locate (w .space .registers) (w .space .entry) (handed (s .top) (take (s .count) before)) (placeIn (w .asked .address) (s .at) (s .level - 1))) m)
+    ≡ run (locate (w .space .registers) (w .space .entry) (firstHanded (s .top) (take (s .count) before)) (placeIn (w .asked .address) (s .at) (s .level - 1))) m)
 WayTells (way.Done r) w s m before after = PagesTell r (stageRules w s before) m (entryAt (s .last)) after
 
 -- a turn leaves the same to be answered, and the same entry to stop at
 abbrev pub TurnTells : Turn → Walk → Stage → Memory → (before after : List ℕ) → Type 0
 TurnTells (turn.On next) w s m before after =
-    Fits (w .space .entry) next
+    StageFits (w .space .entry) next
     × (next .level < s .level)
     × (run (stageRules w next after) m ≡ run (stageRules w s before) m)
     × (lastTried (entryAt (next .last)) (stageRules w next after) m ≡ lastTried (entryAt (s .last)) (stageRules w s before) m)
@@ -94,5 +94,5 @@ TurnLast (turn.On next) place = entryAt (next .last) ≡ place
 TurnLast (turn.Done r) place = PagesNames r place
 
 abbrev pub TurnFits : Turn → PasidEntry → (level : ℕ) → Type 0
-TurnFits (turn.On next) p level = Fits p next × (next .level < level)
+TurnFits (turn.On next) p level = StageFits p next × (next .level < level)
 TurnFits (turn.Done r) p level = Reachable (pagesOf r []) × PagesGrows r 47

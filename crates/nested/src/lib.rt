@@ -7,8 +7,8 @@ ghost use Prim.Native.Nat.{ℕ, _≤_};
 ghost use Rattle.image.specs.Place.{entryAt};
 ghost use Rattle.image.specs.Spans.{Opened};
 ghost use Rattle.image.specs.Windows.{ofWindows};
-ghost use Rattle.nested.specs.Pages.{handed, PagesWalkable};
-ghost use Rattle.nested.specs.Stages.{kindRules, restRules, PagesTell, Fits};
+ghost use Rattle.nested.specs.Pages.{firstHanded, PagesWalkable};
+ghost use Rattle.nested.specs.Stages.{kindRules, restRules, PagesTell, StageFits};
 
 mod level;
 mod stage;
@@ -34,8 +34,8 @@ pub enum Pages {
 // at: the host address of the PASID table entry, which was tried last.
 fn first_stage(entry: PasidEntry, at: u64, address: u64) -> Stage
     requires { ⌜ PagesWalkable entry ⌝ }
-    ensures { λ r. ⌜ Fits entry r × (r .last ≡ at) ⌝ }
-    ensures { λ r. ⌜ ((registers : ScalableRegisters) (write : Bool) (flags : List ℕ) → restRules registers entry address write (r .level) (r .at) (handed (r .top) (take (r .count) flags)) ≡ kindRules registers entry address write) ⌝ }
+    ensures { λ r. ⌜ StageFits entry r × (r .last ≡ at) ⌝ }
+    ensures { λ r. ⌜ ((registers : ScalableRegisters) (write : Bool) (flags : List ℕ) → restRules registers entry address write (r .level) (r .at) (firstHanded (r .top) (take (r .count) flags)) ≡ kindRules registers entry address write) ⌝ }
 {
     if entry.kind == 2 {
         return Stage {

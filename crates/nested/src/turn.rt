@@ -7,8 +7,8 @@ ghost use Rattle.image.specs.Spans.{Opened};
 ghost use Rattle.image.specs.Windows.{ofWindows};
 ghost use Rattle.dma.specs.Walk.{onStep};
 ghost use Rattle.nested.specs.Answers.{levelOf, levelPlace, LevelGrows, LevelReachable};
-ghost use Rattle.nested.specs.Pages.{pageRules, FirstWalkable};
-ghost use Rattle.nested.specs.Stages.{restRules, Fits, TurnTells, turnRules, TurnLast, TurnFits};
+ghost use Rattle.nested.specs.Pages.{hostPageRules, FirstWalkable};
+ghost use Rattle.nested.specs.Stages.{restRules, StageFits, TurnTells, turnRules, TurnLast, TurnFits};
 use crate::Pages;
 use crate::level::Level;
 use crate::level::level_entry;
@@ -26,7 +26,7 @@ pub enum Turn {
 // What comes after an entry of a level. In a nested translation the page is at an intermediate address.
 fn after_level(walk: Walk, level: u32, step: Level) -> Turn
     requires { ⌜ FirstWalkable (walk .space .entry) × (0 < level) × (level ≤ 5) × LevelReachable step level × LevelGrows step (40 - 8 * (level - 1)) ⌝ }
-    ensures { λ r. ⌜ ((flags : List ℕ) → turnRules r walk flags ≡ onStep (levelOf step (walk .asked .address) flags) (pageRules (walk .space .registers) (walk .space .entry) (walk .asked .write)) (restRules (walk .space .registers) (walk .space .entry) (walk .asked .address) (walk .asked .write) (level - 1))) ⌝ }
+    ensures { λ r. ⌜ ((flags : List ℕ) → turnRules r walk flags ≡ onStep (levelOf step (walk .asked .address) flags) (hostPageRules (walk .space .registers) (walk .space .entry) (walk .asked .write)) (restRules (walk .space .registers) (walk .space .entry) (walk .asked .address) (walk .asked .write) (level - 1))) ⌝ }
     ensures { λ r. ⌜ TurnLast r (levelPlace step) ⌝ }
     ensures { λ r. ⌜ TurnFits r (walk .space .entry) level ⌝ }
 {
@@ -62,7 +62,7 @@ pub(crate) fn take_turn(
     stage: Stage,
     flags: &mut [u64],
 ) -> Turn
-    requires { ⌜ Opened (walk .space .first) (now windows) (length (now image)) × Fits (walk .space .entry) stage × (47 ≤ length (now flags)) ⌝ }
+    requires { ⌜ Opened (walk .space .first) (now windows) (length (now image)) × StageFits (walk .space .entry) stage × (47 ≤ length (now flags)) ⌝ }
     ensures { λ r. ⌜ TurnTells r walk stage (ofWindows (now (windows .entry)) (now (image .entry))) (now (flags .entry)) (now (flags .exit)) ⌝ }
 {
     match locate(windows, image, walk, stage, flags) {

@@ -9,7 +9,7 @@ ghost use Rattle.image.specs.Rules.{run};
 ghost use Rattle.image.specs.Spans.{Opened};
 ghost use Rattle.image.specs.Windows.{ofWindows};
 ghost use Rattle.nested.specs.Pages.{intermediateRules, SecondWalkable};
-ghost use Rattle.nested.specs.Stages.{placeAt, wantedAt, Fits, WayTells};
+ghost use Rattle.nested.specs.Stages.{placeAt, wantedAt, StageFits, WayTells};
 ghost use Rattle.second.specs.Answers.{walkedOf, Names, Grown};
 ghost use Rattle.second.specs.Second.{Reachable};
 use crate::Pages;
@@ -108,7 +108,7 @@ pub(crate) fn locate(
     stage: Stage,
     flags: &mut [u64],
 ) -> Way
-    requires { ⌜ Opened (walk .space .first) (now windows) (length (now image)) × Fits (walk .space .entry) stage × (47 ≤ length (now flags)) ⌝ }
+    requires { ⌜ Opened (walk .space .first) (now windows) (length (now image)) × StageFits (walk .space .entry) stage × (47 ≤ length (now flags)) ⌝ }
     ensures { λ r. ⌜ WayTells r walk stage (ofWindows (now (windows .entry)) (now (image .entry))) (now (flags .entry)) (now (flags .exit)) ⌝ }
 {
     let place = place_of(walk.asked.address, stage.level, stage.at);

@@ -4,7 +4,7 @@ use mathlib.Core.Bool.{Bool, not}
 use mathlib.Core.List.{[], _∷_}
 use mathlib.Core.Path.{_≡_, refl, ap, sym, _∙_}
 use native.Mathlib.Nat.{mul-add, mul-comm, add-assoc}
-use Rattle.image.specs.Entries.{spell}
+use Rattle.image.specs.Bytes.{spell}
 use Rattle.faults.specs.Answers.{highWord}
 use Rattle.faults.specs.Record as legacy
 use Rattle.faults.specs.Record.{FaultAnswer, memoryFault, memoryRecord}

@@ -2,7 +2,7 @@
 use Prim.Native.Nat.{ℕ}
 use mathlib.Core.List.{[], _∷_}
 use Rattle.image.specs.Check.{Check, stop, go}
-use Rattle.image.specs.Entries.{spell}
+use Rattle.image.specs.Bytes.{spell}
 use Rattle.faults.specs.Record.{FaultAnswer}
 use Rattle.pasid.specs.Reason.{numberOf}
 use Rattle.pasid.specs.declared.entry.TableAddress.{TableAddress}

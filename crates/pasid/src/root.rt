@@ -1,6 +1,6 @@
 // The root entry of scalable mode: two halves of 8 bytes, the lower for devices 0 to 15 of a bus, the upper for devices 16 to 31.
 ghost use mathlib.Core.Path.{_≡_};
-ghost use Rattle.image.specs.Entries.{number16};
+ghost use Rattle.image.specs.Answers.{number16};
 ghost use Rattle.pasid.specs.Answers.{addressOf};
 ghost use Rattle.pasid.specs.Root.{half, halfReserved, rootReserved, rootCheck};
 use crate::entry::TableAddress;

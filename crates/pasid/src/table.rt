@@ -2,7 +2,7 @@
 ghost use mathlib.Core.Path.{_≡_};
 ghost use Prim.Native.Nat.{_<_};
 ghost use Rattle.image.specs.Bits.{bits, anySet};
-ghost use Rattle.image.specs.Entries.{number64};
+ghost use Rattle.image.specs.Answers.{number64};
 ghost use Rattle.pasid.specs.Table.{featureReserved, pointersReserved, tableReserved, pasidEntryOf};
 use crate::ScalableRegisters;
 use image::Entry64;

@@ -1,6 +1,6 @@
 // The PASID table entry's check.
 ghost use mathlib.Core.Path.{_≡_};
-ghost use Rattle.image.specs.Entries.{number64};
+ghost use Rattle.image.specs.Answers.{number64};
 ghost use Rattle.pasid.specs.Answers.{tableChecked};
 ghost use Rattle.pasid.specs.Table.{typeSupported, modeSupported, tableInvalid, tableCheck};
 use crate::ScalableRegisters;

@@ -7,7 +7,7 @@ use native.Mathlib.Omega.{arith}
 use native.Mathlib.Decide.{ℕ-discrete}
 use lib.ListN.{length, getD, set, replicate}
 use lib.Seq.{getD-set-same, getD-set-other}
-use Rattle.places.specs.Layout.{words, headOf, flagIn, keyIn, frameIn, domainIn, linkIn, bucketIn, placeOf, ageOf, bucketOf, levelOf}
+use Rattle.places.specs.Layout.{words, headOf, flagIn, keyIn, frameIn, domainIn, linkIn, bucketIn, placeOfAge, ageOf, bucketOf, keyLevel}
 use Rattle.places.specs.Changes.{beforeOf, released, holding, freed}
 use Rattle.places.proofs.Chains.{age-lt}
 use Rattle.places.proofs.Linked.{Reach, here, next, reach-near, reach-first, reach-least, reach-fewer, reach-same, Linked, Flagged}
@@ -22,13 +22,13 @@ module _ (state : List ℕ) (key frame domain : ℕ) (long : length state ≡ wo
   head-new = ap (λ (n : ℕ). n % 64) (new-head state key frame domain long fits) ∙ omega arith
 
   -- the places of ages before and after
-  pub first-place : placeOf new 0 ≡ beforeOf state
+  pub first-place : placeOfAge new 0 ≡ beforeOf state
   first-place = omega (arith, head-new)
 
-  pub next-place : (i : ℕ) → i < 63 → placeOf new (suc i) ≡ placeOf state i
+  pub next-place : (i : ℕ) → i < 63 → placeOfAge new (suc i) ≡ placeOfAge state i
   next-place i h = omega (arith, head-new)
 
-  pub not-first : (i : ℕ) → i < 63 → placeOf state i ≡ beforeOf state → ⊥
+  pub not-first : (i : ℕ) → i < 63 → placeOfAge state i ≡ beforeOf state → ⊥
   not-first i h e = omega arith
 
   apart : (q : ℕ) → q < 64 → ageOf state q < 63 → q ≡ beforeOf state → ⊥
@@ -48,23 +48,23 @@ module _ (state : List ℕ) (key frame domain : ℕ) (long : length state ≡ wo
       next (least + 1) q near (omega arith) (rw (aged, same) (longer h rest))
 
   -- what the places hold, by age
-  pub newest-key : keyIn new (placeOf new 0) ≡ key
+  pub newest-key : keyIn new (placeOfAge new 0) ≡ key
   newest-key = rw first-place (new-key state key frame domain long fits)
 
-  pub newest-frame : frameIn new (placeOf new 0) ≡ frame
+  pub newest-frame : frameIn new (placeOfAge new 0) ≡ frame
   newest-frame = rw first-place (new-frame state key frame domain long fits)
 
-  pub newest-domain : domainIn new (placeOf new 0) ≡ domain
+  pub newest-domain : domainIn new (placeOfAge new 0) ≡ domain
   newest-domain = rw first-place (new-domain state key frame domain long fits)
 
-  pub older-key : (i : ℕ) → i < 63 → keyIn new (placeOf new (suc i)) ≡ keyIn state (placeOf state i)
-  older-key i h = rw (next-place i h) (old-key state key frame domain long fits (placeOf state i) (omega arith) (not-first i h))
+  pub older-key : (i : ℕ) → i < 63 → keyIn new (placeOfAge new (suc i)) ≡ keyIn state (placeOfAge state i)
+  older-key i h = rw (next-place i h) (old-key state key frame domain long fits (placeOfAge state i) (omega arith) (not-first i h))
 
-  pub older-frame : (i : ℕ) → i < 63 → frameIn new (placeOf new (suc i)) ≡ frameIn state (placeOf state i)
-  older-frame i h = rw (next-place i h) (old-frame state key frame domain long fits (placeOf state i) (omega arith) (not-first i h))
+  pub older-frame : (i : ℕ) → i < 63 → frameIn new (placeOfAge new (suc i)) ≡ frameIn state (placeOfAge state i)
+  older-frame i h = rw (next-place i h) (old-frame state key frame domain long fits (placeOfAge state i) (omega arith) (not-first i h))
 
-  pub older-domain : (i : ℕ) → i < 63 → domainIn new (placeOf new (suc i)) ≡ domainIn state (placeOf state i)
-  older-domain i h = rw (next-place i h) (old-domain state key frame domain long fits (placeOf state i) (omega arith) (not-first i h))
+  pub older-domain : (i : ℕ) → i < 63 → domainIn new (placeOfAge new (suc i)) ≡ domainIn state (placeOfAge state i)
+  older-domain i h = rw (next-place i h) (old-domain state key frame domain long fits (placeOfAge state i) (omega arith) (not-first i h))
 
   -- a chain to an age that stays doesn't begin at the place that goes
   begins : {i : ℕ} (b : ℕ) → i < 63 → Reach state i 0 (bucketIn state b) → bucketIn state b ≡ beforeOf state → ⊥
@@ -87,30 +87,30 @@ module _ (state : List ℕ) (key frame domain : ℕ) (long : length state ≡ wo
 
   pub hold-linked : Linked state → Linked new
   hold-linked linked zero few used =
-      let at : keyIn new (placeOf new 0) ≡ key = rw first-place (new-key state key frame domain long fits) in
+      let at : keyIn new (placeOfAge new 0) ≡ key = rw first-place (new-key state key frame domain long fits) in
       rw (at, new-bucket state key frame domain long fits) (here 0 (beforeOf state) (omega arith) (omega arith) (omega (arith, head-new)))
   hold-linked linked (suc i) few used =
       let same = older-key i (omega arith) in
       rw same
-      (to-older i (bucketOf (keyIn state (placeOf state i))) (omega arith) (bucket-lt (keyIn state (placeOf state i)))
+      (to-older i (bucketOf (keyIn state (placeOfAge state i))) (omega arith) (bucket-lt (keyIn state (placeOfAge state i)))
       (linked i (omega arith) (λ none. used (same ∙ none))))
 
   pub hold-flagged : Flagged state → Flagged new
   hold-flagged flagged zero few used =
-      let at : keyIn new (placeOf new 0) ≡ key = rw first-place (new-key state key frame domain long fits) in
+      let at : keyIn new (placeOfAge new 0) ≡ key = rw first-place (new-key state key frame domain long fits) in
       rw at (fits, λ none. let z : _≡_ {A = ℕ} 0 1 = sym none ∙ new-flag state key frame domain long fits in omega arith)
   hold-flagged flagged (suc i) few used =
       let same = older-key i (omega arith) in
       let was = flagged i (omega arith) (λ none. used (same ∙ none)) in
       rw same
-      (was .0, on (keyIn state (placeOf state i)) (was .0) (was .1) (ℕ-discrete (levelOf (keyIn state (placeOf state i))) (levelOf key)))
+      (was .0, on (keyIn state (placeOfAge state i)) (was .0) (was .1) (ℕ-discrete (keyLevel (keyIn state (placeOfAge state i))) (keyLevel key)))
     where
-      on : (k : ℕ) → k < 2 ^ 64 → (flagIn state (levelOf k) ≡ 0 → ⊥) → Dec (levelOf k ≡ levelOf key) → flagIn new (levelOf k) ≡ 0 → ⊥
+      on : (k : ℕ) → k < 2 ^ 64 → (flagIn state (keyLevel k) ≡ 0 → ⊥) → Dec (keyLevel k ≡ keyLevel key) → flagIn new (keyLevel k) ≡ 0 → ⊥
       on k small set (yes same) none =
           let z : _≡_ {A = ℕ} 0 1 = sym none ∙ ap (flagIn new) same ∙ new-flag state key frame domain long fits in
           omega arith
       on k small set (no other) none =
-          set (sym (old-flag state key frame domain long fits (levelOf k) (omega arith) other) ∙ none)
+          set (sym (old-flag state key frame domain long fits (keyLevel k) (omega arith) other) ∙ none)
 
 -- a place is freed
 module _ (state : List ℕ) (p : ℕ) (few-places : p < 64) (long : length state ≡ words) where
@@ -128,21 +128,21 @@ module _ (state : List ℕ) (p : ℕ) (few-places : p < 64) (long : length state
   pub freed-key : (q : ℕ) → (q ≡ p → ⊥) → keyIn (freed state p) q ≡ keyIn state q
   freed-key q apart = freed-elsewhere (8 + q) (λ e. apart (omega arith))
 
-  pub freed-place : (i : ℕ) → placeOf (freed state p) i ≡ placeOf state i
+  pub freed-place : (i : ℕ) → placeOfAge (freed state p) i ≡ placeOfAge state i
   freed-place i = omega (arith, freed-head)
 
   -- what is still in use there was so before
-  pub used-before : (i : ℕ) → (keyIn (freed state p) (placeOf (freed state p) i) ≡ 0 → ⊥)
-      → keyIn (freed state p) (placeOf (freed state p) i) ≡ keyIn state (placeOf state i)
+  pub used-before : (i : ℕ) → (keyIn (freed state p) (placeOfAge (freed state p) i) ≡ 0 → ⊥)
+      → keyIn (freed state p) (placeOfAge (freed state p) i) ≡ keyIn state (placeOfAge state i)
   used-before i used =
       let at = freed-place i in
       rw at
-      (freed-key (placeOf state i) (λ e. used (rw at (rw e freed-there))))
+      (freed-key (placeOfAge state i) (λ e. used (rw at (rw e freed-there))))
 
   pub freed-linked : Linked state → Linked (freed state p)
   freed-linked linked i few used =
       let same = used-before i used in
-      let b = bucketOf (keyIn state (placeOf state i)) in
+      let b = bucketOf (keyIn state (placeOfAge state i)) in
       rw (same, freed-elsewhere (264 + b) (λ e. omega arith))
       (reach-same state (freed state p) freed-head (λ q near. freed-elsewhere (200 + q) (λ e. omega arith)) (linked i few (λ none. used (same ∙ none))))
 
@@ -150,10 +150,10 @@ module _ (state : List ℕ) (p : ℕ) (few-places : p < 64) (long : length state
   freed-flagged flagged i few used =
       let same = used-before i used in
       let was = flagged i few (λ none. used (same ∙ none)) in
-      rw same (was .0, on (keyIn state (placeOf state i)) (was .0) (was .1))
+      rw same (was .0, on (keyIn state (placeOfAge state i)) (was .0) (was .1))
     where
-      on : (k : ℕ) → k < 2 ^ 64 → (flagIn state (levelOf k) ≡ 0 → ⊥) → flagIn (freed state p) (levelOf k) ≡ 0 → ⊥
-      on k small set none = set (sym (freed-elsewhere (4 + levelOf k) (λ e. omega arith)) ∙ none)
+      on : (k : ℕ) → k < 2 ^ 64 → (flagIn state (keyLevel k) ≡ 0 → ⊥) → flagIn (freed state p) (keyLevel k) ≡ 0 → ⊥
+      on k small set none = set (sym (freed-elsewhere (4 + keyLevel k) (λ e. omega arith)) ∙ none)
 
 -- a state of zeros
 pub zero-at : (n j : ℕ) → getD (replicate {A = ℕ} n 0) j 0 ≡ 0

@@ -6,7 +6,7 @@ use mathlib.Core.Path.{_≡_, refl, sym, _∙_}
 use lib.Dec.{eqb}
 use lib.ListN.{length, length-set, set}
 use Rattle.image.specs.Choice.{if_then_else_}
-use Rattle.places.specs.Layout.{keyIn, frameIn, domainIn, bucketIn, bucketOf, levelOf}
+use Rattle.places.specs.Layout.{keyIn, frameIn, domainIn, bucketIn, bucketOf, keyLevel}
 use Rattle.places.specs.Changes.{beforeOf, unless, released, linked, filled, holding, freed, resettled, sifted}
 
 pub length-released : (state : List ℕ) (place : ℕ) → length (released state place) ≡ length state

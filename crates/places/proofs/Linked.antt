@@ -9,11 +9,11 @@ use borrow.Author.Tests.{eq-eqb, ne-eqb}
 use lib.Dec.{eqb}
 use lib.ListN.{getD}
 use Rattle.image.specs.Choice.{if_then_else_}
-use Rattle.places.specs.Layout.{headOf, flagIn, keyIn, linkIn, bucketIn, placeOf, ageOf, bucketOf, levelOf}
+use Rattle.places.specs.Layout.{headOf, flagIn, keyIn, linkIn, bucketIn, placeOfAge, ageOf, bucketOf, keyLevel}
 use Rattle.places.specs.Chain.{chained, firstAge, ageOfKey}
 use Rattle.places.proofs.Chains.{age-lt, no-place, not-older, has-key, goes-on}
 
-pub place-age : (state : List ℕ) (p : ℕ) → p < 64 → placeOf state (ageOf state p) ≡ p
+pub place-age : (state : List ℕ) (p : ℕ) → p < 64 → placeOfAge state (ageOf state p) ≡ p
 place-age state p h = omega arith
 
 -- the chain from a place, of ages of at least so many, leads to an age
@@ -61,12 +61,12 @@ reach-same state state′ head links (next l p near older rest) =
 -- the first age from least on with the key, or 64
 pub record First (state : List ℕ) (key least x : ℕ) : Type 0 where
   pub most : x ≤ 64
-  pub has : x < 64 → keyIn state (placeOf state x) ≡ key
-  pub none : (i : ℕ) → least ≤ i → i < x → keyIn state (placeOf state i) ≡ key → ⊥
+  pub has : x < 64 → keyIn state (placeOfAge state x) ≡ key
+  pub none : (i : ℕ) → least ≤ i → i < x → keyIn state (placeOfAge state i) ≡ key → ⊥
 
 module _ (state : List ℕ) (key : ℕ) where
   abbrev All : (least place : ℕ) → Type 0
-  All least place = (i : ℕ) → least ≤ i → i < 64 → keyIn state (placeOf state i) ≡ key → Reach state i least place
+  All least place = (i : ℕ) → least ≤ i → i < 64 → keyIn state (placeOfAge state i) ≡ key → Reach state i least place
 
   nothing : (least place x : ℕ) → x ≡ 64 → ((i : ℕ) → Reach state i least place → ⊥) → All least place → First state key least x
   nothing least place x is never all =
@@ -101,8 +101,8 @@ module _ (state : List ℕ) (key : ℕ) where
           })
       on (yes near) (yes older) (no other) ih =
           let back = place-age state place near in
-          let apart : (i : ℕ) → keyIn state (placeOf state i) ≡ key → ageOf state place ≡ i → ⊥ =
-          λ i at same. other (ap (λ (q : ℕ). keyIn state q) (sym back) ∙ ap (λ (j : ℕ). keyIn state (placeOf state j)) same ∙ at) in
+          let apart : (i : ℕ) → keyIn state (placeOfAge state i) ≡ key → ageOf state place ≡ i → ⊥ =
+          λ i at same. other (ap (λ (q : ℕ). keyIn state q) (sym back) ∙ ap (λ (j : ℕ). keyIn state (placeOfAge state j)) same ∙ at) in
           let rest = ih older (λ i from few at. reach-on (apart i at) (all i (omega arith) few at)) in
           rw (goes-on state key n least place near older other)
           (record {
@@ -117,13 +117,13 @@ module _ (state : List ℕ) (key : ℕ) where
 -- each place in use is led to from its bucket, and the flag of its level is set
 abbrev pub Linked : List ℕ → Type 0
 Linked state =
-    (i : ℕ) → i < 64 → (keyIn state (placeOf state i) ≡ 0 → ⊥)
-    → Reach state i 0 (bucketIn state (bucketOf (keyIn state (placeOf state i))))
+    (i : ℕ) → i < 64 → (keyIn state (placeOfAge state i) ≡ 0 → ⊥)
+    → Reach state i 0 (bucketIn state (bucketOf (keyIn state (placeOfAge state i))))
 
 abbrev pub Flagged : List ℕ → Type 0
 Flagged state =
-    (i : ℕ) → i < 64 → (keyIn state (placeOf state i) ≡ 0 → ⊥)
-    → (keyIn state (placeOf state i) < 2 ^ 64) × (flagIn state (levelOf (keyIn state (placeOf state i))) ≡ 0 → ⊥)
+    (i : ℕ) → i < 64 → (keyIn state (placeOfAge state i) ≡ 0 → ⊥)
+    → (keyIn state (placeOfAge state i) < 2 ^ 64) × (flagIn state (keyLevel (keyIn state (placeOfAge state i))) ≡ 0 → ⊥)
 
 pub first-age-first : (state : List ℕ) (key : ℕ) → Linked state → (key ≡ 0 → ⊥) → First state key 0 (firstAge state key)
 first-age-first state key linked used =
@@ -133,16 +133,16 @@ first-age-first state key linked used =
 
 pub age-of-key-first : (state : List ℕ) (key : ℕ) → Linked state → Flagged state → (key ≡ 0 → ⊥) → First state key 0 (ageOfKey state key)
 unfolding ageOfKey
-age-of-key-first state key linked flagged used = on (ℕ-discrete (flagIn state (levelOf key)) 0)
+age-of-key-first state key linked flagged used = on (ℕ-discrete (flagIn state (keyLevel key)) 0)
   where
-    on : Dec (flagIn state (levelOf key) ≡ 0)
-        → First state key 0 (if eqb (flagIn state (levelOf key)) 0 then 64 else firstAge state key)
-    on (no set) = rw (ne-eqb (flagIn state (levelOf key)) 0 set) (first-age-first state key linked used)
+    on : Dec (flagIn state (keyLevel key) ≡ 0)
+        → First state key 0 (if eqb (flagIn state (keyLevel key)) 0 then 64 else firstAge state key)
+    on (no set) = rw (ne-eqb (flagIn state (keyLevel key)) 0 set) (first-age-first state key linked used)
     on (yes unset) =
-        rw (eq-eqb (flagIn state (levelOf key)) 0 unset)
+        rw (eq-eqb (flagIn state (keyLevel key)) 0 unset)
         (record {
           most = omega arith;
           has = λ h. absurd (omega arith);
           none = λ i from below at.
-              flagged i below (λ none. used (sym at ∙ none)) .1 (ap (λ (k : ℕ). flagIn state (levelOf k)) at ∙ unset);
+              flagged i below (λ none. used (sym at ∙ none)) .1 (ap (λ (k : ℕ). flagIn state (keyLevel k)) at ∙ unset);
         })

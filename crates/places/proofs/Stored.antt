@@ -10,7 +10,7 @@ use lib.Dec.{eqb}
 use lib.ListN.{length, length-set, getD, set}
 use lib.Seq.{getD-set-same, getD-set-other}
 use Rattle.image.specs.Choice.{if_then_else_}
-use Rattle.places.specs.Layout.{words, headOf, flagIn, keyIn, frameIn, domainIn, linkIn, bucketIn, bucketOf, levelOf}
+use Rattle.places.specs.Layout.{words, headOf, flagIn, keyIn, frameIn, domainIn, linkIn, bucketIn, bucketOf, keyLevel}
 use Rattle.places.specs.Changes.{beforeOf, unless, released, linked, filled, holding}
 use Rattle.places.proofs.Lengths.{length-released, length-linked}
 
@@ -79,16 +79,16 @@ module _ (s : List ℕ) (key frame domain p : ℕ) (long : length s ≡ words) (
   owned = set framed (136 + p) domain
 
   abbrev flagged : List ℕ
-  flagged = set owned (4 + levelOf key) 1
+  flagged = set owned (4 + keyLevel key) 1
 
-  level-lt : levelOf key < 4
+  level-lt : keyLevel key < 4
   level-lt = omega arith
 
   -- past the head and the flags
   filled-high : (j : ℕ) → 8 ≤ j → getD (filled s key frame domain p) j 0 ≡ getD owned j 0
   unfolding filled
   filled-high j high =
-      getD-set-other flagged 0 j p 0 (λ e. omega arith) ∙ getD-set-other owned (4 + levelOf key) j 1 0 (λ e. omega (arith, level-lt))
+      getD-set-other flagged 0 j p 0 (λ e. omega arith) ∙ getD-set-other owned (4 + keyLevel key) j 1 0 (λ e. omega (arith, level-lt))
 
   filled-past : (j : ℕ) → 8 ≤ j → (j ≡ 8 + p → ⊥) → (j ≡ 72 + p → ⊥) → (j ≡ 136 + p → ⊥) → getD (filled s key frame domain p) j 0 ≡ getD s j 0
   filled-past j high a b c =
@@ -129,24 +129,24 @@ module _ (s : List ℕ) (key frame domain p : ℕ) (long : length s ≡ words) (
 
   lengths : length flagged ≡ words
   lengths =
-      length-set owned (4 + levelOf key) 1 ∙ length-set framed (136 + p) domain ∙ length-set keyed (72 + p) frame ∙ length-set s (8 + p) key ∙ long
+      length-set owned (4 + keyLevel key) 1 ∙ length-set framed (136 + p) domain ∙ length-set keyed (72 + p) frame ∙ length-set s (8 + p) key ∙ long
 
   pub filled-head : getD (filled s key frame domain p) 0 0 ≡ p
   unfolding filled
   filled-head = getD-set-same flagged 0 p 0 (omega (arith, lengths))
 
-  pub filled-flag : flagIn (filled s key frame domain p) (levelOf key) ≡ 1
+  pub filled-flag : flagIn (filled s key frame domain p) (keyLevel key) ≡ 1
   unfolding filled
   filled-flag =
-      getD-set-other flagged 0 (4 + levelOf key) p 0 (λ e. omega arith)
-      ∙ getD-set-same owned (4 + levelOf key) 1 0
+      getD-set-other flagged 0 (4 + keyLevel key) p 0 (λ e. omega arith)
+      ∙ getD-set-same owned (4 + keyLevel key) 1 0
       (omega (arith, level-lt, length-set framed (136 + p) domain, length-set keyed (72 + p) frame, length-set s (8 + p) key))
 
-  pub filled-flags : (level : ℕ) → level < 4 → (level ≡ levelOf key → ⊥) → flagIn (filled s key frame domain p) level ≡ flagIn s level
+  pub filled-flags : (level : ℕ) → level < 4 → (level ≡ keyLevel key → ⊥) → flagIn (filled s key frame domain p) level ≡ flagIn s level
   unfolding filled
   filled-flags level small apart =
       getD-set-other flagged 0 (4 + level) p 0 (λ e. omega arith)
-      ∙ getD-set-other owned (4 + levelOf key) (4 + level) 1 0 (λ e. apart (omega arith))
+      ∙ getD-set-other owned (4 + keyLevel key) (4 + level) 1 0 (λ e. apart (omega arith))
       ∙ getD-set-other framed (136 + p) (4 + level) domain 0 (λ e. omega arith)
       ∙ getD-set-other keyed (72 + p) (4 + level) frame 0 (λ e. omega arith)
       ∙ getD-set-other s (8 + p) (4 + level) key 0 (λ e. omega arith)
@@ -190,7 +190,7 @@ module _ (state : List ℕ) (key frame domain : ℕ) (long : length state ≡ wo
   unfolding holding
   new-domain = filled-domain led key frame domain place long-led place-lt fits
 
-  pub new-flag : flagIn (holding state key frame domain) (levelOf key) ≡ 1
+  pub new-flag : flagIn (holding state key frame domain) (keyLevel key) ≡ 1
   unfolding holding
   new-flag = filled-flag led key frame domain place long-led place-lt fits
 
@@ -233,7 +233,7 @@ module _ (state : List ℕ) (key frame domain : ℕ) (long : length state ≡ wo
       ∙ linked-buckets bare key place long-bare place-lt b apart
       ∙ released-kept state place long b few other
 
-  pub old-flag : (level : ℕ) → level < 4 → (level ≡ levelOf key → ⊥) → flagIn (holding state key frame domain) level ≡ flagIn state level
+  pub old-flag : (level : ℕ) → level < 4 → (level ≡ keyLevel key → ⊥) → flagIn (holding state key frame domain) level ≡ flagIn state level
   unfolding holding
   old-flag level small apart =
       filled-flags led key frame domain place long-led place-lt fits level small apart ∙ low (4 + level) (omega arith)

@@ -4,7 +4,7 @@ use mathlib.Core.Bool.{Bool, _&&_}
 use mathlib.Core.List.{List}
 use lib.Dec.{eqb, ltb, leb}
 use Rattle.image.specs.Choice.{if_then_else_}
-use Rattle.places.specs.Layout.{keyIn, linkIn, bucketIn, ageOf, bucketOf, levelOf, flagIn}
+use Rattle.places.specs.Layout.{keyIn, linkIn, bucketIn, ageOf, bucketOf, keyLevel, flagIn}
 
 -- the age of the first place with the key, or 64: a link that is no place, or that leads to a place not older, ends the chain
 unfoldable pub chained : (state : List ℕ) (key n least place : ℕ) → ℕ
@@ -20,4 +20,4 @@ firstAge state key = chained state key 64 0 (bucketIn state (bucketOf key))
 
 -- a key of a level of which nothing can be held isn't looked up
 unfoldable pub ageOfKey : (state : List ℕ) (key : ℕ) → ℕ
-ageOfKey state key = if eqb (flagIn state (levelOf key)) 0 then 64 else firstAge state key
+ageOfKey state key = if eqb (flagIn state (keyLevel key)) 0 then 64 else firstAge state key

@@ -5,7 +5,7 @@ use mathlib.Core.List.{List}
 use lib.Dec.{eqb}
 use lib.ListN.{set}
 use Rattle.image.specs.Choice.{if_then_else_}
-use Rattle.places.specs.Layout.{headOf, keyIn, frameIn, domainIn, bucketIn, bucketOf, levelOf}
+use Rattle.places.specs.Layout.{headOf, keyIn, frameIn, domainIn, bucketIn, bucketOf, keyLevel}
 
 -- the place before the newest: free, or the oldest one's where 64 are held
 abbrev pub beforeOf : List ℕ → ℕ
@@ -26,7 +26,7 @@ linked state key place = set (set state (200 + place) (bucketIn state (bucketOf 
 -- a place is filled, and the newest
 unfoldable pub filled : (state : List ℕ) (key frame domain place : ℕ) → List ℕ
 filled state key frame domain place =
-    set (set (set (set (set state (8 + place) key) (72 + place) frame) (136 + place) domain) (4 + levelOf key) 1) 0 place
+    set (set (set (set (set state (8 + place) key) (72 + place) frame) (136 + place) domain) (4 + keyLevel key) 1) 0 place
 
 -- one more: a 65th takes the oldest one's place
 unfoldable pub holding : (state : List ℕ) (key frame domain : ℕ) → List ℕ

@@ -36,15 +36,15 @@ abbrev pub bucketIn : List ℕ → (bucket : ℕ) → ℕ
 bucketIn state bucket = getD state (264 + bucket) 0
 
 -- the place of an age, 0 for the newest, and the age of a place
-abbrev pub placeOf : List ℕ → (age : ℕ) → ℕ
-placeOf state age = (headOf state + age) % 64
+abbrev pub placeOfAge : List ℕ → (age : ℕ) → ℕ
+placeOfAge state age = (headOf state + age) % 64
 
 abbrev pub ageOf : List ℕ → (place : ℕ) → ℕ
 ageOf state place = (place + 64 - headOf state) % 64
 
 -- the level that a key has in 63:62
-abbrev pub levelOf : (key : ℕ) → ℕ
-levelOf key = key / 2 ^ 62
+abbrev pub keyLevel : (key : ℕ) → ℕ
+keyLevel key = key / 2 ^ 62
 
 -- a key's bucket: bits 31:23 of a product, so that keys that differ little are far apart
 unfoldable pub bucketOf : (key : ℕ) → ℕ

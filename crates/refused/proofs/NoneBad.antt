@@ -10,8 +10,8 @@ use lib.Dec.{eqb, ltb}
 use lib.ListN.{length, take, length-take}
 use lib.Seq.{take-all}
 use Rattle.image.specs.Choice.{if_then_else_}
-use Rattle.image.specs.Windows.{Window, windowsOf, badWindow, badPair, badWithAny, badList, badCount, badWindows}
-use Rattle.image.proofs.GoodWindows.{neither, nor}
+use Rattle.image.specs.Windows.{Window, windowsOf, badWindow, badPair, badWithAny, badList, badNumbers, badWindows}
+use Rattle.image.proofs.Choices.{neither, nor}
 use Rattle.registers.specs.Registers.{outside, badTable, registersBad}
 use Rattle.registers.specs.declared.Registers.{Registers}
 use Rattle.refused.specs.FirstBad.{firstBadRegister, firstBadWindow, firstBad, NoneBad}
@@ -53,13 +53,13 @@ unfolding triples
 whole zero = refl
 whole (suc k) = let rest = whole k in omega arith
 
-counted : (k : ℕ) (numbers : List ℕ) → badCount (length numbers) ≡ false → badCount (length (take (triples k) numbers)) ≡ false
+counted : (k : ℕ) (numbers : List ℕ) → badNumbers (length numbers) ≡ false → badNumbers (length (take (triples k) numbers)) ≡ false
 counted k numbers h = go (decLe (length numbers) (triples k))
   where
     each : (ltb 12 (length numbers) ≡ false) × (not (eqb (length numbers % 3) 0) ≡ false)
     each = neither _ _ h
 
-    go : Dec (length numbers ≤ triples k) → badCount (length (take (triples k) numbers)) ≡ false
+    go : Dec (length numbers ≤ triples k) → badNumbers (length (take (triples k) numbers)) ≡ false
     go (yes all) = rw (take-all (triples k) numbers all) h
     go (no part) =
         let long : length (take (triples k) numbers) ≡ triples k = simp length-take (omega arith) in

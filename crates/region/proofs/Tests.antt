@@ -1,6 +1,6 @@
 -- Tests of sums, as the code makes them without a sum that could wrap.
 use Prim.Native.Nat.{ℕ, _+_, _-_, _*_, _^_, _<_, _≤_}
-use mathlib.Core.Bool.{Bool, true, false, not, _&&_, _||_}
+use mathlib.Core.Bool.{Bool, true, false, not, _&&_, _||_, and-true, and-false}
 use mathlib.Core.Path.{_≡_, refl, ap, sym, _∙_}
 use native.Mathlib.Omega.{arith}
 use native.Mathlib.Decide.{decLe}
@@ -23,14 +23,6 @@ below n start other h = go (decLe (other + n) start)
     go : Dec (other + n ≤ start) → ltb (start - n) other ≡ ltb start (other + n)
     go (yes e) = rw (le-ltb (start - n) other (omega arith), le-ltb start (other + n) e)
     go (no e) = rw (lt-ltb (start - n) other (omega arith), lt-ltb start (other + n) (omega arith))
-
-and-false : (t : Bool) → (t && false) ≡ false
-and-false true = refl
-and-false false = refl
-
-and-true : (t : Bool) → (t && true) ≡ t
-and-true true = refl
-and-true false = refl
 
 module _ (start size other n : ℕ) where
   pub meets-none : size ≡ 0 → false ≡ meets start size other n

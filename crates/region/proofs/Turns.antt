@@ -7,20 +7,20 @@ use native.Mathlib.Omega.{arith}
 use Rattle.image.specs.Memory.{Memory, withWord}
 use Rattle.image.specs.Windows.{Spot, nowhere, here, onSpot, spotIn, windowsOf, ofWindows}
 use Rattle.registers.specs.declared.Registers.{Registers}
-use Rattle.tables.specs.Tables.{entryOf}
+use Rattle.tables.specs.Tables.{heldEntry}
 use Rattle.tables.proofs.Folds.{again, none-left}
-use Rattle.region.specs.Copy.{isWhole, placeIn, wordShown, storedAt, copiedIn, copiedOut}
+use Rattle.region.specs.Copy.{isWhole, spotPlace, wordShown, storedAt, copiedIn, copiedOut}
 use Rattle.region.specs.Region.{notPages, pagesShown, badRegion}
-use Rattle.region.specs.Shared.{meets, namedAt, anyNamed, interruptEntries, sharesTables}
+use Rattle.region.specs.Shared.{meets, meetsNamedAt, anyNamed, interruptEntries, sharesTables}
 use lib.Dec.{ltb}
 use Prim.Native.Nat.{_*_, _^_}
 
 module _ (spot : Spot) (word : ℕ) (run : List ℕ) where
-  pub stored-there : isWhole spot ≡ true → {place : ℕ} {after : List ℕ} → place ≡ placeIn spot → after ≡ withWord run place word
+  pub stored-there : isWhole spot ≡ true → {place : ℕ} {after : List ℕ} → place ≡ spotPlace spot → after ≡ withWord run place word
       → after ≡ onSpot spot run (λ place left. withWord run place word)
   stored-there = go spot
     where
-      go : (s : Spot) → isWhole s ≡ true → {place : ℕ} {after : List ℕ} → place ≡ placeIn s → after ≡ withWord run place word
+      go : (s : Spot) → isWhole s ≡ true → {place : ℕ} {after : List ℕ} → place ≡ spotPlace s → after ≡ withWord run place word
           → after ≡ onSpot s run (λ place left. withWord run place word)
       go nowhere h p e = let z : _≡_ {A = ℕ} 0 1 = cc in absurd (omega arith)
       go (here place left) h p e = e ∙ ap (λ (x : ℕ). withWord run x word) p
@@ -45,7 +45,7 @@ module _ (m : Memory) (start n at : ℕ) (copy : List ℕ) where
   in-done none = sym (ap (λ (k : ℕ). copiedIn m start k at copy) (none-left n none))
 
 module _ (windows copy : List ℕ) (start n at : ℕ) (run : List ℕ) where
-  pub out-on : 0 < n → {word : ℕ} {after : List ℕ} → word ≡ entryOf copy at → after ≡ storedAt windows (start + at) word run
+  pub out-on : 0 < n → {word : ℕ} {after : List ℕ} → word ≡ heldEntry copy at → after ≡ storedAt windows (start + at) word run
       → copiedOut windows copy start (n - 1) (at + 8) after ≡ copiedOut windows copy start n at run
   unfolding copiedOut
   out-on more p e =
@@ -71,12 +71,12 @@ module _ (windows : List ℕ) (n at : ℕ) where
   shown-done none = sym (ap (λ (k : ℕ). pagesShown windows k at) (none-left n none))
 
 module _ (posted : Bool) (start size : ℕ) (m : Memory) (n at : ℕ) where
-  pub named-on : 0 < n → namedAt posted start size m at ≡ false
+  pub named-on : 0 < n → meetsNamedAt posted start size m at ≡ false
       → anyNamed posted start size m (n - 1) (at + 16) ≡ anyNamed posted start size m n at
   unfolding anyNamed
   named-on more h = sym (ap (λ (k : ℕ). anyNamed posted start size m k at) (again n more) ∙ rw h)
 
-  pub named-one : 0 < n → namedAt posted start size m at ≡ true → true ≡ anyNamed posted start size m n at
+  pub named-one : 0 < n → meetsNamedAt posted start size m at ≡ true → true ≡ anyNamed posted start size m n at
   unfolding anyNamed
   named-one more h = sym (ap (λ (k : ℕ). anyNamed posted start size m k at) (again n more) ∙ rw h)
 

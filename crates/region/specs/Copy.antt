@@ -4,13 +4,13 @@ use mathlib.Core.Bool.{Bool, true, false}
 use mathlib.Core.List.{List}
 use Rattle.image.specs.Memory.{Memory, entry, onFetch, withWord}
 use Rattle.image.specs.Windows.{Spot, onSpot, spotIn, windowsOf, ofWindows}
-use Rattle.tables.specs.Tables.{entryOf}
+use Rattle.tables.specs.Tables.{heldEntry}
 
 abbrev pub isWhole : Spot → Bool
 isWhole spot = onSpot spot false (λ place left. true)
 
-abbrev pub placeIn : Spot → ℕ
-placeIn spot = onSpot spot 0 (λ place left. place)
+abbrev pub spotPlace : Spot → ℕ
+spotPlace spot = onSpot spot 0 (λ place left. place)
 
 -- the word at a host address; 0 where no single window shows all of it
 unfoldable pub wordShown : Memory → (at : ℕ) → ℕ
@@ -29,4 +29,4 @@ copiedIn m start (suc n) at copy = copiedIn m start n (at + 8) (withWord copy at
 unfoldable pub copiedOut : (windows copy : List ℕ) (start : ℕ) → (n at : ℕ) (run : List ℕ) → List ℕ
 copiedOut windows copy start zero at run = run
 copiedOut windows copy start (suc n) at run =
-    copiedOut windows copy start n (at + 8) (storedAt windows (start + at) (entryOf copy at) run)
+    copiedOut windows copy start n (at + 8) (storedAt windows (start + at) (heldEntry copy at) run)

@@ -25,14 +25,14 @@ abbrev pub meetsNamed : (posted : Bool) (start size e : ℕ) → Bool
 meetsNamed posted start size e = if posted then meetsDescriptor start size e else meetsContextTable start size e
 
 -- an entry of 16 bytes at an address names such bytes; one that can't be fetched names none
-abbrev pub namedAt : (posted : Bool) (start size : ℕ) → Memory → (at : ℕ) → Bool
-namedAt posted start size m at = onFetch (entry 2 m at) false (meetsNamed posted start size)
+abbrev pub meetsNamedAt : (posted : Bool) (start size : ℕ) → Memory → (at : ℕ) → Bool
+meetsNamedAt posted start size m at = onFetch (entry 2 m at) false (meetsNamed posted start size)
 
 -- one of so many from an address on does
 unfoldable pub anyNamed : (posted : Bool) (start size : ℕ) → Memory → (n at : ℕ) → Bool
 anyNamed posted start size m zero at = false
 anyNamed posted start size m (suc n) at =
-    namedAt posted start size m at || anyNamed posted start size m n (at + 16)
+    meetsNamedAt posted start size m at || anyNamed posted start size m n (at + 16)
 
 -- the interrupt table has 2^(S+1) entries
 abbrev pub interruptEntries : Registers → ℕ

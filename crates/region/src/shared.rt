@@ -3,10 +3,10 @@ ghost use mathlib.Core.Bool.{false};
 ghost use mathlib.Core.Path.{_≡_};
 ghost use Prim.Native.Nat.{_+_, _*_, _%_, _^_, _<_, _≤_};
 ghost use lib.ListN.{length};
-ghost use Rattle.image.specs.Entries.{number16};
+ghost use Rattle.image.specs.Answers.{number16};
 ghost use Rattle.image.specs.Windows.{ofWindows, badWindows};
 ghost use Rattle.registers.specs.Registers.{registersBad};
-ghost use Rattle.region.specs.Shared.{meets as sharesByte, meetsContextTable, meetsDescriptor, meetsNamed, namedAt, anyNamed, interruptEntries, sharesTables};
+ghost use Rattle.region.specs.Shared.{meets as sharesByte, meetsContextTable, meetsDescriptor, meetsNamed, meetsNamedAt, anyNamed, interruptEntries, sharesTables};
 use dma::table_address;
 use image::Entry16;
 use image::Found16;
@@ -66,7 +66,7 @@ fn meets_named_at(
     at: u64,
 ) -> bool
     requires { ⌜ (badWindows (now windows) (length (now image)) ≡ false) × (start + size < 2 ^ 63) × (at % 16 ≡ 0) ⌝ }
-    ensures { λ r. ⌜ r ≡ namedAt posted start size (ofWindows (now (windows .entry)) (now (image .entry))) at ⌝ }
+    ensures { λ r. ⌜ r ≡ meetsNamedAt posted start size (ofWindows (now (windows .entry)) (now (image .entry))) at ⌝ }
 {
     let Found16::Entry(e) = fetch16(windows, image, at) else {
         return false;

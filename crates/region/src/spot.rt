@@ -4,7 +4,7 @@ ghost use mathlib.Core.Path.{_≡_};
 ghost use Prim.Native.Nat.{_+_, _%_, _≤_};
 ghost use lib.ListN.{length};
 ghost use Rattle.image.specs.Windows.{windowsOf, windowAt, holdsAll, spotIn, ofWindows, badWindows};
-ghost use Rattle.region.specs.Copy.{isWhole, placeIn, wordShown, storedAt};
+ghost use Rattle.region.specs.Copy.{isWhole, spotPlace, wordShown, storedAt};
 use image::Found8;
 use image::page_entry8;
 use image::store8;
@@ -33,7 +33,7 @@ fn holds_all(windows: &[u64], i: usize, size: u64, at: u64) -> bool
 pub(crate) fn find_spot(windows: &[u64], run: usize, size: u64, at: u64) -> Spot
     requires { ⌜ badWindows (now windows) run ≡ false ⌝ }
     ensures { λ r. ⌜ r .whole ≡ isWhole (spotIn (windowsOf (now (windows .entry))) size at) ⌝ }
-    ensures { λ r. ⌜ r .place ≡ placeIn (spotIn (windowsOf (now (windows .entry))) size at) ⌝ }
+    ensures { λ r. ⌜ r .place ≡ spotPlace (spotIn (windowsOf (now (windows .entry))) size at) ⌝ }
 {
     let count = windows.len() / 3;
     let mut n: usize = 0;

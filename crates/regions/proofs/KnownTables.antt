@@ -16,14 +16,15 @@ use Rattle.registers.specs.declared.Registers.{Registers}
 use Rattle.dma.specs.Walk.{down}
 use Rattle.translation.specs.Rights.{both}
 use Rattle.translation.specs.declared.Rights.{Rights}
+use Rattle.translation.proofs.Pages.{same-above}
 use Rattle.regions.specs.Answers.{onwardOf, levelAfter, LeadsTo, Walkable, atTop}
-use Rattle.regions.specs.Known.{rightsNumber, keyOf, Holds, PutIn, Remembers, Quiet, Sound, QuietAround, QuietTo}
+use Rattle.regions.specs.Known.{rightsNumber, keyOf, StandsIn, PutIn, Remembers, Quiet, Sound, QuietAround, QuietTo}
 use Rattle.regions.specs.Region.{Region, listed, regionStep, regionIn}
 use Rattle.regions.specs.declared.Tables.{Tables}
 use Rattle.regions.specs.declared.walk.Onward.{Onward}
 use Rattle.regions.specs.declared.walk.Onward.the-variants as onward
 use Rattle.regions.specs.declared.walk.Reached.{Reached}
-use Rattle.regions.proofs.Regions.{same-above, low-bits, led-to, led-at}
+use Rattle.regions.proofs.Regions.{low-bits, led-to, led-at}
 
 pub pow-le : (i j : ℕ) → i ≤ j → 2 ^ i ≤ 2 ^ j
 pow-le i j h = by (decLe j i)
@@ -210,7 +211,7 @@ module _ (registers : Registers) (m : Memory) (outside : (table : ℕ) → Bool)
 
   -- a known table on it
   pub known-quiet : (levels top address level table : ℕ) (above : Rights) (known : List ℕ) → OnWalk levels top address level table above
-      → Sound registers m outside known → Holds known (keyOf table level above) → table % 4096 ≡ 0 → level ≤ 5
+      → Sound registers m outside known → StandsIn known (keyOf table level above) → table % 4096 ≡ 0 → level ≤ 5
       → QuietAround registers m outside levels top level address
   known-quiet levels top address level table above known on sound held page few some x near =
       ap (λ (r : Region). listed (r .what)) (sym (on x near)) ∙ sound (held .at) table level above page some few (held .there) x

@@ -22,13 +22,6 @@ use Rattle.translation.proofs.Pages.{same-place}
 use Rattle.translation.proofs.Stepped.{down-to}
 use Rattle.regions.specs.Region.{fault, Region, ended, regionStep, regionIn}
 
--- what is the same from a bit on is the same from any bit above it
-pub same-above : (a b low high : ℕ) → low ≤ high → a / 2 ^ low ≡ b / 2 ^ low → a / 2 ^ high ≡ b / 2 ^ high
-same-above a b low high h same =
-    let sum : low + (high - low) ≡ high = omega arith in
-    let by : (n : ℕ) → n / 2 ^ high ≡ n / 2 ^ low / 2 ^ (high - low) = λ n. sym (shr-shr n low (high - low) ∙ ap (λ (k : ℕ). n / 2 ^ k) sum) in
-    by a ∙ ap (λ (x : ℕ). x / 2 ^ (high - low)) same ∙ sym (by b)
-
 pub span-suc : (n : ℕ) → spanAt (suc n) ≡ 2 ^ (12 + 9 * n)
 span-suc n = let less : suc n - 1 ≡ n = omega arith in rw less
 

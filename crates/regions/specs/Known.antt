@@ -21,7 +21,7 @@ abbrev pub keyOf : (table level : ℕ) → Rights → ℕ
 keyOf table level rights = table + (4 * level + rightsNumber rights)
 
 -- a key stands somewhere
-pub record Holds (known : List ℕ) (key : ℕ) : Type 0 where
+pub record StandsIn (known : List ℕ) (key : ℕ) : Type 0 where
   pub at : ℕ
   pub there : getD known at 0 ≡ key
 

@@ -7,7 +7,7 @@ ghost use lib.ListN.{length, replicate, set, getD};
 ghost use Prim.Native.Nat.{ℕ, _+_, _*_, _/_, _%_, _^_, _<_, _≤_};
 ghost use Rattle.image.specs.Windows.{ofWindows, badWindows};
 ghost use Rattle.regions.specs.Answers.{Walkable};
-ghost use Rattle.regions.specs.Known.{rightsNumber, keyOf, Holds, Remembers, Sound, QuietAround, QuietTo};
+ghost use Rattle.regions.specs.Known.{rightsNumber, keyOf, StandsIn, Remembers, Sound, QuietAround, QuietTo};
 ghost use Rattle.regions.specs.Outside.{tableOutside};
 use crate::Tables;
 use crate::walk::Onward;
@@ -65,7 +65,7 @@ pub fn forget(known: &mut [u64])
 // Whether a table is known.
 fn is_known(windows: &[u64], run: usize, known: &[u64], at: Reached) -> bool
     requires { ⌜ (badWindows (now windows) run ≡ false) × (at .table % 4096 ≡ 0) × (at .level ≤ 5) ⌝ }
-    ensures { λ r. ⌜ (r ≡ true → Holds (now (known .entry)) (keyOf (at .table) (at .level) (at .rights))) ⌝ }
+    ensures { λ r. ⌜ (r ≡ true → StandsIn (now (known .entry)) (keyOf (at .table) (at .level) (at .rights))) ⌝ }
 {
     if known.len() == 0 {
         return false;

@@ -9,6 +9,7 @@ use lib.Dec.{leb, ltb, eqb}
 use lib.Pow.{pow-mono}
 use Rattle.registers.specs.declared.Registers.{Registers}
 use Rattle.image.specs.Choice.{if_then_else_}
+use Rattle.image.proofs.Choices.{neither}
 use Rattle.registers.specs.Admission.{refusal, pass, takenUp, admission}
 use Rattle.registers.specs.Registers.{outside, badTable, registersBad}
 
@@ -29,10 +30,6 @@ pub record Good (r : Registers) : Type 0 where
   pub root : Table (r .haw) (r .«root_table»)
   pub interrupt : Table (r .haw) (r .«interrupt_table»)
   pub s : r .s ≤ 15
-
-neither : (a b : Bool) → (a || b) ≡ false → (a ≡ false) × (b ≡ false)
-neither true b e = (e, cc)
-neither false b e = (refl, e)
 
 within : (low high x : ℕ) → outside x low high ≡ false → Within low high x
 within low high x e =

@@ -16,14 +16,14 @@ use Rattle.translation.specs.declared.TranslationRequest.{TranslationRequest}
 use Rattle.interrupts.specs.Descriptor.{silent, notification}
 use Rattle.interrupts.specs.Interrupts as interrupts
 use Rattle.interrupts.specs.Interrupts.{interruptAnswer, interruptAnswerPlace}
-use Rattle.interrupts.specs.Post.{written}
+use Rattle.interrupts.specs.Post.{interruptWritten}
 use Rattle.interrupts.specs.declared.InterruptRequest.{InterruptRequest}
-use Rattle.answered.specs.Answered.{kindOf, faulted, memoryTraced, translationTraced, interruptTraced}
+use Rattle.answered.specs.Answered.{kindOf, faultTraced, memoryTraced, translationTraced, interruptTraced}
 use Rattle.answered.specs.Claims.{memoryEntry, translationEntry, interruptEntry}
 use Rattle.answered.proofs.Entries.{entries-tell}
 use Rattle.replay.specs.Again.{again, leftBy}
 
-fault-kind : (kind source address message : ℕ) (f : FaultAnswer) (p : Place) → faulted kind source address message f p .kind ≡ kind
+fault-kind : (kind source address message : ℕ) (f : FaultAnswer) (p : Place) → faultTraced kind source address message f p .kind ≡ kind
 fault-kind kind source address message f noEntry = refl
 fault-kind kind source address message f (entryAt at) = refl
 
@@ -100,8 +100,8 @@ module _ (then : Registers) (windows bytes : List ℕ) where
         rw (interrupt-kind q) (ap (interruptEntry now windows′ bytes′) (entries-tell .interrupts then windows bytes q .0))
 
     pub interrupt-left : (q : InterruptRequest)
-        → leftBy now windows′ bytes′ (interruptEntry then windows bytes q) ≡ written windows′ (interruptAnswer now q windows′ bytes′) bytes′
+        → leftBy now windows′ bytes′ (interruptEntry then windows bytes q) ≡ interruptWritten windows′ (interruptAnswer now q windows′ bytes′) bytes′
     unfolding leftBy
     interrupt-left q =
         rw (interrupt-kind q)
-        (ap (λ (r : InterruptRequest). written windows′ (interruptAnswer now r windows′ bytes′) bytes′) (entries-tell .interrupts then windows bytes q .0))
+        (ap (λ (r : InterruptRequest). interruptWritten windows′ (interruptAnswer now r windows′ bytes′) bytes′) (entries-tell .interrupts then windows bytes q .0))

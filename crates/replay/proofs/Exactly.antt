@@ -7,7 +7,7 @@ use Rattle.traced.specs.Entry.{tracedIn}
 use Rattle.traced.specs.declared.Traced.{Traced}
 use Rattle.trace.specs.Told as trace
 use Rattle.answered.specs.Claims.{memoryEntry, translationEntry, interruptEntry}
-use Rattle.answered.specs.Told.{memoryOutcomeIn, translationOutcomeIn, interruptOutcomeIn, placeIn}
+use Rattle.answered.specs.Told.{memoryOutcomeIn, translationOutcomeIn, interruptOutcomeIn, concernedIn}
 use Rattle.answered.proofs.Entries.{entries-tell}
 use Rattle.replay.specs.Again.{leftBy, same}
 use Rattle.replay.specs.Replayed.{Named, damagedAt, namedAt, replayed, leftAfter}
@@ -17,11 +17,11 @@ use Rattle.replay.proofs.Sames.{same-self, same-one}
 
 -- an entry that tells an outcome and a place, beside the one of the answer now, which tells another
 module _ {A : Type 0} (e e′ : Traced) (outcomeIn : Traced → A) {o o′ : A} {p p′ : Place} (told : outcomeIn e ≡ o) (told′ : outcomeIn e′ ≡ o′)
-    (placed : placeIn e ≡ p) (placed′ : placeIn e′ ≡ p′) {a : Traced} (asked : a ≡ e′) where
+    (placed : concernedIn e ≡ p) (placed′ : concernedIn e′ ≡ p′) {a : Traced} (asked : a ≡ e′) where
   alike : same e a ≡ true → (o′ ≡ o) × (p′ ≡ p)
   alike h =
       let one : e ≡ e′ = same-one e a h ∙ asked in
-      (sym told′ ∙ ap outcomeIn (sym one) ∙ told, sym placed′ ∙ ap placeIn (sym one) ∙ placed)
+      (sym told′ ∙ ap outcomeIn (sym one) ∙ told, sym placed′ ∙ ap concernedIn (sym one) ∙ placed)
 
   unnamed : e′ ≡ e → same e a ≡ true
   unnamed one = rw (asked, one) (same-self e)
@@ -59,7 +59,7 @@ named-exactly =
 pub replayed-in-order : ReplayedInOrder
 unfolding replayed leftAfter
 replayed-in-order registers windows image [] rest = refl
-replayed-in-order registers windows image (trace.entryAt block index bytes ∷ front) rest =
+replayed-in-order registers windows image (trace.tracedAt block index bytes ∷ front) rest =
     ap (λ (l : List Named). namedAt registers windows image block index (tracedIn bytes) ++ l)
     (replayed-in-order registers windows (leftBy registers windows image (tracedIn bytes)) front rest)
     ∙ sym (append-assoc (namedAt registers windows image block index (tracedIn bytes)) (replayed registers windows (leftBy registers windows image (tracedIn bytes)) front) _)

@@ -12,22 +12,22 @@ use Rattle.trace.proofs.RoundTrip.{read-back}
 use Rattle.answered.proofs.Entries.{entries-well}
 use Rattle.replay.specs.Again.{again, leftBy}
 use Rattle.replay.specs.Replayed.{replayed}
-use Rattle.replay.specs.Claims.{Request, memory, translation, interrupt, entryOf, imageAfter, recorded, AllFit, NoneOfItsOwn}
+use Rattle.replay.specs.Claims.{Request, memory, translation, interrupt, tracedOf, imageAfter, recorded, AllFit, NoneOfItsOwn}
 use Rattle.replay.proofs.Asked.{memory-again, memory-left, translation-again, translation-left, interrupt-again, interrupt-left}
 use Rattle.replay.proofs.Sames.{same-self}
 
 module _ (registers : Registers) (windows : List ℕ) where
-  own-again : (image : List ℕ) (q : Request) → again registers windows image (entryOf registers windows image q) ≡ entryOf registers windows image q
+  own-again : (image : List ℕ) (q : Request) → again registers windows image (tracedOf registers windows image q) ≡ tracedOf registers windows image q
   own-again image (memory q) = memory-again registers windows image registers windows image q
   own-again image (translation q) = translation-again registers windows image registers windows image q
   own-again image (interrupt q) = interrupt-again registers windows image registers windows image q
 
-  own-left : (image : List ℕ) (q : Request) → leftBy registers windows image (entryOf registers windows image q) ≡ imageAfter registers windows image q
+  own-left : (image : List ℕ) (q : Request) → leftBy registers windows image (tracedOf registers windows image q) ≡ imageAfter registers windows image q
   own-left image (memory q) = memory-left registers windows image registers windows image q
   own-left image (translation q) = translation-left registers windows image registers windows image q
   own-left image (interrupt q) = interrupt-left registers windows image registers windows image q
 
-  own-well : (image : List ℕ) (q : Request) → wellTraced (entryOf registers windows image q) ≡ true
+  own-well : (image : List ℕ) (q : Request) → wellTraced (tracedOf registers windows image q) ≡ true
   own-well image (memory q) = entries-well .memory registers windows image q
   own-well image (translation q) = entries-well .translations registers windows image q
   own-well image (interrupt q) = entries-well .interrupts registers windows image q
@@ -47,7 +47,7 @@ module _ (registers : Registers) (windows : List ℕ) where
   unfolding recorded AllFit placed replayed
   own-unnamed n image [] fit = refl
   own-unnamed n image (q ∷ qs) fit =
-      let e = entryOf registers windows image q in
+      let e = tracedOf registers windows image q in
       rw (entry-back e (fit .0), own-again image q, same-self e, own-left image q) (own-unnamed (suc n) (imageAfter registers windows image q) qs (fit .1))
 
 pub none-of-its-own : NoneOfItsOwn

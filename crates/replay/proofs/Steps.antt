@@ -19,7 +19,7 @@ use Rattle.traced.specs.Entry.{entryBytes, tracedIn}
 use Rattle.traced.specs.Well.{wellTraced}
 use Rattle.traced.proofs.Back.{bytes-again}
 use Rattle.trace.specs.Reader as reader
-use Rattle.trace.specs.Reader.{Step, blockAt, behind, shut, onDecoded, stepAt, steps}
+use Rattle.trace.specs.Reader.{ReaderStep, blockAt, behind, shut, onDecoded, stepAt, steps}
 use Rattle.trace.specs.declared.Cursor.{Cursor}
 use Rattle.trace.proofs.Reading.{told-in-steps}
 use Rattle.replay.specs.Again.{again, leftBy, same}
@@ -31,7 +31,7 @@ use Rattle.replay.specs.Replayed.{
   alike,
   differs,
   compared,
-  onStep,
+  replayStep,
   replayAt,
   onReplayed,
   names,
@@ -39,7 +39,7 @@ use Rattle.replay.specs.Replayed.{
 }
 
 -- an entry that a reader hands out comes back from its bytes
-abbrev Back : Step → Type 0
+abbrev Back : ReaderStep → Type 0
 Back (reader.entry e next) = tracedIn (entryBytes e) ≡ e
 Back (reader.damaged next) = Unit {0}
 Back reader.end = Unit {0}
@@ -71,10 +71,10 @@ step-back bytes are place index =
 
 module _ (registers : Registers) (windows bytes : List ℕ) (are : AreBytes bytes) where
   -- one call, then the others
-  one : (n : ℕ) (image : List ℕ) (place index : ℕ) (s : Step) → Back s
+  one : (n : ℕ) (image : List ℕ) (place index : ℕ) (s : ReaderStep) → Back s
       → ((image : List ℕ) (place index : ℕ) → names registers windows n image bytes place index ≡ replayed registers windows image (steps n bytes place index))
-      → onReplayed place index (onStep registers windows image s) (λ next left. names registers windows n left bytes (next .place) (next .index))
-      ≡ replayed registers windows image (reader.onStep place index s (λ next. steps n bytes (next .place) (next .index)))
+      → onReplayed place index (replayStep registers windows image s) (λ next left. names registers windows n left bytes (next .place) (next .index))
+      ≡ replayed registers windows image (reader.onReaderStep place index s (λ next. steps n bytes (next .place) (next .index)))
   unfolding replayed compared
   one n image place index (reader.entry e next) back rest = rw back (by (same e (again registers windows image e)))
     where

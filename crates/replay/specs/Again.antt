@@ -6,7 +6,7 @@ use lib.Dec.{eqb}
 use Rattle.image.specs.Choice.{if_then_else_}
 use Rattle.registers.specs.declared.Registers.{Registers}
 use Rattle.interrupts.specs.Interrupts.{interruptAnswer}
-use Rattle.interrupts.specs.Post.{written}
+use Rattle.interrupts.specs.Post.{interruptWritten}
 use Rattle.traced.specs.declared.Traced.{Traced}
 use Rattle.answered.specs.Claims.{memoryEntry, translationEntry, interruptEntry}
 use Rattle.answered.specs.Told.{memoryIn, translationIn, interruptIn}
@@ -21,7 +21,7 @@ module _ (registers : Registers) (windows image : List ℕ) (e : Traced) where
 
   -- the image that it leaves: a post is made
   unfoldable pub leftBy : List ℕ
-  leftBy = if eqb (e .kind) 3 then written windows (interruptAnswer registers (interruptIn e) windows image) image else image
+  leftBy = if eqb (e .kind) 3 then interruptWritten windows (interruptAnswer registers (interruptIn e) windows image) image else image
 
 -- two entries are the same in every field
 unfoldable pub same : Traced → Traced → Bool

@@ -10,7 +10,7 @@ use Rattle.dma.specs.declared.MemoryRequest.{MemoryRequest}
 use Rattle.translation.specs.Requests.{translationAnswer, translationAnswerPlace}
 use Rattle.translation.specs.declared.TranslationRequest.{TranslationRequest}
 use Rattle.interrupts.specs.Interrupts.{interruptAnswer, interruptAnswerPlace}
-use Rattle.interrupts.specs.Post.{written}
+use Rattle.interrupts.specs.Post.{interruptWritten}
 use Rattle.interrupts.specs.declared.InterruptRequest.{InterruptRequest}
 use Rattle.traced.specs.Entry.{Fits}
 use Rattle.traced.specs.declared.Traced.{Traced}
@@ -55,20 +55,20 @@ pub data Request : Type 0 where
   interrupt : InterruptRequest → Request
 
 module _ (registers : Registers) (windows : List ℕ) where
-  abbrev pub entryOf : (image : List ℕ) → Request → Traced
-  entryOf image (memory q) = memoryEntry registers windows image q
-  entryOf image (translation q) = translationEntry registers windows image q
-  entryOf image (interrupt q) = interruptEntry registers windows image q
+  abbrev pub tracedOf : (image : List ℕ) → Request → Traced
+  tracedOf image (memory q) = memoryEntry registers windows image q
+  tracedOf image (translation q) = translationEntry registers windows image q
+  tracedOf image (interrupt q) = interruptEntry registers windows image q
 
   abbrev pub imageAfter : (image : List ℕ) → Request → List ℕ
   imageAfter image (memory q) = image
   imageAfter image (translation q) = image
-  imageAfter image (interrupt q) = written windows (interruptAnswer registers q windows image) image
+  imageAfter image (interrupt q) = interruptWritten windows (interruptAnswer registers q windows image) image
 
   -- the entries of requests asked one behind the other, posts made
   unfoldable pub recorded : (image : List ℕ) → List Request → List Traced
   recorded image [] = []
-  recorded image (q ∷ qs) = entryOf image q ∷ recorded (imageAfter image q) qs
+  recorded image (q ∷ qs) = tracedOf image q ∷ recorded (imageAfter image q) qs
 
 -- each field fits its bytes, as it does in the code's types
 unfoldable pub AllFit : List Traced → Type 0

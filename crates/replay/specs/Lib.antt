@@ -1,3 +1,4 @@
 pub mod Again
 pub mod Replayed
+pub mod Answers
 pub mod Claims

@@ -11,11 +11,9 @@ use Rattle.traced.specs.declared.Traced.{Traced}
 use Rattle.trace.specs.Told as trace
 use Rattle.trace.specs.Told.{Told, told, blocksIn}
 use Rattle.trace.specs.Reader as reader
-use Rattle.trace.specs.Reader.{Step, stepAt}
+use Rattle.trace.specs.Reader.{ReaderStep, stepAt}
 use Rattle.trace.specs.declared.Cursor.{Cursor}
 use Rattle.replay.specs.Again.{again, leftBy, same}
-use Rattle.replay.specs.declared.Replayed.{Replayed as ReplayedCode}
-use Rattle.replay.specs.declared.Replayed.the-variants as code
 
 pub data Named : Type 0 where
   differsAt : (block index : ℕ) → Named
@@ -29,14 +27,14 @@ module _ (registers : Registers) (windows : List ℕ) where
   -- what is named of what a reader tells, over an image
   unfoldable pub replayed : (image : List ℕ) → List Told → List Named
   replayed image [] = []
-  replayed image (trace.entryAt block index bytes ∷ rest) =
+  replayed image (trace.tracedAt block index bytes ∷ rest) =
       namedAt image block index (tracedIn bytes) ++ replayed (leftBy registers windows image (tracedIn bytes)) rest
   replayed image (trace.damagedAt block ∷ rest) = damagedAt block ∷ replayed image rest
 
   -- the image that is left
   unfoldable pub leftAfter : (image : List ℕ) → List Told → List ℕ
   leftAfter image [] = image
-  leftAfter image (trace.entryAt block index bytes ∷ rest) = leftAfter (leftBy registers windows image (tracedIn bytes)) rest
+  leftAfter image (trace.tracedAt block index bytes ∷ rest) = leftAfter (leftBy registers windows image (tracedIn bytes)) rest
   leftAfter image (trace.damagedAt block ∷ rest) = leftAfter image rest
 
 -- One call, at a reader's place: the answer is the same, or differs, with the entry of the answer now; or the block is damaged; each with
@@ -47,12 +45,6 @@ pub data Replayed : Type 0 where
   damaged : Cursor → Replayed
   end : Replayed
 
-abbrev pub replayedOf : ReplayedCode → Replayed
-replayedOf (code.Same next) = alike next
-replayedOf (code.Differs e next) = differs e next
-replayedOf (code.Damaged next) = damaged next
-replayedOf code.End = end
-
 module _ (registers : Registers) (windows : List ℕ) where
   -- with the image that it leaves
   unfoldable pub compared : (image : List ℕ) → Traced → Cursor → Replayed × List ℕ
@@ -61,13 +53,13 @@ module _ (registers : Registers) (windows : List ℕ) where
     leftBy registers windows image e,
   )
 
-  abbrev pub onStep : (image : List ℕ) → Step → Replayed × List ℕ
-  onStep image (reader.entry e next) = compared image e next
-  onStep image (reader.damaged next) = (damaged next, image)
-  onStep image reader.end = (end, image)
+  abbrev pub replayStep : (image : List ℕ) → ReaderStep → Replayed × List ℕ
+  replayStep image (reader.entry e next) = compared image e next
+  replayStep image (reader.damaged next) = (damaged next, image)
+  replayStep image reader.end = (end, image)
 
   unfoldable pub replayAt : (image bytes : List ℕ) (place index : ℕ) → Replayed × List ℕ
-  replayAt image bytes place index = onStep image (stepAt bytes place index)
+  replayAt image bytes place index = replayStep image (stepAt bytes place index)
 
 -- what a call names, and what the calls from its next place do
 abbrev pub onReplayed : (place index : ℕ) → Replayed × List ℕ → (Cursor → List ℕ → List Named) → List Named

@@ -3,9 +3,10 @@ ghost use mathlib.Core.Path.{_≡_};
 ghost use Rattle.answered.specs.Claims.{memoryEntry, translationEntry, interruptEntry};
 ghost use Rattle.answered.specs.Told.{memoryIn, translationIn, interruptIn};
 ghost use Rattle.interrupts.specs.Interrupts.{interruptAnswer};
-ghost use Rattle.interrupts.specs.Post.{written};
+ghost use Rattle.interrupts.specs.Post.{interruptWritten};
 ghost use Rattle.replay.specs.Again.{again, leftBy, same};
-ghost use Rattle.replay.specs.Replayed.{replayedOf, compared, replayAt};
+ghost use Rattle.replay.specs.Replayed.{compared, replayAt};
+ghost use Rattle.replay.specs.Answers.{replayedOf};
 use answered::interrupt_entry;
 use answered::memory_entry;
 use answered::translation_entry;
@@ -49,7 +50,7 @@ fn translation_again(registers: Registers, windows: &[u64], image: &[u8], e: Tra
 // Its post is made.
 fn interrupt_again(registers: Registers, windows: &[u64], image: &mut [u8], e: Traced) -> Traced
     ensures { λ r. ⌜ r ≡ interruptEntry registers (now (windows .entry)) (now (image .entry)) (interruptIn e) ⌝ }
-    ensures { λ _. ⌜ now (image .exit) ≡ written (now (windows .entry)) (interruptAnswer registers (interruptIn e) (now (windows .entry)) (now (image .entry))) (now (image .entry)) ⌝ }
+    ensures { λ _. ⌜ now (image .exit) ≡ interruptWritten (now (windows .entry)) (interruptAnswer registers (interruptIn e) (now (windows .entry)) (now (image .entry))) (now (image .entry)) ⌝ }
 {
     let request = InterruptRequest {
         source: SourceId::from_number(e.source),

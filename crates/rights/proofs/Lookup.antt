@@ -8,9 +8,9 @@ use Rattle.image.specs.Check.{Check, stop, go, onCheck}
 use Rattle.image.specs.Choice.{if_then_else_}
 use Rattle.image.specs.EntryKind.{rootEntry, scalableContextEntry, pasidDirectoryEntry, pasidTableEntry}
 use Rattle.image.specs.Rules.{Rules, answer, fetch}
+use Rattle.image.proofs.Choices.{past}
 use Rattle.registers.specs.Source.{busOf}
 use Rattle.dma.proofs.Raised.{Raised}
-use Rattle.dma.proofs.Steps.{past}
 use Rattle.pasid.specs.Context.{contextCheck}
 use Rattle.pasid.specs.Directory.{directoryCheck}
 use Rattle.pasid.specs.Root.{rootCheck}

@@ -21,7 +21,7 @@ use Rattle.first.specs.First.{FirstStep, firstStep, onFirst}
 use Rattle.first.specs.First as first
 use Rattle.second.specs.Second.{Walked, page, fault as noPage, atTop, secondRules}
 use Rattle.second.specs.declared.step.Wanted.{Wanted}
-use Rattle.nested.specs.Pages.{Pages, reached, fault, Handed, handed, entryFlags, unfetched, wantedOfEntry, wantedOfPage, toEntry, toPage, intermediateRules, locate, pageRules, walkStep, firstRules, pagesRules}
+use Rattle.nested.specs.Pages.{Pages, reached, fault, FirstHanded, firstHanded, entryFlags, noFirstEntry, wantedOfEntry, wantedOfPage, toEntry, toPage, intermediateRules, locate, hostPageRules, walkStep, firstRules, pagesRules}
 use Rattle.nested.specs.Way.{Located, located, lost}
 use Rattle.rights.proofs.First.{FirstKept, same-clear, first-kept}
 use Rattle.rights.proofs.Kept.{Keeps, keeps-answer, keeps-dead, keeps-map, keeps-then}
@@ -41,7 +41,7 @@ pub pages-all : (a b : Pages) → PagesDead a → PagesKept a b
 pages-all (reached frame level host flags) b dead = absurd dead
 pages-all (fault reason fpd) b dead = tt
 
-abbrev HandedKept : Handed → Handed → Type 0
+abbrev HandedKept : FirstHanded → FirstHanded → Type 0
 HandedKept s s′ = Goes (s .writable) (s′ .writable) × (s .flags ≡ s′ .flags)
 
 pub to-page : (host : ℕ) (a b : Walked) → WalkedKept a b → PagesKept (toPage host a) (toPage host b)
@@ -80,10 +80,10 @@ module _ (r : ScalableRegisters) (haw : 2 ≤ r .base .haw) (p : PasidEntry) (se
       by true = keeps-answer Raised WalkedKept WalkedDead _ _ tt
       by false = second-kept r haw p wanted address (p .«second_levels») (p .«second_top») flags flags′ second-top same
 
-  abbrev Ways : Located Handed Pages → Located Handed Pages → Type 0
+  abbrev Ways : Located FirstHanded Pages → Located FirstHanded Pages → Type 0
   Ways = WayKeeps Raised PagesKept PagesDead pages-all HandedKept
 
-  abbrev Lost : Located Handed Pages → Type 0
+  abbrev Lost : Located FirstHanded Pages → Type 0
   Lost = WayDead Raised PagesKept PagesDead pages-all HandedKept
 
   to-entry : (top top′ : Bool) (place : ℕ) → place % 8 ≡ 0 → (a b : Walked) → WalkedKept a b → Ways (toEntry top place a) (toEntry top′ place b)
@@ -97,7 +97,7 @@ module _ (r : ScalableRegisters) (haw : 2 ≤ r .base .haw) (p : PasidEntry) (se
   entry-lost top place (page frame level writable flags) dead = absurd dead
   entry-lost top place (noPage reason fpd) dead = tt
 
-  located-kept : (s s′ : Handed) (place : ℕ) → place % 8 ≡ 0 → HandedKept s s′ → Keeps Raised Ways Lost (locate r p s place) (locate r p s′ place)
+  located-kept : (s s′ : FirstHanded) (place : ℕ) → place % 8 ≡ 0 → HandedKept s s′ → Keeps Raised Ways Lost (locate r p s place) (locate r p s′ place)
   unfolding locate
   located-kept s s′ place aligned held = by (eqb (p .kind) 3)
     where
@@ -110,9 +110,9 @@ module _ (r : ScalableRegisters) (haw : 2 ≤ r .base .haw) (p : PasidEntry) (se
           (entry-lost (s .top) place) _ _ (intermediate-kept (wantedOfEntry p) place (s .flags) (s′ .flags) (held .1))
       by false = keeps-answer Raised Ways Lost _ _ (refl, aligned, held)
 
-  page-kept : (write : Bool) (a b : Pages) → PagesKept a b → Keeps Raised PagesKept PagesDead (pageRules r p write a) (pageRules r p write b)
-  unfolding pageRules
-  page-kept write (fault reason fpd) b h = keeps-dead Raised PagesKept PagesDead pages-all (fault reason fpd) tt (pageRules r p write b)
+  page-kept : (write : Bool) (a b : Pages) → PagesKept a b → Keeps Raised PagesKept PagesDead (hostPageRules r p write a) (hostPageRules r p write b)
+  unfolding hostPageRules
+  page-kept write (fault reason fpd) b h = keeps-dead Raised PagesKept PagesDead pages-all (fault reason fpd) tt (hostPageRules r p write b)
   page-kept write (reached frame level host flags) b h = rw h (by (eqb (p .kind) 3))
     where
       by : (nested : Bool)
@@ -124,24 +124,24 @@ module _ (r : ScalableRegisters) (haw : 2 ≤ r .base .haw) (p : PasidEntry) (se
           (intermediate-kept (wantedOfPage write) host flags flags refl)
       by false = keeps-answer Raised PagesKept PagesDead _ _ refl
 
-  page-dead : (write : Bool) (a : Pages) → PagesDead a → (q : Rules Pages) → Keeps Raised PagesKept PagesDead (pageRules r p write a) q
-  unfolding pageRules
+  page-dead : (write : Bool) (a : Pages) → PagesDead a → (q : Rules Pages) → Keeps Raised PagesKept PagesDead (hostPageRules r p write a) q
+  unfolding hostPageRules
   page-dead write (reached frame level host flags) dead q = absurd dead
   page-dead write (fault reason fpd) dead q = keeps-dead Raised PagesKept PagesDead pages-all (fault reason fpd) tt q
 
   module _ (address : ℕ) (write : Bool) where
-    abbrev Stepped : Step Handed Pages → Step Handed Pages → Type 0
+    abbrev Stepped : Step FirstHanded Pages → Step FirstHanded Pages → Type 0
     Stepped = StepKeeps Raised PagesKept PagesDead pages-all HandedKept
 
-    step-kept : (level place : ℕ) (s s′ : Handed) (e e′ : ℕ) → HandedKept s s′ → Raised e e′
+    step-kept : (level place : ℕ) (s s′ : FirstHanded) (e e′ : ℕ) → HandedKept s s′ → Raised e e′
         → Stepped (walkStep r p address write level place s e) (walkStep r p address write level place s′ e′)
     step-kept level place s s′ e e′ held up =
         by (firstStep r p write (s .writable) level e) (firstStep r p write (s′ .writable) level e′)
         (first-kept r haw p write up (s .writable) (s′ .writable) level (held .0))
       where
-        on : Handed → (e : ℕ) → FirstStep → Step Handed Pages
+        on : FirstHanded → (e : ℕ) → FirstStep → Step FirstHanded Pages
         on s e x =
-            onFirst x (λ table. down table (handed false (s .flags ++ entryFlags p write false place e)))
+            onFirst x (λ table. down table (firstHanded false (s .flags ++ entryFlags p write false place e)))
             (λ frame level. done (reached frame level (hostAddress level frame address) (s .flags ++ entryFlags p write true place e)))
             (λ reason fpd. done (fault reason fpd))
 
@@ -161,8 +161,8 @@ module _ (r : ScalableRegisters) (haw : 2 ≤ r .base .haw) (p : PasidEntry) (se
 
     pub pages-kept : p .«first_top» % 8 ≡ 0 → Keeps Raised PagesKept PagesDead (pagesRules r p address write) (pagesRules r p address write)
     pages-kept first-top =
-        keeps-then Raised PagesKept PagesDead PagesKept PagesDead (λ w. w) (λ w. w) (pageRules r p write) (pageRules r p write) (λ a b h. h)
+        keeps-then Raised PagesKept PagesDead PagesKept PagesDead (λ w. w) (λ w. w) (hostPageRules r p write) (hostPageRules r p write) (λ a b h. h)
         (page-kept write) (page-dead write) _ _
-        (keeps-way Raised PagesKept PagesDead pages-all HandedKept address (unfetched p) (walkStep r p address write) (λ s s′ held. tt) step-kept
-        firstLevelEntry refl (locate r p) located-kept (p .«first_levels») (p .«first_top») (handed true []) (handed true []) first-top
+        (keeps-way Raised PagesKept PagesDead pages-all HandedKept address (noFirstEntry p) (walkStep r p address write) (λ s s′ held. tt) step-kept
+        firstLevelEntry refl (locate r p) located-kept (p .«first_levels») (p .«first_top») (firstHanded true []) (firstHanded true []) first-top
         (λ h. h, refl))

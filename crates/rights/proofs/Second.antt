@@ -13,7 +13,7 @@ use Rattle.dma.specs.Walk.{Step, done, down}
 use Rattle.dma.proofs.Raised.{Raised, same-field, same-leaf}
 use Rattle.pasid.specs.declared.ScalableRegisters.{ScalableRegisters}
 use Rattle.pasid.specs.declared.table.PasidEntry.{PasidEntry}
-use Rattle.second.specs.Second.{Walked, page, fault, Handed, readable, writable, handedOn, secondFlags, flagsNotSnooped, secondStep, unfetchable, secondRules, atTop}
+use Rattle.second.specs.Second.{Walked, page, fault, SecondHanded, readable, writable, handedOn, secondFlags, flagsNotSnooped, secondStep, noSecondEntry, secondRules, atTop}
 use Rattle.second.specs.declared.step.Wanted.{Wanted}
 use Rattle.rights.proofs.Kept.{Keeps}
 use Rattle.rights.proofs.Raised.{Goes, goes-and, goes-or, lacking, goes-read, goes-write}
@@ -33,14 +33,14 @@ pub walked-all : (a b : Walked) → WalkedDead a → WalkedKept a b
 walked-all (page frame level writable flags) b dead = absurd dead
 walked-all (fault reason fpd) b dead = tt
 
-abbrev HandedKept : Handed → Handed → Type 0
+abbrev HandedKept : SecondHanded → SecondHanded → Type 0
 HandedKept s s′ = Goes (s .read) (s′ .read) × Goes (s .write) (s′ .write) × (s .flags ≡ s′ .flags)
 
-abbrev Stepped : Step Handed Walked → Step Handed Walked → Type 0
+abbrev Stepped : Step SecondHanded Walked → Step SecondHanded Walked → Type 0
 Stepped = StepKeeps Raised WalkedKept WalkedDead walked-all HandedKept
 
 -- past a test that ends the first walk or lets both go on
-tested : (b b′ : Bool) (reason reason′ : ℕ) (fpd fpd′ : Bool) (x y : Step Handed Walked) → (b ≡ false → b′ ≡ false) → Stepped x y
+tested : (b b′ : Bool) (reason reason′ : ℕ) (fpd fpd′ : Bool) (x y : Step SecondHanded Walked) → (b ≡ false → b′ ≡ false) → Stepped x y
     → Stepped (if b then done (fault reason fpd) else x) (if b′ then done (fault reason′ fpd′) else y)
 tested true true reason reason′ fpd fpd′ x y on h = tt
 tested true false reason reason′ fpd fpd′ x (done b) on h = tt
@@ -66,7 +66,7 @@ module _ (r : ScalableRegisters) (haw : 2 ≤ r .base .haw) (p : PasidEntry) whe
         let same = same-field e e′ (raised .other-bits) in
         rw (same 8 8 (omega arith), same 9 9 (omega arith))
 
-  second-step : (wanted : Wanted) (level place : ℕ) (s s′ : Handed) (e e′ : ℕ) → HandedKept s s′ → Raised e e′
+  second-step : (wanted : Wanted) (level place : ℕ) (s s′ : SecondHanded) (e e′ : ℕ) → HandedKept s s′ → Raised e e′
       → Stepped (secondStep r p wanted level place s e) (secondStep r p wanted level place s′ e′)
   second-step wanted level place s s′ e e′ held up =
       let read = goes-and (s .read) (s′ .read) (bit e 0) (bit e′ 0) (held .0) (goes-read up) in
@@ -101,5 +101,5 @@ module _ (r : ScalableRegisters) (haw : 2 ≤ r .base .haw) (p : PasidEntry) whe
       → Keeps Raised WalkedKept WalkedDead (secondRules r p wanted address level table (atTop flags))
       (secondRules r p wanted address level table (atTop flags′))
   second-kept wanted address level table flags flags′ aligned same =
-      keeps-walk Raised WalkedKept WalkedDead walked-all HandedKept address (unfetchable r p wanted) (secondStep r p wanted)
+      keeps-walk Raised WalkedKept WalkedDead walked-all HandedKept address (noSecondEntry r p wanted) (secondStep r p wanted)
       (λ s s′ held. tt) (second-step wanted) level table (atTop flags) (atTop flags′) aligned (λ h. h, λ h. h, same)

@@ -17,7 +17,7 @@ use Rattle.pasid.specs.declared.Pasid.{Pasid}
 use Rattle.pasid.specs.declared.ScalableRegisters.{ScalableRegisters}
 use Rattle.pasid.specs.declared.table.PasidEntry.{PasidEntry}
 use Rattle.first.specs.First.{notCanonical}
-use Rattle.second.specs.Second.{atTop, unfetchable, secondStep}
+use Rattle.second.specs.Second.{atTop, noSecondEntry, secondStep}
 use Rattle.nested.specs.Pages.{Pages, fault, wantedOfPage, toPage, pagesRules, SecondWalkable, FirstWalkable, PagesWalkable}
 use Rattle.nested.proofs.Few.{Few, few-answer, few-more, few-if, few-map, few-then, few-walk, few-pages}
 use Rattle.scalable.specs.Lookup.{Lookup, pasidEntry, noPasidEntry, lookupRules}
@@ -36,7 +36,7 @@ module _ (r : ScalableRegisters) (address : ℕ) (write : Bool) where
       (λ within.
       few-map (toPage address) 35 _
       (few-more (p .«second_levels») 35 _ (omega arith)
-      (few-walk address (unfetchable r p (wantedOfPage write)) (secondStep r p (wantedOfPage write)) (p .«second_levels») (p .«second_top») (atTop []))))
+      (few-walk address (noSecondEntry r p (wantedOfPage write)) (secondStep r p (wantedOfPage write)) (p .«second_levels») (p .«second_top») (atTop []))))
 
   few-paged : (p : PasidEntry) → PagesWalkable p → Few 35 (pagedRules r address write p)
   unfolding pagedRules

@@ -11,9 +11,9 @@ use Rattle.image.specs.Choice.{if_then_else_}
 use Rattle.image.specs.Memory.{Memory}
 use Rattle.image.specs.Place.{Place, lastTried}
 use Rattle.image.specs.Rules.{run, Outside}
+use Rattle.image.proofs.Choices.{past, neither}
 use Rattle.image.proofs.Forks.{every-outside, every-run}
 use Rattle.dma.specs.Context.{widthSupported}
-use Rattle.dma.proofs.Steps.{past}
 use Rattle.pasid.specs.Table.{featureReserved, pointersReserved, tableReserved, typeSupported, modeSupported, tableInvalid, pasidEntryOf, tableCheck}
 use Rattle.pasid.specs.declared.Pasid.{Pasid}
 use Rattle.pasid.specs.declared.ScalableRegisters.{ScalableRegisters}
@@ -22,7 +22,7 @@ use Rattle.scalable.specs.Lookup.{Lookup, lookupRules}
 use Rattle.scalable.specs.Requests.{withoutEntry, lookedUp, translationRules, Walkable}
 use Rattle.nested.proofs.Thens.{Ends, run-then, tried-then}
 use Rattle.scalable.proofs.Forks.{Absent, FoundSo, when-absent, lookup-forks, any-lookup}
-use Rattle.scalable.proofs.Tables.{either, below-haw, first-below}
+use Rattle.scalable.proofs.Tables.{below-haw, first-below}
 
 module _ (r : ScalableRegisters) (address : ℕ) (write : Bool) where
   abbrev Last : Lookup → Type 0
@@ -107,11 +107,11 @@ module _ (r : ScalableRegisters) (low : r .base .haw ≤ 52) where
       let kinds = not (typeSupported r (bits e 8 6)) in
       let widths = (eqb (bits e 8 6) 2 || eqb (bits e 8 6) 3) && not (widthSupported (r .base) (bits e 4 2)) in
       let modes = (eqb (bits e 8 6) 1 || eqb (bits e 8 6) 3) && not (modeSupported r (bits e 131 130)) in
-      let valid = either (kinds || widths) modes (h3 .0) in
-      let parts = either kinds widths (valid .0) in
+      let valid = neither (kinds || widths) modes (h3 .0) in
+      let parts = neither kinds widths (valid .0) in
       let others = anySet e 11 10 || anySet e 86 80 || anySet e 139 136 || anySet e 511 192 in
       let pointers = anySet e 63 (r .base .haw) || anySet e 191 (128 + r .base .haw) in
-      let clear = either (anySet e 63 (r .base .haw)) (anySet e 191 (128 + r .base .haw)) (either others pointers (either (others || pointers) (featureReserved r e) (h2 .0) .0) .1) in
+      let clear = neither (anySet e 63 (r .base .haw)) (anySet e 191 (128 + r .base .haw)) (neither others pointers (neither (others || pointers) (featureReserved r e) (h2 .0) .0) .1) in
       rw is
       (λ not-4. (
         λ two.

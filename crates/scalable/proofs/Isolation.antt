@@ -21,8 +21,8 @@ use Rattle.pasid.specs.declared.table.PasidEntry.{PasidEntry}
 use Rattle.scalable.specs.Isolation.{accessReason, accessFault, ScalableLocality}
 use Rattle.scalable.specs.Lookup.{Lookup, pasidEntry, noPasidEntry, lookupRules}
 use Rattle.scalable.specs.Requests.{Translation, through, translated, pasidTooWide, withoutEntry, secondPages, pagedRules, lookedUp, typeRules, translationRules, Decision, sayOnly, decision, takenRules, scalableRules}
-use Rattle.first.specs.First.{notCanonical, unfetchable as noFirst}
-use Rattle.second.specs.Second.{atTop, unfetchable, secondStep, secondRules}
+use Rattle.first.specs.First.{notCanonical, unfetchableReason as noFirst}
+use Rattle.second.specs.Second.{atTop, noSecondEntry, secondStep, secondRules}
 use Rattle.nested.specs.Pages.{Pages, reached, fault, wantedOfPage, toPage}
 use Rattle.nested.proofs.Nested.{outside-pages}
 use Rattle.nested.proofs.Ways.{outside-walk}
@@ -62,7 +62,7 @@ module _ (r : ScalableRegisters) where
   lost-second address write p =
       outside-if AccessPage (overflows (r .base) (p .«second_levels») address) (answer (fault 0x84 (p .fpd))) _ tt
       (outside-map (toPage address) AccessPage (secondRules r p (wantedOfPage write) address (p .«second_levels») (p .«second_top») (atTop []))
-      (outside-walk (λ w. AccessPage (toPage address w)) address (unfetchable r p (wantedOfPage write)) (secondStep r p (wantedOfPage write))
+      (outside-walk (λ w. AccessPage (toPage address w)) address (noSecondEntry r p (wantedOfPage write)) (secondStep r p (wantedOfPage write))
       (λ above. second-lost (p .fpd) (above .top)) (p .«second_levels») (p .«second_top») (atTop [])))
 
   lost-pages : (address : ℕ) (write : Bool) (p : PasidEntry) → Outside AccessPage (pagedRules r address write p)

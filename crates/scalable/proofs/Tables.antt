@@ -10,9 +10,9 @@ use borrow.Author.Tests.{leb-false}
 use Rattle.image.specs.Bits.{bits, bit, anySet, inPlace}
 use Rattle.image.specs.Check.{go}
 use Rattle.image.specs.Choice.{if_then_else_}
+use Rattle.image.proofs.Choices.{past, neither}
 use Rattle.image.proofs.Fields.{fits, in-place-le, above-digit}
 use Rattle.dma.proofs.Address.{above}
-use Rattle.dma.proofs.Steps.{past}
 use Rattle.pasid.specs.Context.{contextReserved, beyond, contextInvalid, pasidOf, contextOf, contextCheck, Usable}
 use Rattle.pasid.specs.Directory.{directoryReserved, directoryCheck}
 use Rattle.pasid.specs.Root.{half, rootReserved, rootCheck}
@@ -42,10 +42,6 @@ below-range : (e pasid : ℕ) → beyond e pasid ≡ false → pasid < 2 ^ 20
 below-range e pasid h =
     lt-of-lt-of-le (leb-false (2 ^ (bits e 11 9 + 13)) pasid h) (pow-mono {j = 20} (omega (arith, fits e 11 9)))
 
-pub either : (a b : Bool) → (a || b) ≡ false → (a ≡ false) × (b ≡ false)
-either true b h = let z : _≡_ {A = ℕ} 0 1 = cc in absurd (omega arith)
-either false b h = (refl, h)
-
 pub below-haw : (haw e : ℕ) → haw ≤ 52 → anySet e 63 haw ≡ false → inPlace e 63 12 < 2 ^ 52
 unfolding bits
 below-haw haw e low clear =
@@ -65,8 +61,8 @@ usable haw pasid e {c} low h =
     let h5 = past (pasid .present && beyond e (pasid .value)) 0x46 _ c (h4 .1) in
     let says : go (contextOf pasid e) ≡ go c = h5 .1 in
     let is : c ≡ contextOf pasid e = cc in
-    let clear = either (anySet e 8 5) (anySet e 63 haw) (either (anySet e 8 5 || anySet e 63 haw) (anySet e 255 85) (h2 .0) .0) .1 in
-    let own = either (not (bit e 2) && bit e 4) (not (pasid .present) && beyond e (bits e 83 64)) (h3 .0) .1 in
+    let clear = neither (anySet e 8 5) (anySet e 63 haw) (neither (anySet e 8 5 || anySet e 63 haw) (anySet e 255 85) (h2 .0) .0) .1 in
+    let own = neither (not (bit e 2) && bit e 4) (not (pasid .present) && beyond e (bits e 83 64)) (h3 .0) .1 in
     rw is (omega arith, below-haw haw e low clear, used (pasid .present) own (h5 .0))
   where
     used : (present : Bool) → (not present && beyond e (bits e 83 64)) ≡ false → (present && beyond e (pasid .value)) ≡ false

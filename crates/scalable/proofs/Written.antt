@@ -1,6 +1,6 @@
 -- What a request writes: its flags, where it is granted.
 use Prim.Native.Nat.{ℕ, _/_}
-use mathlib.Core.Bool.{Bool, true, false, _&&_, _||_}
+use mathlib.Core.Bool.{Bool, true, false, _&&_, _||_, or-false}
 use mathlib.Core.List.{List, []}
 use mathlib.Core.Path.{_≡_, refl, ap, sym, _∙_}
 use lib.ListN.{length}
@@ -8,14 +8,13 @@ use Rattle.image.specs.Choice.{if_then_else_}
 use Rattle.image.specs.Memory.{Memory}
 use Rattle.image.specs.Rules.{Rules, answer, run, mapRules}
 use Rattle.image.specs.Windows.{ofWindows, badWindows}
-use Rattle.image.proofs.Choices.{or-false}
 use Rattle.image.proofs.Trees.{run-map}
 use Rattle.registers.specs.Admission.{Admitted, refusal, pass, takenUp, admission, onAdmission, inInterruptRange}
 use Rattle.interrupts.specs.Claims.{bitAt}
 use Rattle.dma.specs.InterruptRange.{meetsInterruptRange, spanAt}
 use Rattle.dma.specs.Requests.{granted, refused}
 use Rattle.pasid.specs.declared.ScalableRegisters.{ScalableRegisters}
-use Rattle.flags.specs.Claims.{among, shown}
+use Rattle.flags.specs.Claims.{among, isShown}
 use Rattle.flags.specs.Flags.{setFlags}
 use Rattle.flags.proofs.Exact.{sets-flags}
 use Rattle.nested.specs.Pages.{reached, fault}
@@ -85,6 +84,6 @@ scalable-sets-exactly r q windows bytes n = by (badWindows windows (length bytes
     by : (b : Bool) → badWindows windows (length bytes) ≡ b
         → bitAt windows (setFlags windows ((if b then sayOnly (refused 1) else run (scalableRules r q) (ofWindows windows bytes)) .flags) bytes) n
         ≡ (bitAt windows bytes n
-        || shown windows (n / 8) && among n ((if b then sayOnly (refused 1) else run (scalableRules r q) (ofWindows windows bytes)) .flags))
-    by true e = none (bitAt windows bytes n) (shown windows (n / 8))
+        || isShown windows (n / 8) && among n ((if b then sayOnly (refused 1) else run (scalableRules r q) (ofWindows windows bytes)) .flags))
+    by true e = none (bitAt windows bytes n) (isShown windows (n / 8))
     by false e = sets-flags windows (run (scalableRules r q) (ofWindows windows bytes) .flags) bytes e n

@@ -3,7 +3,7 @@ use Prim.Native.Nat.{ℕ, _^_, _<_, _≤_}
 use mathlib.Core.List.{List}
 use mathlib.Core.Path.{_≡_}
 use lib.ListN.{take}
-use Rattle.image.specs.Entries.{placeOf}
+use Rattle.image.specs.Answers.{placeOf}
 use Rattle.image.specs.Place.{Place, noEntry, entryAt}
 use Rattle.dma.specs.Requests.{MemoryOutcome, granted, blocked, refused}
 use Rattle.pasid.specs.Answers.{faultOf}
@@ -34,14 +34,14 @@ translationOf (translation.Page frame level host n) flags = translated (reached 
 translationOf (translation.Fault reason fpd at) flags = translated (fault (numberOf reason) fpd)
 
 -- the entry that a fault names; where there is no fault, the place handed in
-abbrev pub translationPlace : TranslationCode → Place → Place
-translationPlace translation.Through place = place
-translationPlace (translation.Page frame level host n) place = place
-translationPlace (translation.Fault reason fpd at) place = entryAt at
+abbrev pub faultPlace : TranslationCode → Place → Place
+faultPlace translation.Through place = place
+faultPlace (translation.Page frame level host n) place = place
+faultPlace (translation.Fault reason fpd at) place = entryAt at
 
 -- a fault names this entry, if it is one; a page is one that a walk can answer: for the code's contracts
 abbrev pub TranslationNames : TranslationCode → Place → Type 0
-TranslationNames r place = translationPlace r place ≡ place
+TranslationNames r place = faultPlace r place ≡ place
 
 abbrev pub TranslationReachable : TranslationCode → Type 0
 TranslationReachable translation.Through = Unit {0}

@@ -10,7 +10,7 @@ use Rattle.faults.specs.Record.{FaultAnswer}
 use Rattle.interrupts.specs.Claims.{bitAt}
 use Rattle.dma.specs.Requests.{MemoryOutcome, granted, blocked, refused}
 use Rattle.pasid.specs.declared.ScalableRegisters.{ScalableRegisters}
-use Rattle.flags.specs.Claims.{among, shown}
+use Rattle.flags.specs.Claims.{among, isShown}
 use Rattle.scalable.specs.Requests.{scalableRules, scalablePlace, scalableDecision, scalableAnswer, scalableWritten}
 use Rattle.scalable.specs.declared.ScalableRequest.{ScalableRequest}
 
@@ -46,7 +46,7 @@ abbrev pub ScalableSetsExactly : Type 0
 ScalableSetsExactly =
     (registers : ScalableRegisters) (request : ScalableRequest) (windows bytes : List ℕ) (n : ℕ)
     → bitAt windows (scalableWritten registers request windows bytes) n
-    ≡ (bitAt windows bytes n || shown windows (n / 8) && among n (scalableDecision registers request windows bytes .flags))
+    ≡ (bitAt windows bytes n || isShown windows (n / 8) && among n (scalableDecision registers request windows bytes .flags))
 
 -- Only a granted request writes: any other leaves every byte.
 abbrev pub ScalableLeavesAll : Type 0

@@ -3,7 +3,7 @@ ghost use mathlib.Core.Bool.{false};
 ghost use mathlib.Core.Path.{_≡_};
 ghost use lib.ListN.{length};
 ghost use Prim.Native.Nat.{_%_, _≤_};
-ghost use Rattle.image.specs.Entries.{number64};
+ghost use Rattle.image.specs.Answers.{number64};
 ghost use Rattle.image.specs.Place.{Place, entryAt, lastTried};
 ghost use Rattle.image.specs.Rules.{run};
 ghost use Rattle.image.specs.Windows.{ofWindows, badWindows};

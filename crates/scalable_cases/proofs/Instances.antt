@@ -24,7 +24,7 @@ use Rattle.pasid.specs.Record.{scalableFault}
 use Rattle.pasid.specs.Root.{rootReserved, rootCheck}
 use Rattle.pasid.specs.Table.{featureReserved, pointersReserved, tableReserved, tableInvalid, tableCheck}
 use Rattle.first.specs.First.{notCanonical, firstReserved, firstStep}
-use Rattle.nested.specs.Pages.{intermediateRules, locate, pageRules}
+use Rattle.nested.specs.Pages.{intermediateRules, locate, hostPageRules}
 use Rattle.nested.specs.Then.{thenRules}
 use Rattle.nested.specs.Way.{wayRules}
 use Rattle.scalable.specs.Lookup.{tableRules, directoryRules, contextRules, lookupRules}
@@ -34,7 +34,7 @@ use Rattle.rights.specs.Rights.{decided, walkedByAny, Apart}
 use Rattle.rights.proofs.Rights.{scalable-rights-on, scalable-rights-off}
 use Rattle.rights.specs.Tables.{tableWords, SharesNoByte}
 use Rattle.scalable_cases.specs.Instances.{reading, writing, walked, ScalablePremisesMet}
-use Rattle.scalable_cases.specs.Rows.{rowRegisters, rowWords, placed}
+use Rattle.scalable_cases.specs.Rows.{rowRegisters, rowWords, byWords}
 
 unfoldable every : (ℕ → Bool) → List ℕ → Bool
 every f [] = true
@@ -59,22 +59,22 @@ parted entries words above below e word is there n from end from′ end′ =
 
 -- one of the entries has its rights turned
 module _ (turned : ℕ → ℕ → Type 0) (same : (n : ℕ) → turned n n) (words : List (ℕ × ℕ)) (at old new : ℕ) (entries : List ℕ)
-    (there : List·Memᴰ at entries) (was : placed words at ≡ found old) (turns : SwitchedEntry turned old new) where
+    (there : List·Memᴰ at entries) (was : byWords words at ≡ found old) (turns : SwitchedEntry turned old new) where
   kept : (f : Fetched) → BothFetched (SwitchedEntry turned) f f
   kept missing = tt
   kept (found e) = record { other-bits = refl; read = same (bits e 0 0); write = same (bits e 1 1) }
 
-  one-switched : Switched turned entries (placed words) (placed ((at, new) ∷ words))
-  unfolding placed
+  one-switched : Switched turned entries (byWords words) (byWords ((at, new) ∷ words))
+  unfolding byWords
   one-switched = record { elsewhere = λ n ok out. other n out (eqb n at) refl; switched = λ n is. each n (eqb n at) refl }
     where
-      other : (n : ℕ) → (List·Memᴰ n entries → ⊥) → (b : Bool) → eqb n at ≡ b → (if b then found new else placed words n) ≡ placed words n
+      other : (n : ℕ) → (List·Memᴰ n entries → ⊥) → (b : Bool) → eqb n at ≡ b → (if b then found new else byWords words n) ≡ byWords words n
       other n out true e = absurd (out (subst (λ (k : ℕ). List·Memᴰ k entries) (sym (eqb-true n at e)) there))
       other n out false e = refl
 
-      each : (n : ℕ) (b : Bool) → eqb n at ≡ b → BothFetched (SwitchedEntry turned) (placed words n) (if b then found new else placed words n)
+      each : (n : ℕ) (b : Bool) → eqb n at ≡ b → BothFetched (SwitchedEntry turned) (byWords words n) (if b then found new else byWords words n)
       each n true e = rw (eqb-true n at e, was) turns
-      each n false e = kept (placed words n)
+      each n false e = kept (byWords words n)
 
 -- of the write, then of the read: two second-level entries for each first-level entry and for the page
 abbrev entries : List ℕ
@@ -98,15 +98,15 @@ entries =
     ∷ []
 
 -- what the two requests walk and read, and what they are answered, as the memory has it
-computed : (walked (placed rowWords) ≡ entries)
+computed : (walked (byWords rowWords) ≡ entries)
     × (every (leb 0x10000) entries ≡ true)
-    × (every (λ n. leb n 0x8FFF) (tableWords (scalableRules rowRegisters reading) (placed rowWords)) ≡ true)
-    × (every (λ n. leb n 0x8FFF) (tableWords (scalableRules rowRegisters writing) (placed rowWords)) ≡ true)
-    × (placed rowWords 0x11008 ≡ found 0x200081)
-    × (placed rowWords 0x11000 ≡ found 0x83)
-    × (decided rowRegisters reading (placed rowWords) .outcome ≡ granted 0x123ABC)
-    × ((address : ℕ) → decided rowRegisters writing (placed rowWords) .outcome ≡ granted address → ⊥)
-unfolding every tableWords wordsFrom walkedByAny entriesOf placed scalableRules typeRules pagedRules secondPages thenRules lookupRules contextRules directoryRules tableRules run mapRules walkRules wayRules intermediateRules locate pageRules entry bits admission registersBad rootCheck rootReserved contextCheck contextReserved contextInvalid directoryCheck directoryReserved tableCheck tableReserved pointersReserved featureReserved tableInvalid pageReserved notCanonical firstReserved firstStep
+    × (every (λ n. leb n 0x8FFF) (tableWords (scalableRules rowRegisters reading) (byWords rowWords)) ≡ true)
+    × (every (λ n. leb n 0x8FFF) (tableWords (scalableRules rowRegisters writing) (byWords rowWords)) ≡ true)
+    × (byWords rowWords 0x11008 ≡ found 0x200081)
+    × (byWords rowWords 0x11000 ≡ found 0x83)
+    × (decided rowRegisters reading (byWords rowWords) .outcome ≡ granted 0x123ABC)
+    × ((address : ℕ) → decided rowRegisters writing (byWords rowWords) .outcome ≡ granted address → ⊥)
+unfolding every tableWords wordsFrom walkedByAny entriesOf byWords scalableRules typeRules pagedRules secondPages thenRules lookupRules contextRules directoryRules tableRules run mapRules walkRules wayRules intermediateRules locate hostPageRules entry bits admission registersBad rootCheck rootReserved contextCheck contextReserved contextInvalid directoryCheck directoryReserved tableCheck tableReserved pointersReserved featureReserved tableInvalid pageReserved notCanonical firstReserved firstStep
 computed = (refl, refl, refl, refl, refl, refl, refl, λ address h. let z : _≡_ {A = ℕ} 0 1 = cc in omega arith)
 
 turned-on : SwitchedEntry (λ before after. before ≤ after) 0x200081 0x200083
@@ -132,12 +132,12 @@ scalable-premises-met =
     }
 
 -- and the claims take them
-kept-on : decided rowRegisters reading (placed ((0x11008, 0x200083) ∷ rowWords)) ≡ decided rowRegisters reading (placed rowWords)
+kept-on : decided rowRegisters reading (byWords ((0x11008, 0x200083) ∷ rowWords)) ≡ decided rowRegisters reading (byWords rowWords)
 kept-on =
     let p = scalable-premises-met in
     scalable-rights-on rowRegisters (writing ∷ reading ∷ []) reading _ _ (p .on-apart) (p .switched-on) 0x123ABC (p .was-granted)
 
-none-given : (address : ℕ) → decided rowRegisters writing (placed ((0x11000, 0x80) ∷ rowWords)) .outcome ≡ granted address → ⊥
+none-given : (address : ℕ) → decided rowRegisters writing (byWords ((0x11000, 0x80) ∷ rowWords)) .outcome ≡ granted address → ⊥
 none-given =
     let p = scalable-premises-met in
     scalable-rights-off rowRegisters (writing ∷ reading ∷ []) writing _ _ (p .off-apart) (p .switched-off) (p .not-granted)

@@ -7,7 +7,7 @@ use Rattle.dma.specs.Isolation.{SwitchedOn, SwitchedOff}
 use Rattle.dma.specs.Requests.{granted}
 use Rattle.scalable.specs.declared.ScalableRequest.{ScalableRequest}
 use Rattle.rights.specs.Rights.{decided, walkedByAny, Apart}
-use Rattle.scalable_cases.specs.Rows.{rowRegisters, rowWords, placed, read, write}
+use Rattle.scalable_cases.specs.Rows.{rowRegisters, rowWords, byWords, read, write}
 
 -- a nested read, which is granted, and a write that an entry without W blocks; both are walkers
 abbrev pub reading : ScalableRequest
@@ -21,10 +21,10 @@ walked = walkedByAny rowRegisters (writing ∷ reading ∷ [])
 
 pub record ScalablePremisesMet : Type 0 where
   -- W switched on in the entry that blocked the write
-  pub on-apart : Apart rowRegisters (writing ∷ reading ∷ []) reading (placed rowWords)
-  pub switched-on : SwitchedOn (walked (placed rowWords)) (placed rowWords) (placed ((0x11008, 0x200083) ∷ rowWords))
-  pub was-granted : decided rowRegisters reading (placed rowWords) .outcome ≡ granted 0x123ABC
+  pub on-apart : Apart rowRegisters (writing ∷ reading ∷ []) reading (byWords rowWords)
+  pub switched-on : SwitchedOn (walked (byWords rowWords)) (byWords rowWords) (byWords ((0x11008, 0x200083) ∷ rowWords))
+  pub was-granted : decided rowRegisters reading (byWords rowWords) .outcome ≡ granted 0x123ABC
   -- R and W switched off in the entry that maps the read's first-level tables
-  pub off-apart : Apart rowRegisters (writing ∷ reading ∷ []) writing (placed rowWords)
-  pub switched-off : SwitchedOff (walked (placed rowWords)) (placed rowWords) (placed ((0x11000, 0x80) ∷ rowWords))
-  pub not-granted : (address : ℕ) → decided rowRegisters writing (placed rowWords) .outcome ≡ granted address → ⊥
+  pub off-apart : Apart rowRegisters (writing ∷ reading ∷ []) writing (byWords rowWords)
+  pub switched-off : SwitchedOff (walked (byWords rowWords)) (byWords rowWords) (byWords ((0x11000, 0x80) ∷ rowWords))
+  pub not-granted : (address : ℕ) → decided rowRegisters writing (byWords rowWords) .outcome ≡ granted address → ⊥

@@ -6,7 +6,7 @@ use mathlib.Core.List.{List, [], _∷_, _++_}
 use mathlib.Core.Path.{_≡_}
 use lib.Dec.{eqb, leb}
 use Rattle.image.specs.Choice.{if_then_else_}
-use Rattle.image.specs.Entries.{spell}
+use Rattle.image.specs.Bytes.{spell}
 use Rattle.image.specs.Memory.{Memory, missing, found}
 use Rattle.image.specs.Place.{Place, noEntry, entryAt}
 use Rattle.image.specs.Rules.{run}
@@ -55,9 +55,9 @@ abbrev pub rowRegisters : ScalableRegisters
 rowRegisters = registersWith 0x1000 true false
 
 -- the number at the first of these places; else 0 below 7F000000h, and above nothing can be fetched
-unfoldable pub placed : List (ℕ × ℕ) → Memory
-placed [] at = if leb 0x7F000000 at then missing else found 0
-placed ((place, word) ∷ rest) at = if eqb at place then found word else placed rest at
+unfoldable pub byWords : List (ℕ × ℕ) → Memory
+byWords [] at = if leb 0x7F000000 at then missing else found 0
+byWords ((place, word) ∷ rest) at = if eqb at place then found word else byWords rest at
 
 -- root entry of bus 3, context entry of device and function 10h (PASIDE, PDTS 4), directory entry of PASIDs 12340h to 1237Fh
 abbrev pub rowWords : List (ℕ × ℕ)
@@ -248,7 +248,7 @@ answer q m = (run (scalableRules (q .registers) (q .request)) m, scalablePlace (
 
 unfoldable pub answers : List Row → List (Decision × Place)
 answers [] = []
-answers (q ∷ rest) = answer q (placed (q .edits ++ rowWords)) ∷ answers rest
+answers (q ∷ rest) = answer q (byWords (q .edits ++ rowWords)) ∷ answers rest
 
 abbrev expected : Says → Decision × Place
 expected (grants host flags) = (record { outcome = granted host; flags = flags }, noEntry)

@@ -1,6 +1,6 @@
 -- Two rights as a number's two low bits: R is bit 0, W bit 1.
 use Prim.Native.Nat.{ℕ, zero, suc, _+_, _-_, _*_, _/_, _%_, _^_, _<_, min}
-use mathlib.Core.Bool.{Bool, true, false, not, _&&_, _||_}
+use mathlib.Core.Bool.{Bool, true, false, not, _&&_, _||_, or-false}
 use mathlib.Core.List.{List}
 use mathlib.Core.Path.{_≡_, refl, ap, sym, _∙_}
 use native.Mathlib.Omega.{arith}
@@ -11,7 +11,7 @@ use lib.Bits.{bitAnd, and-shr, and-mod}
 use lib.Dec.{eqb, lit≤}
 use mir.Val.{boolByte}
 use Rattle.image.specs.Bits.{bits, bit}
-use Rattle.second.specs.Answers.{handed}
+use Rattle.second.specs.Answers.{secondHanded}
 use Rattle.second.specs.Second.{atTop}
 
 -- of two digits
@@ -65,10 +65,6 @@ both (suc (suc x)) y hx hy = absurd (omega arith)
 both zero (suc (suc y)) hx hy = absurd (omega arith)
 both (suc zero) (suc (suc y)) hx hy = absurd (omega arith)
 
-or-false : (a : Bool) → (a || false) ≡ a
-or-false true = refl
-or-false false = refl
-
 not-both : (a b : Bool) → not (a && b) ≡ (not a || not b)
 not-both true b = refl
 not-both false b = refl
@@ -87,9 +83,9 @@ one-lacks true true e =
     ∙ ap (λ (n : ℕ). not (eqb (e / 2 % 2) 1) || not (eqb (n % 2) 1)) (sym (div-one e))
 
 -- what the top entry is handed, and one below it
-pub from-top : (n : ℕ) (flags : List ℕ) → handed (eqb n n) 3 flags ≡ atTop flags
+pub from-top : (n : ℕ) (flags : List ℕ) → secondHanded (eqb n n) 3 flags ≡ atTop flags
 unfolding bits
 from-top n flags = rw (eq-eqb n n refl)
 
-pub under-top : (n top rights : ℕ) (flags : List ℕ) → n < top → handed (eqb n top) rights flags ≡ handed false rights flags
+pub under-top : (n top rights : ℕ) (flags : List ℕ) → n < top → secondHanded (eqb n top) rights flags ≡ secondHanded false rights flags
 under-top n top rights flags low = rw (ne-eqb n top (λ z. omega arith))

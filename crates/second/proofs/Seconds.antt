@@ -20,18 +20,18 @@ use Rattle.dma.proofs.Stepped.{more-levels}
 use Rattle.dma.proofs.Walks.{walk-anew}
 use Rattle.pasid.specs.declared.ScalableRegisters.{ScalableRegisters}
 use Rattle.pasid.specs.declared.table.PasidEntry.{PasidEntry}
-use Rattle.second.specs.Second.{Walked, page, fault, Handed, readable, writable, handedOn, flagsNotSnooped, secondFlags, unfetchable, secondStep, secondOver, secondRules}
+use Rattle.second.specs.Second.{Walked, page, fault, SecondHanded, readable, writable, handedOn, flagsNotSnooped, secondFlags, noSecondEntry, secondStep, secondOver, secondRules}
 use Rattle.second.specs.declared.step.Wanted.{Wanted}
 
 -- a step that leads down is past each test that would end the walk
-past : (b : Bool) (a : Walked) (rest : Step Handed Walked) {next : ℕ} {t : Handed} → down next t ≡ (if b then done a else rest)
+past : (b : Bool) (a : Walked) (rest : Step SecondHanded Walked) {next : ℕ} {t : SecondHanded} → down next t ≡ (if b then done a else rest)
     → (b ≡ false) × (down next t ≡ rest)
 past true a rest h = let z : _≡_ {A = ℕ} 0 1 = cc in absurd (omega arith)
 past false a rest h = (refl, h)
 
 module _ (r : ScalableRegisters) (p : PasidEntry) (wanted : Wanted) where
   -- it leads to the entry's frame, and the entry is no page's
-  pub leads : (level place : ℕ) (above : Handed) (e : ℕ) {next : ℕ} {t : Handed} → down next t ≡ secondStep r p wanted level place above e
+  pub leads : (level place : ℕ) (above : SecondHanded) (e : ℕ) {next : ℕ} {t : SecondHanded} → down next t ≡ secondStep r p wanted level place above e
       → (next ≡ inPlace e 51 12) × (leafAt level e ≡ false)
   leads level place above e {next} {t} h =
       let h1 = past (not (readable above e || writable above e)) (fault 0x79 (p .fpd)) _ h in
@@ -44,7 +44,7 @@ module _ (r : ScalableRegisters) (p : PasidEntry) (wanted : Wanted) where
       (cc, h6 .0)
 
   -- the step, by the tests that the code is past
-  module _ (level place : ℕ) (above : Handed) (e : ℕ) where
+  module _ (level place : ℕ) (above : SecondHanded) (e : ℕ) where
     pub none-left : not (readable above e || writable above e) ≡ true → done (fault 0x79 (p .fpd)) ≡ secondStep r p wanted level place above e
     none-left h = rw h
 
@@ -61,7 +61,7 @@ module _ (r : ScalableRegisters) (p : PasidEntry) (wanted : Wanted) where
               → done (fault (if wanted .write && not (bit e 1) then 0x85 else 0x86) (p .fpd)) ≡ secondStep r p wanted level place above e
           lacking h = rw (some, clear, snooped) (by (wanted .write && not (bit e 1)) (wanted .read && not (bit e 0)) h _)
             where
-              by : (x y : Bool) → (x || y) ≡ true → (rest : Step Handed Walked)
+              by : (x y : Bool) → (x || y) ≡ true → (rest : Step SecondHanded Walked)
                   → done (fault (if x then 0x85 else 0x86) (p .fpd)) ≡ (if x then done (fault 0x85 (p .fpd)) else if y then done (fault 0x86 (p .fpd)) else rest)
               by true y h rest = refl
               by false true h rest = refl
@@ -90,8 +90,8 @@ module _ (r : ScalableRegisters) (p : PasidEntry) (wanted : Wanted) where
       pub to-table : leafAt level e ≡ false → down (inPlace e 51 12) (handedOn above e (secondFlags p false place e)) ≡ secondStep r p wanted level place above e
       to-table h = rw (used, h)
 
-  module _ (address : ℕ) (m : Memory) (n table : ℕ) (above : Handed) where
-    pub unfetched : missing ≡ entry 1 m (placeIn address table n) → done (unfetchable r p wanted above) ≡ secondOver r p wanted address m n table above
+  module _ (address : ℕ) (m : Memory) (n table : ℕ) (above : SecondHanded) where
+    pub unfetched : missing ≡ entry 1 m (placeIn address table n) → done (noSecondEntry r p wanted above) ≡ secondOver r p wanted address m n table above
     unfolding stepOver
     unfetched h = rw (← h)
 
@@ -101,11 +101,11 @@ module _ (r : ScalableRegisters) (p : PasidEntry) (wanted : Wanted) where
     fetched h = rw (← h)
 
     -- a level leads to a table that begins a page, and is not the last
-    pub down-to : {next : ℕ} {t : Handed} → down next t ≡ secondOver r p wanted address m n table above → (next % 4096 ≡ 0) × (next < 2 ^ 52) × (0 < n)
+    pub down-to : {next : ℕ} {t : SecondHanded} → down next t ≡ secondOver r p wanted address m n table above → (next % 4096 ≡ 0) × (next < 2 ^ 52) × (0 < n)
     unfolding stepOver
     down-to {next} {t} = by (entry 1 m (placeIn address table n))
       where
-        by : (f : Fetched) → down next t ≡ onFetch f (done (unfetchable r p wanted above)) (secondStep r p wanted (suc n) (placeIn address table n) above)
+        by : (f : Fetched) → down next t ≡ onFetch f (done (noSecondEntry r p wanted above)) (secondStep r p wanted (suc n) (placeIn address table n) above)
             → (next % 4096 ≡ 0) × (next < 2 ^ 52) × (0 < n)
         by missing h = let z : _≡_ {A = ℕ} 0 1 = cc in absurd (omega arith)
         by (found e) h =
@@ -113,23 +113,23 @@ module _ (r : ScalableRegisters) (p : PasidEntry) (wanted : Wanted) where
             (rw (led .0) (omega arith), rw (led .0) (in-place-lt e 51 12 (lit≤ tt)), more-levels n e (led .1))
 
   -- the laws of every walk, at this one
-  module _ (address : ℕ) (m : Memory) (level table : ℕ) (s : Handed) (more : 0 < level) where
+  module _ (address : ℕ) (m : Memory) (level table : ℕ) (s : SecondHanded) (more : 0 < level) where
     pub ended : {a : Walked} → done a ≡ secondOver r p wanted address m (level - 1) table s → a ≡ run (secondRules r p wanted address level table s) m
-    ended = onward.ended address (unfetchable r p wanted) (secondStep r p wanted) m level table s more
+    ended = onward.ended address (noSecondEntry r p wanted) (secondStep r p wanted) m level table s more
 
-    pub led : {next : ℕ} {t : Handed} → down next t ≡ secondOver r p wanted address m (level - 1) table s
+    pub led : {next : ℕ} {t : SecondHanded} → down next t ≡ secondOver r p wanted address m (level - 1) table s
         → run (secondRules r p wanted address (level - 1) next t) m ≡ run (secondRules r p wanted address level table s) m
-    led = onward.onward address (unfetchable r p wanted) (secondStep r p wanted) m level table s more
+    led = onward.onward address (noSecondEntry r p wanted) (secondStep r p wanted) m level table s more
 
     pub ended-at : (before : Place) {a : Walked} → done a ≡ secondOver r p wanted address m (level - 1) table s
         → lastTried before (secondRules r p wanted address level table s) m ≡ entryAt (placeIn address table (level - 1))
-    ended-at = onward.ended-at address (unfetchable r p wanted) (secondStep r p wanted) m level table s more
+    ended-at = onward.ended-at address (noSecondEntry r p wanted) (secondStep r p wanted) m level table s more
 
-    pub led-at : (before : Place) {next : ℕ} {t : Handed} → down next t ≡ secondOver r p wanted address m (level - 1) table s
+    pub led-at : (before : Place) {next : ℕ} {t : SecondHanded} → down next t ≡ secondOver r p wanted address m (level - 1) table s
         → lastTried before (secondRules r p wanted address level table s) m
         ≡ lastTried (entryAt (placeIn address table (level - 1))) (secondRules r p wanted address (level - 1) next t) m
-    led-at = onward.onward-at address (unfetchable r p wanted) (secondStep r p wanted) m level table s more
+    led-at = onward.onward-at address (noSecondEntry r p wanted) (secondStep r p wanted) m level table s more
 
     pub anew : (before before′ : Place)
         → lastTried before (secondRules r p wanted address level table s) m ≡ lastTried before′ (secondRules r p wanted address level table s) m
-    anew before before′ = walk-anew address (unfetchable r p wanted) (secondStep r p wanted) m before before′ level table s more
+    anew before before′ = walk-anew address (noSecondEntry r p wanted) (secondStep r p wanted) m before before′ level table s more

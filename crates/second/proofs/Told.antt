@@ -7,19 +7,11 @@ use native.Mathlib.Omega.{arith}
 use Rattle.image.specs.Choice.{if_then_else_}
 use Rattle.dma.specs.Walk.{Step}
 use Rattle.second.specs.Answers.{stepOf}
-use Rattle.second.specs.Second.{Walked, Handed}
+use Rattle.second.specs.Second.{Walked, SecondHanded}
 use Rattle.second.specs.declared.step.SecondStep.{SecondStep}
 
-pub told : (flags : List ℕ) {r it : SecondStep} {x : Step Handed Walked} → r ≡ it → stepOf r flags ≡ x → stepOf it flags ≡ x
+pub told : (flags : List ℕ) {r it : SecondStep} {x : Step SecondHanded Walked} → r ≡ it → stepOf r flags ≡ x → stepOf it flags ≡ x
 told flags is says = sym (ap (λ (s : SecondStep). stepOf s flags) is) ∙ says
-
-pub is-set : (t : Bool) → not t ≡ false → t ≡ true
-is-set true h = refl
-is-set false h = let z : _≡_ {A = ℕ} 0 1 = cc in absurd (omega arith)
-
-pub is-clear : (t : Bool) → not t ≡ true → t ≡ false
-is-clear true h = let z : _≡_ {A = ℕ} 0 1 = cc in absurd (omega arith)
-is-clear false h = refl
 
 pub none-more : (n : ℕ) (t : Bool) → n ≤ n + (if t then 2 else 1)
 none-more n true = omega arith

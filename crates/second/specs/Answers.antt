@@ -8,7 +8,7 @@ use Rattle.image.specs.Bits.{bit}
 use Rattle.image.specs.Place.{Place, entryAt}
 use Rattle.dma.specs.Walk.{Step, done, down}
 use Rattle.pasid.specs.Reason.{numberOf}
-use Rattle.second.specs.Second.{Walked, page, fault, Reachable, Handed}
+use Rattle.second.specs.Second.{Walked, page, fault, Reachable, SecondHanded}
 use Rattle.second.specs.declared.step.Above.{Above}
 use Rattle.second.specs.declared.step.SecondStep.{SecondStep}
 use Rattle.second.specs.declared.step.SecondStep.the-variants as step
@@ -16,20 +16,20 @@ use Rattle.second.specs.declared.walk.Walked.{Walked as WalkedCode}
 use Rattle.second.specs.declared.walk.Walked.the-variants as walked
 
 -- the joined rights are a number's two low bits
-abbrev pub handed : (top : Bool) (rights : ℕ) (flags : List ℕ) → Handed
-handed top rights flags = record { top = top; read = bit rights 0; write = bit rights 1; flags = flags }
+abbrev pub secondHanded : (top : Bool) (rights : ℕ) (flags : List ℕ) → SecondHanded
+secondHanded top rights flags = record { top = top; read = bit rights 0; write = bit rights 1; flags = flags }
 
 -- the flags so far are the buffer's first
-abbrev pub handedBy : Above → (flags : List ℕ) → Handed
-handedBy above flags = handed (above .top) (above .rights) (take (above .count) flags)
+abbrev pub handedBy : Above → (flags : List ℕ) → SecondHanded
+handedBy above flags = secondHanded (above .top) (above .rights) (take (above .count) flags)
 
 abbrev pub walkedOf : WalkedCode → (flags : List ℕ) → Walked
 walkedOf (walked.Page frame level writable n) flags = page frame level writable (take n flags)
 walkedOf (walked.Fault reason fpd at) flags = fault (numberOf reason) fpd
 
 -- a step down is never one to the top
-abbrev pub stepOf : SecondStep → (flags : List ℕ) → Step Handed Walked
-stepOf (step.Down table rights n) flags = down table (handed false rights (take n flags))
+abbrev pub stepOf : SecondStep → (flags : List ℕ) → Step SecondHanded Walked
+stepOf (step.Down table rights n) flags = down table (secondHanded false rights (take n flags))
 stepOf (step.Page frame level writable n) flags = done (page frame level writable (take n flags))
 stepOf (step.Fault reason fpd at) flags = done (fault (numberOf reason) fpd)
 

@@ -27,24 +27,24 @@ Reachable (page frame level writable flags) = (frame < 2 ^ 52) × (0 < level) ×
 Reachable (fault reason fpd) = Unit {0}
 
 -- what an entry is handed by those above it: whether there are none, their joined rights, and the flags so far
-pub record Handed : Type 0 where
+pub record SecondHanded : Type 0 where
   pub top : Bool
   pub read : Bool
   pub write : Bool
   pub flags : List ℕ
 
-abbrev pub atTop : (flags : List ℕ) → Handed
+abbrev pub atTop : (flags : List ℕ) → SecondHanded
 atTop flags = record { top = true; read = true; write = true; flags = flags }
 
 -- R, bit 0, and W, bit 1, joined with those of the entries above
-abbrev pub readable : Handed → (e : ℕ) → Bool
+abbrev pub readable : SecondHanded → (e : ℕ) → Bool
 readable above e = above .read && bit e 0
 
-abbrev pub writable : Handed → (e : ℕ) → Bool
+abbrev pub writable : SecondHanded → (e : ℕ) → Bool
 writable above e = above .write && bit e 1
 
 -- what an entry hands on, with its own flags
-abbrev pub handedOn : Handed → (e : ℕ) → (own : List ℕ) → Handed
+abbrev pub handedOn : SecondHanded → (e : ℕ) → (own : List ℕ) → SecondHanded
 handedOn above e own = record { top = false; read = readable above e; write = writable above e; flags = above .flags ++ own }
 
 -- a flag that a granted request sets is still clear: A, D in the entry of a page that is written
@@ -62,7 +62,7 @@ flagsNotSnooped r p dirty level e = p .slade && not (r .smpwc && p .pwsnp) && fl
 module _ (r : ScalableRegisters) (p : PasidEntry) (wanted : Wanted) where
   -- 79h where no joined right is left, 7Ah, 7Ch, then 85h and 86h where a right that is wanted lacks, in this order. Else a page ends
   -- the walk, and any other entry leads one level down
-  abbrev pub secondStep : (level place : ℕ) → Handed → (e : ℕ) → Step Handed Walked
+  abbrev pub secondStep : (level place : ℕ) → SecondHanded → (e : ℕ) → Step SecondHanded Walked
   secondStep level place above e =
       if not (readable above e || writable above e) then done (fault 0x79 (p .fpd))
       else if pageReserved (r .base) level e then done (fault 0x7A (p .fpd))
@@ -73,12 +73,12 @@ module _ (r : ScalableRegisters) (p : PasidEntry) (wanted : Wanted) where
       else down (inPlace e 51 12) (handedOn above e (secondFlags p false place e))
 
   -- an entry that can't be fetched: 7Bh the top one, 78h any other
-  abbrev pub unfetchable : Handed → Walked
-  unfetchable above = fault (if above .top then 0x7B else 0x78) (p .fpd)
+  abbrev pub noSecondEntry : SecondHanded → Walked
+  noSecondEntry above = fault (if above .top then 0x7B else 0x78) (p .fpd)
 
   -- one level over a memory: for the code's contracts
-  abbrev pub secondOver : (address : ℕ) → Memory → (below table : ℕ) → Handed → Step Handed Walked
-  secondOver address = stepOver address unfetchable secondStep
+  abbrev pub secondOver : (address : ℕ) → Memory → (below table : ℕ) → SecondHanded → Step SecondHanded Walked
+  secondOver address = stepOver address noSecondEntry secondStep
 
-  abbrev pub secondRules : (address level table : ℕ) → Handed → Rules Walked
-  secondRules address = walkRules address unfetchable secondStep
+  abbrev pub secondRules : (address level table : ℕ) → SecondHanded → Rules Walked
+  secondRules address = walkRules address noSecondEntry secondStep

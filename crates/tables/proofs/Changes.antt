@@ -11,15 +11,15 @@ use Rattle.image.specs.Memory.{withWord}
 use Rattle.dma.specs.Walk.{placeIn}
 use Rattle.tables.specs.Mapped.{newTable, withLeaf, mapAt}
 use Rattle.tables.specs.Pages.{lowest, freePages}
-use Rattle.tables.specs.Tables.{Tables, tables, present, tableEntry, emptyTable, zeroed}
-use Rattle.tables.specs.Unmapped.{withoutTable, released, leafHere, unmapped}
+use Rattle.tables.specs.Tables.{Tables, tables, present, tableEntry, emptyTable, wordsZeroed}
+use Rattle.tables.specs.Unmapped.{withoutTable, freedTables, leafHere, unmapped}
 use Rattle.tables.specs.Way.{way}
 use Rattle.tables.specs.declared.Tree.{Tree}
 use Rattle.tables.specs.declared.way.Stop.{Stop}
 use Rattle.tables.proofs.Folds.{again, none-left}
 
 pub made-table : (bytes marks : List ℕ) {cleared stored marked : List ℕ} (start at level : ℕ) {page : ℕ} → page ≡ lowest marks
-    → cleared ≡ zeroed 512 bytes (4096 * page) → stored ≡ withWord cleared at (tableEntry start (4096 * page)) → marked ≡ set marks page level
+    → cleared ≡ wordsZeroed 512 bytes (4096 * page) → stored ≡ withWord cleared at (tableEntry start (4096 * page)) → marked ≡ set marks page level
     → tables stored marked ≡ newTable start at level (tables bytes marks)
 made-table bytes marks start at level p c s m = rw (m, s, c, p)
 
@@ -44,24 +44,24 @@ module _ (tree : Tree) (place n below : ℕ) (t : Tables) where
   pub released-on : 0 < n → {stop above : Stop} {after : Tables} → stop ≡ way (t .bytes) tree place below
       → emptyTable (t .bytes) (stop .table) ≡ true → above ≡ way (t .bytes) tree place (below + 1)
       → after ≡ withoutTable (stop .table) (above .at) t
-      → released tree place (n - 1) (below + 1) after ≡ released tree place n below t
-  unfolding released
+      → freedTables tree place (n - 1) (below + 1) after ≡ freedTables tree place n below t
+  unfolding freedTables
   released-on more p e r q =
       let empty = ap (λ (x : Stop). emptyTable (t .bytes) (x .table)) (sym p) ∙ e in
-      ap₂ (λ (k : ℕ) (u : Tables). released tree place (n - 1) k u) (add-one below)
+      ap₂ (λ (k : ℕ) (u : Tables). freedTables tree place (n - 1) k u) (add-one below)
       (q ∙ ap₂ (λ (x y : Stop). withoutTable (x .table) (y .at) t) p (r ∙ ap (way (t .bytes) tree place) (add-one below)))
-      ∙ sym (ap (λ (k : ℕ). released tree place k below t) (again n more) ∙ rw empty)
+      ∙ sym (ap (λ (k : ℕ). freedTables tree place k below t) (again n more) ∙ rw empty)
 
   pub released-stop : 0 < n → {stop : Stop} → stop ≡ way (t .bytes) tree place below → emptyTable (t .bytes) (stop .table) ≡ false
-      → t ≡ released tree place n below t
-  unfolding released
+      → t ≡ freedTables tree place n below t
+  unfolding freedTables
   released-stop more p e =
       let full = ap (λ (x : Stop). emptyTable (t .bytes) (x .table)) (sym p) ∙ e in
-      sym (ap (λ (k : ℕ). released tree place k below t) (again n more) ∙ rw full)
+      sym (ap (λ (k : ℕ). freedTables tree place k below t) (again n more) ∙ rw full)
 
-  pub released-done : n ≤ 0 → t ≡ released tree place n below t
-  unfolding released
-  released-done none = sym (ap (λ (k : ℕ). released tree place k below t) (none-left n none))
+  pub released-done : n ≤ 0 → t ≡ freedTables tree place n below t
+  unfolding freedTables
+  released-done none = sym (ap (λ (k : ℕ). freedTables tree place k below t) (none-left n none))
 
 -- a map's and an unmap's answers
 module _ (start place last leaf : ℕ) (stop : Stop) (t : Tables) where
@@ -85,7 +85,7 @@ module _ (tree : Tree) (place last : ℕ) (t : Tables) {stop : Stop} (ends-at : 
       rw here
 
   pub taken-out : leafHere last stop ≡ true → {levels : ℕ} {stored : List ℕ} {after : Tables} → levels ≡ tree .below - last
-      → stored ≡ withWord (t .bytes) (stop .at) 0 → after ≡ released tree place levels last (tables stored (t .marks))
+      → stored ≡ withWord (t .bytes) (stop .at) 0 → after ≡ freedTables tree place levels last (tables stored (t .marks))
       → _≡_ {A = ℕ × Tables} (0, after) (unmapped tree place last t)
   unfolding unmapped
   taken-out h n s r =

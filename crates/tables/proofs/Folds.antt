@@ -11,7 +11,7 @@ use lib.Seq.{drop-cons}
 use Rattle.image.specs.Memory.{withWord}
 use Rattle.dma.specs.Walk.{placeIn}
 use Rattle.tables.specs.Pages.{lowest, oneIfFree, freePages}
-use Rattle.tables.specs.Tables.{entryOf, present, tableOf, absent, zeroed}
+use Rattle.tables.specs.Tables.{heldEntry, present, tableOf, absent, wordsZeroed}
 use Rattle.tables.specs.Way.{ends, stopIn, wayTo}
 use Rattle.tables.specs.declared.way.Stop.{Stop}
 
@@ -22,19 +22,19 @@ pub none-left : (n : ℕ) → n ≤ 0 → n ≡ 0
 none-left n h = omega arith
 
 module _ (bytes : List ℕ) (at : ℕ) where
-  pub zeroed-on : (n : ℕ) → 0 < n → zeroed (n - 1) (withWord bytes at 0) (at + 8) ≡ zeroed n bytes at
-  unfolding zeroed
-  zeroed-on n h = sym (ap (λ (k : ℕ). zeroed k bytes at) (again n h))
+  pub zeroed-on : (n : ℕ) → 0 < n → wordsZeroed (n - 1) (withWord bytes at 0) (at + 8) ≡ wordsZeroed n bytes at
+  unfolding wordsZeroed
+  zeroed-on n h = sym (ap (λ (k : ℕ). wordsZeroed k bytes at) (again n h))
 
-  pub zeroed-done : (n : ℕ) → n ≤ 0 → zeroed n bytes at ≡ bytes
-  unfolding zeroed
-  zeroed-done n h = ap (λ (k : ℕ). zeroed k bytes at) (none-left n h)
+  pub zeroed-done : (n : ℕ) → n ≤ 0 → wordsZeroed n bytes at ≡ bytes
+  unfolding wordsZeroed
+  zeroed-done n h = ap (λ (k : ℕ). wordsZeroed k bytes at) (none-left n h)
 
-  pub absent-on : (n : ℕ) → 0 < n → present (entryOf bytes at) ≡ false → absent (n - 1) bytes (at + 8) ≡ absent n bytes at
+  pub absent-on : (n : ℕ) → 0 < n → present (heldEntry bytes at) ≡ false → absent (n - 1) bytes (at + 8) ≡ absent n bytes at
   unfolding absent
   absent-on n h e = sym (ap (λ (k : ℕ). absent k bytes at) (again n h) ∙ rw e)
 
-  pub absent-stop : (n : ℕ) → 0 < n → present (entryOf bytes at) ≡ true → false ≡ absent n bytes at
+  pub absent-stop : (n : ℕ) → 0 < n → present (heldEntry bytes at) ≡ true → false ≡ absent n bytes at
   unfolding absent
   absent-stop n h e = sym (ap (λ (k : ℕ). absent k bytes at) (again n h) ∙ rw e)
 
@@ -65,14 +65,14 @@ module _ (marks : List ℕ) (page : ℕ) where
   lowest-done h = rw (drop-of-length-le marks h)
 
 module _ (bytes : List ℕ) (start place last table : ℕ) where
-  pub way-ends : (n : ℕ) → 0 < n → ends last n (entryOf bytes (placeIn place table n)) ≡ true
+  pub way-ends : (n : ℕ) → 0 < n → ends last n (heldEntry bytes (placeIn place table n)) ≡ true
       → stopIn bytes place n table ≡ wayTo bytes start place last n table
   unfolding wayTo
   way-ends zero h e = absurd (omega arith)
   way-ends (suc n) h e = rw e
 
-  pub way-on : (n : ℕ) → 0 < n → ends last n (entryOf bytes (placeIn place table n)) ≡ false
-      → wayTo bytes start place last (n - 1) (tableOf start (entryOf bytes (placeIn place table n)))
+  pub way-on : (n : ℕ) → 0 < n → ends last n (heldEntry bytes (placeIn place table n)) ≡ false
+      → wayTo bytes start place last (n - 1) (tableOf start (heldEntry bytes (placeIn place table n)))
       ≡ wayTo bytes start place last n table
   unfolding wayTo
   way-on zero h e = absurd (omega arith)
@@ -82,6 +82,6 @@ module _ (bytes : List ℕ) (start place last table : ℕ) where
   unfolding wayTo
   way-done n h = sym (ap (λ (k : ℕ). wayTo bytes start place last k table) (none-left n h))
 
-pub made-stop : (bytes : List ℕ) (place below table : ℕ) {at e : ℕ} → at ≡ placeIn place table below → e ≡ entryOf bytes (placeIn place table below)
+pub made-stop : (bytes : List ℕ) (place below table : ℕ) {at e : ℕ} → at ≡ placeIn place table below → e ≡ heldEntry bytes (placeIn place table below)
     → _≡_ {A = Stop} (record { below = below; table = table; at = at; entry = e }) (stopIn bytes place below table)
 made-stop bytes place below table p q = rw (p, q)

@@ -6,7 +6,7 @@ use Rattle.image.specs.Choice.{if_then_else_}
 use Rattle.image.specs.Memory.{withWord}
 use Rattle.dma.specs.Walk.{placeIn}
 use Rattle.tables.specs.Pages.{lowest, freePages}
-use Rattle.tables.specs.Tables.{Tables, tables, present, tableEntry, zeroed}
+use Rattle.tables.specs.Tables.{Tables, tables, present, tableEntry, wordsZeroed}
 use Rattle.tables.specs.Way.{way}
 use Rattle.tables.specs.declared.Tree.{Tree}
 use Rattle.tables.specs.declared.way.Stop.{Stop}
@@ -14,7 +14,7 @@ use Rattle.tables.specs.declared.way.Stop.{Stop}
 -- a new table of a level in the lowest free page, all zero, with its entry at a place of the table above
 abbrev pub newTable : (start at level : ℕ) → Tables → Tables
 newTable start at level t =
-    tables (withWord (zeroed 512 (t .bytes) (4096 * lowest (t .marks))) at (tableEntry start (4096 * lowest (t .marks))))
+    tables (withWord (wordsZeroed 512 (t .bytes) (4096 * lowest (t .marks))) at (tableEntry start (4096 * lowest (t .marks))))
     (set (t .marks) (lowest (t .marks)) level)
 
 -- The leaf is stored at a place, or so many missing tables are made first, the first of them with its entry at that place. last is how

@@ -16,8 +16,8 @@ abbrev pub tables : (bytes marks : List ℕ) → Tables
 tables bytes marks = record { bytes = bytes; marks = marks }
 
 -- the entry at a place of the region; 0 where the region doesn't hold all of it
-unfoldable pub entryOf : List ℕ → (at : ℕ) → ℕ
-entryOf bytes at = onFetch (entry 1 (ofImage bytes) at) 0 (λ e. e)
+unfoldable pub heldEntry : List ℕ → (at : ℕ) → ℕ
+heldEntry bytes at = onFetch (entry 1 (ofImage bytes) at) 0 (λ e. e)
 
 -- bits 1:0 are not both clear
 abbrev pub present : (e : ℕ) → Bool
@@ -37,12 +37,12 @@ tableOf start e = inPlace e 51 12 - start
 -- none of so many entries from a place on is present
 unfoldable pub absent : (n : ℕ) → List ℕ → (at : ℕ) → Bool
 absent zero bytes at = true
-absent (suc n) bytes at = not (present (entryOf bytes at)) && absent n bytes (at + 8)
+absent (suc n) bytes at = not (present (heldEntry bytes at)) && absent n bytes (at + 8)
 
 abbrev pub emptyTable : List ℕ → (table : ℕ) → Bool
 emptyTable = absent 512
 
 -- so many words from a place on are 0
-unfoldable pub zeroed : (n : ℕ) → List ℕ → (at : ℕ) → List ℕ
-zeroed zero bytes at = bytes
-zeroed (suc n) bytes at = zeroed n (withWord bytes at 0) (at + 8)
+unfoldable pub wordsZeroed : (n : ℕ) → List ℕ → (at : ℕ) → List ℕ
+wordsZeroed zero bytes at = bytes
+wordsZeroed (suc n) bytes at = wordsZeroed n (withWord bytes at 0) (at + 8)

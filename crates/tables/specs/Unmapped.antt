@@ -15,11 +15,11 @@ abbrev pub withoutTable : (table at : ℕ) → Tables → Tables
 withoutTable table at t = tables (withWord (t .bytes) at 0) (set (t .marks) (table / 4096) 0)
 
 -- the tables on the way to a place that are empty, from a level up, so many at most: the first that isn't ends it
-unfoldable pub released : Tree → (place : ℕ) → (left below : ℕ) → Tables → Tables
-released tree place zero below t = t
-released tree place (suc k) below t =
+unfoldable pub freedTables : Tree → (place : ℕ) → (left below : ℕ) → Tables → Tables
+freedTables tree place zero below t = t
+freedTables tree place (suc k) below t =
     if emptyTable (t .bytes) (way (t .bytes) tree place below .table) then
-    released tree place k (suc below)
+    freedTables tree place k (suc below)
     (withoutTable (way (t .bytes) tree place below .table) (way (t .bytes) tree place (suc below) .at) t)
     else t
 
@@ -31,7 +31,7 @@ leafHere last stop = eqb (stop .below) last && present (stop .entry) && mapsPage
 abbrev pub unmapAt : Tree → (place last : ℕ) → Stop → Tables → ℕ × Tables
 unmapAt tree place last stop t =
     if leafHere last stop then
-    (0, released tree place (tree .below - last) last (tables (withWord (t .bytes) (stop .at) 0) (t .marks)))
+    (0, freedTables tree place (tree .below - last) last (tables (withWord (t .bytes) (stop .at) 0) (t .marks)))
     else (8, t)
 
 unfoldable pub unmapped : Tree → (place last : ℕ) → Tables → ℕ × Tables

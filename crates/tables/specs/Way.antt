@@ -6,7 +6,7 @@ use mathlib.Core.List.{List}
 use lib.Dec.{eqb}
 use Rattle.image.specs.Choice.{if_then_else_}
 use Rattle.dma.specs.Walk.{placeIn}
-use Rattle.tables.specs.Tables.{entryOf, present, mapsPage, tableOf}
+use Rattle.tables.specs.Tables.{heldEntry, present, mapsPage, tableOf}
 use Rattle.tables.specs.declared.way.Stop.{Stop}
 use Rattle.tables.specs.declared.Tree.{Tree}
 
@@ -17,7 +17,7 @@ stopIn bytes place below table =
       below = below;
       table = table;
       at = placeIn place table below;
-      entry = entryOf bytes (placeIn place table below);
+      entry = heldEntry bytes (placeIn place table below);
     }
 
 abbrev pub ends : (last below e : ℕ) → Bool
@@ -26,8 +26,8 @@ ends last below e = eqb below last || not (present e) || mapsPage below e
 unfoldable pub wayTo : (bytes : List ℕ) (start place last : ℕ) → (below table : ℕ) → Stop
 wayTo bytes start place last zero table = stopIn bytes place 0 table
 wayTo bytes start place last (suc n) table =
-    if ends last (suc n) (entryOf bytes (placeIn place table (suc n))) then stopIn bytes place (suc n) table
-    else wayTo bytes start place last n (tableOf start (entryOf bytes (placeIn place table (suc n))))
+    if ends last (suc n) (heldEntry bytes (placeIn place table (suc n))) then stopIn bytes place (suc n) table
+    else wayTo bytes start place last n (tableOf start (heldEntry bytes (placeIn place table (suc n))))
 
 -- from the top table
 abbrev pub way : (bytes : List ℕ) → Tree → (place last : ℕ) → Stop

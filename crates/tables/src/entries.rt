@@ -3,7 +3,7 @@ ghost use mathlib.Core.Path.{_≡_};
 ghost use Prim.Native.Nat.{_+_, _^_, _≤_, _<_};
 ghost use lib.ListN.{length};
 ghost use Rattle.dma.specs.Walk.{placeIn};
-ghost use Rattle.tables.specs.Tables.{entryOf, present, mapsPage, tableOf, emptyTable, zeroed};
+ghost use Rattle.tables.specs.Tables.{heldEntry, present, mapsPage, tableOf, emptyTable, wordsZeroed};
 use dma::entry_offset;
 use image::Found8;
 use image::fetch8;
@@ -12,7 +12,7 @@ use image::in_place;
 use image::store8;
 
 pub fn entry_of(bytes: &[u8], at: u64) -> u64
-    ensures { λ r. ⌜ r ≡ entryOf (now (bytes .entry)) at ⌝ }
+    ensures { λ r. ⌜ r ≡ heldEntry (now (bytes .entry)) at ⌝ }
 {
     match fetch8(bytes, at) {
         Found8::Entry(e) => e,
@@ -73,7 +73,7 @@ pub fn is_empty(bytes: &[u8], table: u64) -> bool
 // A table all zero.
 pub(crate) fn clear_table(bytes: &mut [u8], table: u64)
     requires { ⌜ table < 2 ^ 63 ⌝ }
-    ensures { λ _. ⌜ now (bytes .exit) ≡ zeroed 512 (now (bytes .entry)) table ⌝ }
+    ensures { λ _. ⌜ now (bytes .exit) ≡ wordsZeroed 512 (now (bytes .entry)) table ⌝ }
 {
     let mut left: u64 = 512;
     let mut at = table;

@@ -2,7 +2,7 @@
 ghost use mathlib.Core.Path.{_≡_};
 ghost use Prim.Native.Nat.{_+_, _-_, _^_, _<_};
 ghost use Rattle.tables.specs.Tables.{tables};
-ghost use Rattle.tables.specs.Unmapped.{leafHere, withoutTable, released, unmapAt, unmapped};
+ghost use Rattle.tables.specs.Unmapped.{leafHere, withoutTable, freedTables, unmapAt, unmapped};
 use crate::Tree;
 use crate::entries::is_empty;
 use crate::entries::is_present;
@@ -23,7 +23,7 @@ fn release_table(bytes: &mut [u8], marks: &mut [u8], table: u64, at: u64)
 // The empty tables on the way to a place, so many levels at most from one on.
 fn release_from(bytes: &mut [u8], marks: &mut [u8], tree: Tree, place: u64, levels: u32, from: u32)
     requires { ⌜ (tree .top < 2 ^ 52) × (tree .below < 5) × (levels + from < 10) ⌝ }
-    ensures { λ _. ⌜ tables (now (bytes .exit)) (now (marks .exit)) ≡ released tree place levels from (tables (now (bytes .entry)) (now (marks .entry))) ⌝ }
+    ensures { λ _. ⌜ tables (now (bytes .exit)) (now (marks .exit)) ≡ freedTables tree place levels from (tables (now (bytes .entry)) (now (marks .entry))) ⌝ }
 {
     let mut left = levels;
     let mut below = from;

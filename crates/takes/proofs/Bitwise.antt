@@ -13,7 +13,7 @@ use lib.Arith.{digits-div}
 use lib.Pow.{pow-lt, mod-pow-add, shr-shr}
 use Rattle.image.specs.Bits.{bits, bit}
 use Rattle.image.specs.Choice.{if_then_else_}
-use Rattle.image.specs.Entries.{spell}
+use Rattle.image.specs.Bytes.{spell}
 use Rattle.image.proofs.Fields.{past-top, to-top}
 use Rattle.image.proofs.Stores.{Words}
 use Rattle.image.proofs.WordFields.{of-word}

@@ -2,24 +2,10 @@
 use mathlib.Core.Bool.{Bool, true, false, not, _&&_, _||_}
 use mathlib.Core.Path.{_≡_, refl}
 
-pub and-true : (a : Bool) → (a && true) ≡ a
-and-true true = refl
-and-true false = refl
-
-pub and-false : (a : Bool) → (a && false) ≡ false
-and-false true = refl
-and-false false = refl
-
 pub or-and-false : (a b : Bool) → (a || b && false) ≡ a
 or-and-false true b = refl
 or-and-false false true = refl
 or-and-false false false = refl
-
-pub or-swap : (a b : Bool) → (a || b) ≡ (b || a)
-or-swap true true = refl
-or-swap true false = refl
-or-swap false true = refl
-or-swap false false = refl
 
 pub and-not-or : (a b c : Bool) → ((a && not b) && not c) ≡ (a && not (c || b))
 and-not-or true true true = refl

@@ -1,6 +1,6 @@
 -- Bits set in the image in either order.
 use Prim.Native.Nat.{ℕ, _+_, _/_, _%_, _^_, _≤_, _<_}
-use mathlib.Core.Bool.{Bool, true, false, not, _&&_, _||_}
+use mathlib.Core.Bool.{Bool, true, false, not, _&&_, _||_, or-false, or-comm}
 use mathlib.Core.List.{List}
 use mathlib.Core.Path.{_≡_, refl, ap, sym, _∙_}
 use native.Mathlib.Decide.{decLe}
@@ -10,14 +10,11 @@ use lib.Dec.{eqb}
 use lib.ListN.{length, getD, set}
 use lib.Seq.{getD-set-same, getD-set-other, set-out, set-set, set-comm}
 use Rattle.image.specs.Bits.{bit}
-use Rattle.image.specs.Choice.{if_then_else_}
-use Rattle.image.proofs.Choices.{or-false}
+use Rattle.image.specs.Choice.{if_then_else_, one-if}
 use Rattle.interrupts.specs.Claims.{due}
 use Rattle.interrupts.specs.Descriptor.{Notification, silent, notification}
 use Rattle.interrupts.specs.Post.{withBit, setBit, notified}
 use Rattle.interrupts.proofs.Exact.{bit-with}
-use Rattle.takes.specs.Runs.{one-if}
-use Rattle.takes.proofs.Bools.{or-swap}
 
 -- two bits of a byte
 with-comm : (p q byte : ℕ) → withBit p (withBit q byte) ≡ withBit q (withBit p byte)
@@ -136,7 +133,7 @@ module _ (d u e w : ℕ) (image : List ℕ) where
         gathered (not on && x) (not (on || (not on && x)) && y)
         ∙ ap (λ (n : ℕ). mark (not (on || (not on && x)) && y) n (mark (not on && x) d both)) (sym same)
         ∙ one-mark x y both
-        ∙ ap (λ (t : Bool). mark (not on && t) d both) (or-swap x y)
+        ∙ ap (λ (t : Bool). mark (not on && t) d both) (or-comm x y)
         ∙ sym (one-mark y x both)
         ∙ ap (λ (n : ℕ). mark (not (on || (not on && y)) && x) d (mark (not on && y) n both)) same
         ∙ sym (gathered′ (not (on || (not on && y)) && x) (not on && y))

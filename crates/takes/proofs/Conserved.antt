@@ -1,7 +1,7 @@
 -- Nothing is lost and nothing invented: each operation keeps the sum of what stands and what was handed out, but for a post that
 -- finds its bit clear, which adds one.
 use Prim.Native.Nat.{ℕ, _+_, _*_, _%_, _<_}
-use mathlib.Core.Bool.{Bool, true, false, not, _&&_, _||_}
+use mathlib.Core.Bool.{Bool, true, false, not, _&&_, _||_, or-false, and-true, and-false}
 use mathlib.Core.List.{List, [], _∷_}
 use mathlib.Core.Logic.{_⊎_, inl, inr}
 use mathlib.Core.Path.{_≡_, refl, ap, sym, _∙_}
@@ -9,17 +9,17 @@ use native.Mathlib.Omega.{arith}
 use borrow.Author.Tests.{eqb-true}
 use lib.Dec.{eqb}
 use Rattle.image.proofs.Bytes.{AreBytes}
-use Rattle.image.proofs.Choices.{or-false}
+use Rattle.image.specs.Choice.{one-if}
 use Rattle.interrupts.specs.Claims.{bitAt, due, sets}
 use Rattle.interrupts.specs.Interrupts.{InterruptOutcome, passed, remapped, posted, blocked, refused, interruptAnswer}
-use Rattle.interrupts.specs.Post.{written}
+use Rattle.interrupts.specs.Post.{interruptWritten}
 use Rattle.interrupts.proofs.Exact.{sets-exactly}
 use Rattle.interrupts.proofs.Raised.{Within, within}
 use Rattle.takes.specs.Claims.{Conserved, NoneInvented}
-use Rattle.takes.specs.Runs.{Operation, request, take, after, left, count, one-if, stands, hands, postsVector, handsOut, postsClear}
+use Rattle.takes.specs.Runs.{Operation, request, takeFrom, after, left, countIn, stands, hands, postsVector, handsOut, postsClear}
 use Rattle.takes.specs.Take as rules
-use Rattle.takes.specs.Take.{TakeOutcome, handed, none, taken, takeAnswer}
-use Rattle.takes.proofs.Bools.{and-true, and-false, or-and-false}
+use Rattle.takes.specs.Take.{TakeOutcome, handed, none, takeWritten, takeAnswer}
+use Rattle.takes.proofs.Bools.{or-and-false}
 use Rattle.takes.proofs.HandedOut.{bytes-after}
 use Rattle.takes.proofs.Places.{not-on, same-bit}
 use Rattle.takes.proofs.Takes.{Took, took, took-whole, taken-at}
@@ -38,8 +38,8 @@ one-less false true h = let z : false ≡ true = h refl in let y : _≡_ {A = �
 one-less false false h = refl
 
 module _ (windows : List ℕ) (D : ℕ) (aligned : D % 64 ≡ 0) (v : ℕ) (small : v < 256) (image : List ℕ) where
-  same-posts : (o : InterruptOutcome) → Within windows image o → ((n : ℕ) → bitAt windows (written windows o image) n ≡ (bitAt windows image n || sets o n))
-      → stands windows D (written windows o image) v ≡ (stands windows D image v || postsVector D v o)
+  same-posts : (o : InterruptOutcome) → Within windows image o → ((n : ℕ) → bitAt windows (interruptWritten windows o image) n ≡ (bitAt windows image n || sets o n))
+      → stands windows D (interruptWritten windows o image) v ≡ (stands windows D image v || postsVector D v o)
   same-posts (posted d u m) p bits-after =
       bits-after (8 * D + v)
       ∙ ap (λ (t : Bool). stands windows D image v || (t || due m && eqb (8 * D + v) (8 * d + 256))) (same-bit D aligned d u v (p .aligned) (p .small) small)
@@ -51,7 +51,7 @@ module _ (windows : List ℕ) (D : ℕ) (aligned : D % 64 ≡ 0) (v : ℕ) (smal
   same-posts (refused number) p bits-after = bits-after (8 * D + v)
 
   same-takes : (d : ℕ) (o : TakeOutcome) → Took windows image d o
-      → stands windows D (taken windows d o image) v ≡ (stands windows D image v && not (eqb d D && hands v o))
+      → stands windows D (takeWritten windows d o image) v ≡ (stands windows D image v && not (eqb d D && hands v o))
   same-takes d (handed h) t =
       taken-at windows image d (handed h) (took-whole windows image d (handed h) t) (8 * D + v)
       ∙ ap (λ (b : Bool). stands windows D image v && not (b || eqb (8 * D + v) (8 * d + 256))) (same-bit D aligned d h v (t .0 .aligned) (t .1 .0) small)
@@ -85,7 +85,7 @@ module _ (windows : List ℕ) (D : ℕ) (aligned : D % 64 ≡ 0) (v : ℕ) (smal
       let o = interruptAnswer registers r windows image in
       one-more (stands windows D image v) (postsVector D v o)
       ∙ ap (λ (t : Bool). 0 + one-if t) (sym (same-posts o (within registers r windows image) (sets-exactly registers r windows image)))
-  balance (take registers d) bytes =
+  balance (takeFrom registers d) bytes =
       let o = takeAnswer registers d windows image in
       let t = took registers d windows image bytes in
       one-less (stands windows D image v) (eqb d D && hands v o) (stood d o t)
@@ -93,8 +93,8 @@ module _ (windows : List ℕ) (D : ℕ) (aligned : D % 64 ≡ 0) (v : ℕ) (smal
 
 module _ (windows : List ℕ) (D : ℕ) (aligned : D % 64 ≡ 0) (v : ℕ) (small : v < 256) where
   run-balance : (os : List Operation) (image : List ℕ) → AreBytes image
-      → one-if (stands windows D image v) + count windows (postsClear windows D v) os image ≡ count windows (handsOut windows D v) os image + one-if (stands windows D (left windows os image) v)
-  unfolding count left
+      → one-if (stands windows D image v) + countIn windows (postsClear windows D v) os image ≡ countIn windows (handsOut windows D v) os image + one-if (stands windows D (left windows os image) v)
+  unfolding countIn left
   run-balance [] image bytes = omega arith
   run-balance (o ∷ os) image bytes =
       omega (arith, balance windows D aligned v small image o bytes, run-balance os (after windows o image) (bytes-after windows o image bytes))
@@ -105,9 +105,9 @@ conserved windows D v image bytes aligned small os = run-balance windows D align
 pub none-invented : NoneInvented
 none-invented windows D v image bytes aligned small os some = go (stands windows D image v) refl
   where
-    go : (s : Bool) → stands windows D image v ≡ s → (s ≡ true) ⊎ (0 < count windows (postsClear windows D v) os image)
+    go : (s : Bool) → stands windows D image v ≡ s → (s ≡ true) ⊎ (0 < countIn windows (postsClear windows D v) os image)
     go true e = inl refl
     go false e =
-        let sum : one-if (stands windows D image v) + count windows (postsClear windows D v) os image ≡ count windows (handsOut windows D v) os image + one-if (stands windows D (left windows os image) v) = conserved windows D v image bytes aligned small os in
+        let sum : one-if (stands windows D image v) + countIn windows (postsClear windows D v) os image ≡ countIn windows (handsOut windows D v) os image + one-if (stands windows D (left windows os image) v) = conserved windows D v image bytes aligned small os in
         let none-there : one-if (stands windows D image v) ≡ 0 = rw e in
         inr (omega arith)

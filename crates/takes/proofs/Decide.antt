@@ -14,10 +14,11 @@ use Rattle.image.specs.Choice.{if_then_else_}
 use Rattle.image.specs.Memory.{missing, found, entry}
 use Rattle.image.specs.Rules.{run}
 use Rattle.image.specs.Windows.{windowsOf, here, onSpot, spotIn, ofWindows, badWindows}
+use Rattle.image.proofs.Choices.{neither}
 use Rattle.registers.specs.Registers.{registersBad}
 use Rattle.registers.specs.declared.Registers.{Registers}
 use Rattle.takes.specs.Answers.{takeOutcomeOf}
-use Rattle.takes.specs.Take.{TakeOutcome, handed, refused, highest, takeRules, clearBit, taken, takeAnswer}
+use Rattle.takes.specs.Take.{TakeOutcome, handed, refused, highest, takeRules, clearBit, takeWritten, takeAnswer}
 use Rattle.takes.specs.declared.TakeAnswer.{TakeAnswer}
 use Rattle.takes.specs.declared.TakeAnswer.the-variants.{Vector, Nothing, Refused}
 use Rattle.interrupts.proofs.Exact.{at-place}
@@ -29,18 +30,14 @@ either-one : (a b : Bool) → (a || b) ≡ true → (a ≡ true) ⊎ (b ≡ true
 either-one true b h = inl refl
 either-one false b h = inr h
 
-neither : (a b : Bool) → (a || b) ≡ false → (a ≡ false) × (b ≡ false)
-neither true b h = let z : _≡_ {A = ℕ} 0 1 = cc in absurd (omega arith)
-neither false b h = (refl, h)
-
 module _ (registers : Registers) (descriptor : ℕ) (windows image : List ℕ) where
   -- the answer, and the run that it leaves
   abbrev pub Answers : TakeOutcome → List ℕ → Type 0
   Answers o after =
-      (o ≡ takeAnswer registers descriptor windows image) × (after ≡ taken windows descriptor (takeAnswer registers descriptor windows image) image)
+      (o ≡ takeAnswer registers descriptor windows image) × (after ≡ takeWritten windows descriptor (takeAnswer registers descriptor windows image) image)
 
-  both : {o : TakeOutcome} {after : List ℕ} → o ≡ takeAnswer registers descriptor windows image → after ≡ taken windows descriptor o image → Answers o after
-  both same left = (same, left ∙ ap (λ (o : TakeOutcome). taken windows descriptor o image) same)
+  both : {o : TakeOutcome} {after : List ℕ} → o ≡ takeAnswer registers descriptor windows image → after ≡ takeWritten windows descriptor o image → Answers o after
+  both same left = (same, left ∙ ap (λ (o : TakeOutcome). takeWritten windows descriptor o image) same)
 
   -- refusal 1's two tests
   abbrev pub bad : Bool
@@ -77,18 +74,18 @@ module _ (registers : Registers) (descriptor : ℕ) (windows image : List ℕ) w
         unfolding takeRules run
         answers h = rw (good, fit, eq-eqb (descriptor % 64) 0 aligned, there) h
 
-        pub answered : {o : TakeOutcome} {after : List ℕ} → o ≡ highest 256 (bit d) → after ≡ taken windows descriptor o image → Answers o after
+        pub answered : {o : TakeOutcome} {after : List ℕ} → o ≡ highest 256 (bit d) → after ≡ takeWritten windows descriptor o image → Answers o after
         answered h left = both (answers h) left
 
 -- what is written, at the place that the code finds
 module _ (windows image : List ℕ) (descriptor : ℕ) {at k left : ℕ} (found-at : at ≡ onSpot (spotIn (windowsOf windows) 64 descriptor) 0 (λ place left. place))
     (there : spotIn (windowsOf windows) 64 descriptor ≡ here k left) where
-  pub handed-at : (vector : ℕ) → clearBit at vector (clearBit at 256 image) ≡ taken windows descriptor (handed vector) image
+  pub handed-at : (vector : ℕ) → clearBit at vector (clearBit at 256 image) ≡ takeWritten windows descriptor (handed vector) image
   handed-at vector = rw (at-place windows image descriptor found-at there) (sym (handed-there windows image descriptor there vector))
 
   -- an answer that is no vector leaves all but ON
   pub no-vector : (n : ℕ) (test : ℕ → Bool) (r : TakeAnswer) → OneOf (1 ∷ 2 ∷ []) (tagOf declared.the-type r)
-      → takeOutcomeOf r ≡ highest n test → clearBit at 256 image ≡ taken windows descriptor (takeOutcomeOf r) image
+      → takeOutcomeOf r ≡ highest n test → clearBit at 256 image ≡ takeWritten windows descriptor (takeOutcomeOf r) image
   no-vector n test (Vector v) h e = absurd (⊎-elim (λ e. omega arith) (λ e. omega arith) h)
   no-vector n test Nothing h e = rw (at-place windows image descriptor found-at there) (sym (none-there windows image descriptor there))
   no-vector n test (Refused number) h e = absurd (rw (← e) at (finds test n))

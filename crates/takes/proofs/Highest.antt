@@ -9,7 +9,7 @@ use native.Mathlib.Nat.{zero-add, add-zero, add-suc, zero-div, zero-mod}
 use native.Mathlib.Omega.{arith}
 use Rattle.image.specs.Choice.{if_then_else_}
 use Rattle.image.specs.Bits.{bits, bit}
-use Rattle.image.specs.Entries.{spell}
+use Rattle.image.specs.Bytes.{spell}
 use Rattle.image.specs.declared.Entry64.{Entry64}
 use Rattle.image.proofs.Stores.{Words}
 use Rattle.takes.specs.Take.{TakeOutcome, handed, none, refused, highest}

@@ -1,6 +1,6 @@
 -- Two requests in either order leave the same image, and give as many notifications.
 use Prim.Native.Nat.{ℕ, _+_, _-_, _*_, _/_, _%_, _≤_, _<_}
-use mathlib.Core.Bool.{Bool, true, false, not, _&&_, _||_}
+use mathlib.Core.Bool.{Bool, true, false, not, _&&_, _||_, and-true}
 use mathlib.Core.List.{List}
 use mathlib.Core.Logic.{_⊎_, inl, inr, ⊎-elim}
 use mathlib.Core.Path.{_≡_, refl, ap, sym, _∙_}
@@ -10,23 +10,24 @@ use borrow.Author.Tests.{eq-eqb, ne-eqb, eqb-true, eqb-false}
 use lib.Dec.{eqb}
 use lib.ListN.{length, getD}
 use Rattle.image.specs.Bits.{bit}
+use Rattle.image.specs.Choice.{one-if}
 use Rattle.image.specs.Memory.{Fetched, missing, found, entry}
 use Rattle.image.specs.Windows.{windowsOf, Spot, nowhere, here, onSpot, spotIn, ofWindows, byteAt, badWindows}
 use Rattle.image.proofs.Bytes.{AreBytes}
 use Rattle.image.proofs.WindowBytes.{one-address, byte-spot}
 use Rattle.registers.specs.declared.Registers.{Registers}
-use Rattle.interrupts.specs.Claims.{bitAt, due, sets, entryAt}
+use Rattle.interrupts.specs.Claims.{bitAt, due, sets, indexedEntry}
 use Rattle.interrupts.specs.Descriptor.{Notification, notification}
 use Rattle.interrupts.specs.Interrupts.{InterruptOutcome, passed, remapped, posted, blocked, refused, interruptAnswer}
-use Rattle.interrupts.specs.Post.{setBit, notified, written}
+use Rattle.interrupts.specs.Post.{setBit, notified, interruptWritten}
 use Rattle.interrupts.specs.declared.InterruptRequest.{InterruptRequest}
 use Rattle.interrupts.proofs.Exact.{outcome-at, length-written, written-there, other-bytes}
 use Rattle.interrupts.proofs.Raised.{Stands, Within, within}
 use Rattle.interrupts.proofs.EntryBits.{entry-bit}
 use Rattle.interrupts.proofs.Notifications.{notification-exactly}
 use Rattle.takes.specs.Claims.{Apart, EitherOrder}
-use Rattle.takes.specs.Runs.{after, left, count, one-if, hasNotification}
-use Rattle.takes.proofs.Bools.{and-true, or-and-false}
+use Rattle.takes.specs.Runs.{after, left, countIn, hasNotification}
+use Rattle.takes.proofs.Bools.{or-and-false}
 use Rattle.takes.proofs.Commute.{mark, marked, two-descriptors, one-descriptor, one-notification}
 use Rattle.takes.proofs.Memories.{Shape, neither, both, same-shape, same-entry}
 use Rattle.takes.proofs.Stable.{Alike, same, reposted, Descriptors, none-there, reserved-there, alike}
@@ -40,7 +41,7 @@ isPosted (blocked f) = false
 isPosted (refused number) = false
 
 -- an outcome that is no post
-quiet-writes : (o : InterruptOutcome) → isPosted o ≡ false → (windows image : List ℕ) → written windows o image ≡ image
+quiet-writes : (o : InterruptOutcome) → isPosted o ≡ false → (windows image : List ℕ) → interruptWritten windows o image ≡ image
 quiet-writes (posted d u m) q windows image = let z : _≡_ {A = ℕ} 0 1 = cc in absurd (omega arith)
 quiet-writes passed q windows image = refl
 quiet-writes (remapped r) q windows image = refl
@@ -63,7 +64,7 @@ post-known registers a windows image {d} {u} {m} e = let w : Within windows imag
 -- a byte at a host address outside a post's descriptor
 module _ (windows image : List ℕ) (bytes : AreBytes image) (d u : ℕ) (m : Notification) (post : Stands windows image d u) where
   abbrev next : List ℕ
-  next = written windows (posted d u m) image
+  next = interruptWritten windows (posted d u m) image
 
   bit-next : (n : ℕ) → bitAt windows next n ≡ (bitAt windows image n || sets (posted d u m) n)
   bit-next = outcome-at windows image (posted d u m) post
@@ -133,12 +134,12 @@ module _ (windows image : List ℕ) (bytes : AreBytes image) (d u : ℕ) (m : No
       on-same true e = let here : at ≡ d = eqb-true at d e in eq-eqb (8 * at + 256) (8 * d + 256) (omega arith)
       on-same false e = ne-eqb (8 * at + 256) (8 * d + 256) (λ z. eqb-false at d e (omega arith))
 
-  stable : (registers : Registers) (b : InterruptRequest) → (d + 64 ≤ entryAt registers b) ⊎ (entryAt registers b + 16 ≤ d)
+  stable : (registers : Registers) (b : InterruptRequest) → (d + 64 ≤ indexedEntry registers b) ⊎ (indexedEntry registers b + 16 ≤ d)
       → Alike (interruptAnswer registers b windows image) (interruptAnswer registers b windows next)
   stable registers b away =
       rw (post .good, still)
       (alike registers b (ofWindows windows image) (ofWindows windows next)
-      (same-entry windows image next (post .good) still 2 (entryAt registers b) (λ i small. far (entryAt registers b + i) (off i small away)))
+      (same-entry windows image next (post .good) still 2 (indexedEntry registers b) (λ i small. far (indexedEntry registers b + i) (off i small away)))
       (λ at aligned. by at aligned (entry 8 (ofWindows windows image) at) refl (entry 8 (ofWindows windows next) at) refl (same-shape windows image next 8 at)))
     where
       kept : length next ≡ length image
@@ -148,7 +149,7 @@ module _ (windows image : List ℕ) (bytes : AreBytes image) (d u : ℕ) (m : No
       still = rw kept (post .good)
 
       off : (i : ℕ) → i < 8 * 2
-          → (d + 64 ≤ entryAt registers b) ⊎ (entryAt registers b + 16 ≤ d) → (entryAt registers b + i < d) ⊎ (d + 64 ≤ entryAt registers b + i)
+          → (d + 64 ≤ indexedEntry registers b) ⊎ (indexedEntry registers b + 16 ≤ d) → (indexedEntry registers b + i < d) ⊎ (d + 64 ≤ indexedEntry registers b + i)
       off i small (inl over) = inr (omega arith)
       off i small (inr under) = inl (omega arith)
 
@@ -163,43 +164,43 @@ module _ (windows image : List ℕ) (bytes : AreBytes image) (d u : ℕ) (m : No
 -- whether nothing but ON holds a request's notification back: the request's entry is urgent or SN is clear. This, due-by and free-kept
 -- are all that the rest knows of it
 abbrev free : Registers → InterruptRequest → (windows image : List ℕ) → (d : ℕ) → Bool
-free registers q windows image d = bitAt windows image (8 * entryAt registers q + 14) || not (bitAt windows image (8 * d + 257))
+free registers q windows image d = bitAt windows image (8 * indexedEntry registers q + 14) || not (bitAt windows image (8 * d + 257))
 
 due-by : (registers : Registers) (q : InterruptRequest) (windows image : List ℕ) → AreBytes image → {d u : ℕ} {m : Notification}
     → interruptAnswer registers q windows image ≡ posted d u m → due m ≡ (not (bitAt windows image (8 * d + 256)) && free registers q windows image d)
 due-by registers q windows image bytes {d} {u} {m} e = notification-exactly registers q windows image bytes d u m e
 
 free-kept : (registers : Registers) (q : InterruptRequest) (windows image : List ℕ) (bytes : AreBytes image) (d u : ℕ) (m : Notification) (post : Stands windows image d u)
-    → (d + 64 ≤ entryAt registers q) ⊎ (entryAt registers q + 16 ≤ d) → (at : ℕ) → at % 64 ≡ 0
-    → free registers q windows (written windows (posted d u m) image) at ≡ free registers q windows image at
+    → (d + 64 ≤ indexedEntry registers q) ⊎ (indexedEntry registers q + 16 ≤ d) → (at : ℕ) → at % 64 ≡ 0
+    → free registers q windows (interruptWritten windows (posted d u m) image) at ≡ free registers q windows image at
 free-kept registers q windows image bytes d u m post away at aligned =
     ap (λ (t : Bool). t || not (bitAt windows next′ (8 * at + 257))) urgent-kept
-    ∙ ap (λ (t : Bool). bitAt windows image (8 * entryAt registers q + 14) || not t)
+    ∙ ap (λ (t : Bool). bitAt windows image (8 * indexedEntry registers q + 14) || not t)
     (above-kept windows image bytes d u m post at 257 aligned (omega arith) (omega arith))
   where
     next′ : List ℕ
-    next′ = written windows (posted d u m) image
+    next′ = interruptWritten windows (posted d u m) image
 
     byte : ℕ
-    byte = (8 * entryAt registers q + 14) / 8
+    byte = (8 * indexedEntry registers q + 14) / 8
 
-    off : (d + 64 ≤ entryAt registers q) ⊎ (entryAt registers q + 16 ≤ d) → (byte < d) ⊎ (d + 64 ≤ byte)
+    off : (d + 64 ≤ indexedEntry registers q) ⊎ (indexedEntry registers q + 16 ≤ d) → (byte < d) ⊎ (d + 64 ≤ byte)
     off (inl over) = inr (omega arith)
     off (inr under) = inl (omega arith)
 
-    urgent-kept : bitAt windows next′ (8 * entryAt registers q + 14) ≡ bitAt windows image (8 * entryAt registers q + 14)
-    urgent-kept = ap (λ (b : ℕ). bit b ((8 * entryAt registers q + 14) % 8)) (far windows image bytes d u m post byte (off away))
+    urgent-kept : bitAt windows next′ (8 * indexedEntry registers q + 14) ≡ bitAt windows image (8 * indexedEntry registers q + 14)
+    urgent-kept = ap (λ (b : ℕ). bit b ((8 * indexedEntry registers q + 14) % 8)) (far windows image bytes d u m post byte (off away))
 
 module _ (registers : Registers) (windows image : List ℕ) (bytes : AreBytes image) where
   abbrev Same : (a b : InterruptRequest) → (o p : InterruptOutcome) → Type 0
   Same a b o p =
-      (written windows (interruptAnswer registers b windows (written windows o image)) (written windows o image) ≡ written windows (interruptAnswer registers a windows (written windows p image)) (written windows p image))
-      × (one-if (hasNotification o) + (one-if (hasNotification (interruptAnswer registers b windows (written windows o image))) + 0)
-      ≡ one-if (hasNotification p) + (one-if (hasNotification (interruptAnswer registers a windows (written windows p image))) + 0))
+      (interruptWritten windows (interruptAnswer registers b windows (interruptWritten windows o image)) (interruptWritten windows o image) ≡ interruptWritten windows (interruptAnswer registers a windows (interruptWritten windows p image)) (interruptWritten windows p image))
+      × (one-if (hasNotification o) + (one-if (hasNotification (interruptAnswer registers b windows (interruptWritten windows o image))) + 0)
+      ≡ one-if (hasNotification p) + (one-if (hasNotification (interruptAnswer registers a windows (interruptWritten windows p image))) + 0))
 
   -- the second request's answer on what the first left windows
   after-other : (a b : InterruptRequest) (p : InterruptOutcome) → interruptAnswer registers b windows image ≡ p → Apart registers b a windows image
-      → Alike (interruptAnswer registers a windows image) (interruptAnswer registers a windows (written windows p image))
+      → Alike (interruptAnswer registers a windows image) (interruptAnswer registers a windows (interruptWritten windows p image))
   after-other a b (posted d u m) e apart = stable windows image bytes d u m (post-known registers b windows image e) registers a (apart d u m e)
   after-other a b passed e apart = same
   after-other a b (remapped r) e apart = same
@@ -207,12 +208,12 @@ module _ (registers : Registers) (windows image : List ℕ) (bytes : AreBytes im
   after-other a b (refused number) e apart = same
 
   quiet-first : (a b : InterruptRequest) (o p : InterruptOutcome) → isPosted o ≡ false → interruptAnswer registers b windows image ≡ p
-      → Alike o (interruptAnswer registers a windows (written windows p image)) → Same a b o p
+      → Alike o (interruptAnswer registers a windows (interruptWritten windows p image)) → Same a b o p
   quiet-first a b o p q e al =
-      let left-alone : written windows o image ≡ image = quiet-writes o q windows image in
-      let second : interruptAnswer registers b windows (written windows o image) ≡ p = ap (interruptAnswer registers b windows) left-alone ∙ e in
-      let first : interruptAnswer registers a windows (written windows p image) ≡ o = alike-quiet q al in
-      (rw (second, first, left-alone, quiet-writes o q windows (written windows p image)), rw (second, first) (omega arith))
+      let left-alone : interruptWritten windows o image ≡ image = quiet-writes o q windows image in
+      let second : interruptAnswer registers b windows (interruptWritten windows o image) ≡ p = ap (interruptAnswer registers b windows) left-alone ∙ e in
+      let first : interruptAnswer registers a windows (interruptWritten windows p image) ≡ o = alike-quiet q al in
+      (rw (second, first, left-alone, quiet-writes o q windows (interruptWritten windows p image)), rw (second, first) (omega arith))
 
   swapped : (a b : InterruptRequest) (o p : InterruptOutcome) → Same a b o p → Same b a p o
   swapped a b o p s = (sym (s .0), sym (s .1))
@@ -230,10 +231,10 @@ module _ (registers : Registers) (windows image : List ℕ) (bytes : AreBytes im
         pb = post-known registers b windows image eb
 
         ia : List ℕ
-        ia = written windows (posted d u m) image
+        ia = interruptWritten windows (posted d u m) image
 
         ib : List ℕ
-        ib = written windows (posted e w n) image
+        ib = interruptWritten windows (posted e w n) image
 
         ob : (n′ : Notification) × (interruptAnswer registers b windows ia ≡ posted e w n′)
         ob = alike-post (rw eb at (after-other b a (posted d u m) ea ab))
@@ -311,7 +312,7 @@ module _ (registers : Registers) (windows image : List ℕ) (bytes : AreBytes im
             let two : eqb d e ≡ false = ne-eqb d e (λ z. eqb-false e d h (sym z)) in
             rw (apart-n h, apart-m two) (two-descriptors p u q w image (due m) (due n))
 
-        images : written windows (posted e w (ob .0)) ia ≡ written windows (posted d u (oa .0)) ib
+        images : interruptWritten windows (posted e w (ob .0)) ia ≡ interruptWritten windows (posted d u (oa .0)) ib
         images =
             written-there windows ia e w (ob .0) (pb .there)
             ∙ marked q (ob .0) (setBit q w ia)
@@ -332,7 +333,7 @@ module _ (registers : Registers) (windows image : List ℕ) (bytes : AreBytes im
         numbers = numbered (eqb e d) refl
 
 pub either-order : EitherOrder
-unfolding left count after
+unfolding left countIn after
 either-order registers a b windows image bytes ab ba = by (interruptAnswer registers a windows image) refl (interruptAnswer registers b windows image) refl
   where
     quiet-a : (o : InterruptOutcome) → isPosted o ≡ false → interruptAnswer registers a windows image ≡ o → (p : InterruptOutcome) → interruptAnswer registers b windows image ≡ p

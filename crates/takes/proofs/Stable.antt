@@ -16,7 +16,7 @@ use Rattle.image.proofs.Stages.{after, check-cases}
 use Rattle.image.proofs.Trees.{run-map}
 use Rattle.registers.specs.declared.Registers.{Registers}
 use Rattle.irte.specs.Irte.{Irte, remaps, posts, irteCheck, descriptorAddress, faultProcessingDisabled}
-use Rattle.interrupts.specs.Claims.{outcome, wholeIndex, entryAt, beforeTable}
+use Rattle.interrupts.specs.Claims.{answerOver, wholeIndex, indexedEntry, beforeTable}
 use Rattle.interrupts.specs.Descriptor.{Notification, reservedDescriptor, notificationOf, descriptorCheck}
 use Rattle.interrupts.specs.Interrupts.{Delivery, fault, post, descriptorRules, onIrte, indexRules, InterruptOutcome, posted, delivered}
 use Rattle.interrupts.specs.declared.InterruptRequest.{InterruptRequest}
@@ -43,7 +43,7 @@ pub data Descriptors : Fetched → Fetched → Type 0 where
   reserved-there : {d d′ : ℕ} → ((k : ℕ) → 258 ≤ k → k < 512 → bit d′ k ≡ bit d k) → Descriptors (found d) (found d′)
 
 module _ (registers : Registers) (request : InterruptRequest) (m m′ : Memory)
-    (same-irte : entry 2 m′ (entryAt registers request) ≡ entry 2 m (entryAt registers request))
+    (same-irte : entry 2 m′ (indexedEntry registers request) ≡ entry 2 m (indexedEntry registers request))
     (descriptors : (at : ℕ) → at % 64 ≡ 0 → Descriptors (entry 8 m at) (entry 8 m′ at)) where
   abbrev AlikeD : Delivery → Delivery → Type 0
   AlikeD d d′ = Alike (delivered (request .source .id) (wholeIndex request) d) (delivered (request .source .id) (wholeIndex request) d′)
@@ -86,10 +86,10 @@ module _ (registers : Registers) (request : InterruptRequest) (m m′ : Memory)
   unfolding indexRules run
   index-alike =
       chosen Both (leb (2 ^ (registers .s + 1)) (wholeIndex request)) (λ h. same)
-      (λ h. rw same-irte (by (entry 2 m (entryAt registers request))))
+      (λ h. rw same-irte (by (entry 2 m (indexedEntry registers request))))
     where
       next : ℕ → Rules Delivery
-      next = after remappingEntry (entryAt registers request) (fault 0x23 false) (irteCheck registers (request .source .id))
+      next = after remappingEntry (indexedEntry registers request) (fault 0x23 false) (irteCheck registers (request .source .id))
           (λ e reason. fault reason (faultProcessingDisabled e)) (onIrte (registers .eime))
 
       by : (f : Fetched)
@@ -99,7 +99,7 @@ module _ (registers : Registers) (request : InterruptRequest) (m m′ : Memory)
           check-cases Both (irteCheck registers (request .source .id) e) (λ reason. fault reason (faultProcessingDisabled e)) (onIrte (registers .eime))
           (λ reason h. same) (irte-alike e)
 
-  pub alike : Alike (outcome registers request m) (outcome registers request m′)
+  pub alike : Alike (answerOver registers request m) (answerOver registers request m′)
   unfolding run
   alike =
       request-cases registers request (λ q. Alike (run q m) (run q m′)) early-answer

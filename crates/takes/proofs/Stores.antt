@@ -1,6 +1,6 @@
 -- Bits that are set and cleared in the lent run, one by one.
 use Prim.Native.Nat.{ℕ, _+_, _-_, _*_, _/_, _%_, _^_, _≤_, _<_}
-use mathlib.Core.Bool.{Bool, true, false, not, _&&_, _||_}
+use mathlib.Core.Bool.{Bool, true, false, not, _&&_, _||_, or-false, and-true, and-false}
 use mathlib.Core.List.{List}
 use mathlib.Core.Path.{_≡_, refl, ap, sym, _∙_}
 use native.Mathlib.Decide.{decLe}
@@ -16,17 +16,15 @@ use lib.Seq.{getD-set-same, getD-set-other, set-out}
 use Rattle.image.specs.Bits.{bits, bit}
 use Rattle.image.specs.Choice.{if_then_else_}
 use Rattle.image.proofs.Bytes.{AreBytes}
-use Rattle.image.proofs.Choices.{or-false}
 use Rattle.image.specs.Windows.{windowsOf, Spot, nowhere, here, onSpot, spotIn, badWindows}
 use Rattle.interrupts.specs.Claims.{bitAt}
 use Rattle.interrupts.specs.Descriptor.{Notification, silent, notification}
 use Rattle.interrupts.specs.Interrupts.{InterruptOutcome, passed, remapped, posted, blocked, refused}
-use Rattle.interrupts.specs.Post.{withBit, setBit, notified, written}
+use Rattle.interrupts.specs.Post.{withBit, setBit, notified, interruptWritten}
 use Rattle.interrupts.proofs.Exact.{bit-with}
 use Rattle.interrupts.proofs.Hosts.{store-at}
 use Rattle.interrupts.proofs.Posts.{one-bit, or-power}
 use Rattle.takes.specs.Take.{withoutBit, clearBit}
-use Rattle.takes.proofs.Bools.{and-true, and-false}
 
 pub length-clearBit : (image : List ℕ) (descriptor place : ℕ) → length (clearBit descriptor place image) ≡ length image
 unfolding clearBit
@@ -98,7 +96,7 @@ module _ (image : List ℕ) (bytes : AreBytes image) (descriptor place : ℕ) wh
       let at = descriptor + place / 8 in
       bytes-set image at _ bytes (without-below (getD image at 0) (place % 8) (bytes at))
 
-pub bytes-written : (windows image : List ℕ) → AreBytes image → (o : InterruptOutcome) → AreBytes (written windows o image)
+pub bytes-written : (windows image : List ℕ) → AreBytes image → (o : InterruptOutcome) → AreBytes (interruptWritten windows o image)
 bytes-written windows image bytes (posted d u m) = by m (spotIn (windowsOf windows) 64 d)
   where
     by : (m : Notification) (s : Spot) → AreBytes (onSpot s image (λ at left. notified at m (setBit at u image)))

@@ -1,6 +1,6 @@
 -- A take: what it met, and bit by bit what it leaves.
 use Prim.Native.Nat.{ℕ, _+_, _-_, _*_, _/_, _%_, _<_}
-use mathlib.Core.Bool.{Bool, true, false, not, _&&_}
+use mathlib.Core.Bool.{Bool, true, false, not, _&&_, and-true}
 use mathlib.Core.List.{List}
 use mathlib.Core.Path.{_≡_, refl, ap, sym, _∙_}
 use native.Mathlib.Omega.{arith}
@@ -22,12 +22,12 @@ use Rattle.interrupts.specs.Claims.{bitAt, Shows}
 use Rattle.interrupts.proofs.EntryBits.{entry-bit}
 use Rattle.takes.specs.Claims.{clears, ClearsExactly, TakesStayInside, HandsHighest, NoneStands}
 use Rattle.takes.specs.Runs.{stands, unrefused}
-use Rattle.takes.specs.Take.{TakeOutcome, handed, none, refused, highest, takeRules, clearBit, taken, takeAnswer}
-use Rattle.takes.proofs.Bools.{and-true, and-not-or}
+use Rattle.takes.specs.Take.{TakeOutcome, handed, none, refused, highest, takeRules, clearBit, takeWritten, takeAnswer}
+use Rattle.takes.proofs.Bools.{and-not-or}
 use Rattle.takes.proofs.Highest.{Finds, finds, highest-same}
 use Rattle.takes.proofs.Stores.{length-clearBit, bytes-clearBit, host-clear, uncleared}
 
-pub bytes-taken : (windows bytes : List ℕ) → AreBytes bytes → (d : ℕ) (o : TakeOutcome) → AreBytes (taken windows d o bytes)
+pub bytes-taken : (windows bytes : List ℕ) → AreBytes bytes → (d : ℕ) (o : TakeOutcome) → AreBytes (takeWritten windows d o bytes)
 bytes-taken windows bytes are d (handed h) = by (spotIn (windowsOf windows) 64 d)
   where
     by : (s : Spot) → AreBytes (onSpot s bytes (λ at left. clearBit at h (clearBit at 256 bytes)))
@@ -120,15 +120,15 @@ unaligned-refused registers d windows bytes h =
 
 -- what a take writes, at the place where its descriptor stands
 module _ (windows bytes : List ℕ) (d : ℕ) {k left : ℕ} (there : spotIn (windowsOf windows) 64 d ≡ here k left) where
-  pub handed-there : (h : ℕ) → taken windows d (handed h) bytes ≡ clearBit k h (clearBit k 256 bytes)
+  pub handed-there : (h : ℕ) → takeWritten windows d (handed h) bytes ≡ clearBit k h (clearBit k 256 bytes)
   handed-there h = rw there
 
-  pub none-there : taken windows d none bytes ≡ clearBit k 256 bytes
+  pub none-there : takeWritten windows d none bytes ≡ clearBit k 256 bytes
   none-there = rw there
 
 -- what a take leaves, bit by bit
 pub taken-at : (windows bytes : List ℕ) (d : ℕ) (o : TakeOutcome) → Whole windows bytes d o → (n : ℕ)
-    → bitAt windows (taken windows d o bytes) n ≡ (bitAt windows bytes n && not (clears d o n))
+    → bitAt windows (takeWritten windows d o bytes) n ≡ (bitAt windows bytes n && not (clears d o n))
 taken-at windows bytes d (handed h) w n =
     let s = w .0 in
     let k = s .place in
@@ -147,7 +147,7 @@ clears-exactly registers d windows bytes =
     taken-at windows bytes d (takeAnswer registers d windows bytes) (whole registers d windows bytes)
 
 module _ (windows bytes : List ℕ) (d : ℕ) where
-  length-taken : (o : TakeOutcome) → Whole windows bytes d o → length (taken windows d o bytes) ≡ length bytes
+  length-taken : (o : TakeOutcome) → Whole windows bytes d o → length (takeWritten windows d o bytes) ≡ length bytes
   length-taken (handed h) w =
       let k = w .0 .place in
       rw (handed-there windows bytes d (w .0 .there) h) (length-clearBit (clearBit k 256 bytes) k h ∙ length-clearBit bytes k 256)
@@ -160,7 +160,7 @@ module _ (windows bytes : List ℕ) (d : ℕ) where
         let byte = byte-spot windows (length bytes) (s .good) 64 d (p / 8) (s .there) (omega arith) in
         never (d + p / 8) (s .left - p / 8, byte ∙ ap (λ (x : ℕ). here x (s .left - p / 8)) (sym e))
 
-    unshown : (o : TakeOutcome) → Whole windows bytes d o → getD (taken windows d o bytes) place 0 ≡ getD bytes place 0
+    unshown : (o : TakeOutcome) → Whole windows bytes d o → getD (takeWritten windows d o bytes) place 0 ≡ getD bytes place 0
     unshown (handed h) w =
         let k = w .0 .place in
         let below = w .1 in

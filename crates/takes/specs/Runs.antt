@@ -3,23 +3,20 @@ use Prim.Native.Nat.{ℕ, zero, suc, _+_, _*_}
 use mathlib.Core.Bool.{Bool, true, false, not, _&&_}
 use mathlib.Core.List.{List, [], _∷_}
 use lib.Dec.{eqb, leb}
-use Rattle.image.specs.Choice.{if_then_else_}
+use Rattle.image.specs.Choice.{one-if}
 use Rattle.registers.specs.declared.Registers.{Registers}
 use Rattle.interrupts.specs.Claims.{bitAt, due}
 use Rattle.interrupts.specs.Interrupts.{InterruptOutcome, passed, remapped, posted, blocked, refused, interruptAnswer}
-use Rattle.interrupts.specs.Post.{written}
+use Rattle.interrupts.specs.Post.{interruptWritten}
 use Rattle.interrupts.specs.declared.InterruptRequest.{InterruptRequest}
 use Rattle.takes.specs.Take as rules
-use Rattle.takes.specs.Take.{TakeOutcome, taken, takeAnswer}
+use Rattle.takes.specs.Take.{TakeOutcome, takeWritten, takeAnswer}
 
 -- an operation with its arguments, whatever they are: each brings its own registers
 pub data Operation : Type 0 where
   -- an interrupt request, which may post
   request : Registers → InterruptRequest → Operation
-  take : Registers → (descriptor : ℕ) → Operation
-
-abbrev pub one-if : Bool → ℕ
-one-if test = if test then 1 else 0
+  takeFrom : Registers → (descriptor : ℕ) → Operation
 
 -- how many places from low to below n a test holds of
 unfoldable pub countFrom : (low n : ℕ) → (ℕ → Bool) → ℕ
@@ -62,8 +59,8 @@ hasNotification (refused number) = false
 
 module _ (windows : List ℕ) where
   unfoldable pub after : Operation → List ℕ → List ℕ
-  after (request registers r) bytes = written windows (interruptAnswer registers r windows bytes) bytes
-  after (take registers descriptor) bytes = taken windows descriptor (takeAnswer registers descriptor windows bytes) bytes
+  after (request registers r) bytes = interruptWritten windows (interruptAnswer registers r windows bytes) bytes
+  after (takeFrom registers descriptor) bytes = takeWritten windows descriptor (takeAnswer registers descriptor windows bytes) bytes
 
   -- what a run leaves
   unfoldable pub left : List Operation → List ℕ → List ℕ
@@ -71,9 +68,9 @@ module _ (windows : List ℕ) where
   left (o ∷ os) bytes = left os (after o bytes)
 
   -- how many operations of a run are of a kind, each judged on the bytes that it met
-  unfoldable pub count : (Operation → List ℕ → Bool) → List Operation → List ℕ → ℕ
-  count kind [] bytes = 0
-  count kind (o ∷ os) bytes = one-if (kind o bytes) + count kind os (after o bytes)
+  unfoldable pub countIn : (Operation → List ℕ → Bool) → List Operation → List ℕ → ℕ
+  countIn kind [] bytes = 0
+  countIn kind (o ∷ os) bytes = one-if (kind o bytes) + countIn kind os (after o bytes)
 
   -- whether a vector's request bit stands in a descriptor
   abbrev pub stands : (descriptor : ℕ) → List ℕ → (vector : ℕ) → Bool
@@ -87,22 +84,22 @@ module _ (windows : List ℕ) where
   -- at or above the vector, and a post with a notification
   abbrev pub takesAt : (descriptor : ℕ) → Operation → List ℕ → Bool
   takesAt descriptor (request registers r) bytes = false
-  takesAt descriptor (take registers d) bytes = eqb d descriptor && unrefused (takeAnswer registers d windows bytes)
+  takesAt descriptor (takeFrom registers d) bytes = eqb d descriptor && unrefused (takeAnswer registers d windows bytes)
 
   abbrev pub handsOut : (descriptor vector : ℕ) → Operation → List ℕ → Bool
   handsOut descriptor vector (request registers r) bytes = false
-  handsOut descriptor vector (take registers d) bytes = eqb d descriptor && hands vector (takeAnswer registers d windows bytes)
+  handsOut descriptor vector (takeFrom registers d) bytes = eqb d descriptor && hands vector (takeAnswer registers d windows bytes)
 
   abbrev pub postsAt : (descriptor vector : ℕ) → Operation → List ℕ → Bool
   postsAt descriptor vector (request registers r) bytes = postsFrom descriptor vector (interruptAnswer registers r windows bytes)
-  postsAt descriptor vector (take registers d) bytes = false
+  postsAt descriptor vector (takeFrom registers d) bytes = false
 
   -- a post of the vector to the descriptor that found its request bit clear
   abbrev pub postsClear : (descriptor vector : ℕ) → Operation → List ℕ → Bool
   postsClear descriptor vector (request registers r) bytes =
       postsVector descriptor vector (interruptAnswer registers r windows bytes) && not (stands descriptor bytes vector)
-  postsClear descriptor vector (take registers d) bytes = false
+  postsClear descriptor vector (takeFrom registers d) bytes = false
 
   abbrev pub notifications : Operation → List ℕ → Bool
   notifications (request registers r) bytes = hasNotification (interruptAnswer registers r windows bytes)
-  notifications (take registers d) bytes = false
+  notifications (takeFrom registers d) bytes = false

@@ -47,8 +47,8 @@ clearBit at place bytes = set bytes (at + place / 8) (withoutBit (place % 8) (ge
 
 -- a take clears ON, bit 256, and the bit that it hands out, in the descriptor that stands whole in a single window; a refused one leaves
 -- the run as it came
-abbrev pub taken : (windows : List ℕ) (descriptor : ℕ) → TakeOutcome → List ℕ → List ℕ
-taken windows descriptor (handed vector) bytes =
+abbrev pub takeWritten : (windows : List ℕ) (descriptor : ℕ) → TakeOutcome → List ℕ → List ℕ
+takeWritten windows descriptor (handed vector) bytes =
     onSpot (spotIn (windowsOf windows) 64 descriptor) bytes (λ at left. clearBit at vector (clearBit at 256 bytes))
-taken windows descriptor none bytes = onSpot (spotIn (windowsOf windows) 64 descriptor) bytes (λ at left. clearBit at 256 bytes)
-taken windows descriptor (refused number) bytes = bytes
+takeWritten windows descriptor none bytes = onSpot (spotIn (windowsOf windows) 64 descriptor) bytes (λ at left. clearBit at 256 bytes)
+takeWritten windows descriptor (refused number) bytes = bytes

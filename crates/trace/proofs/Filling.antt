@@ -17,20 +17,20 @@ use Rattle.traced.specs.Entry.{Fits, entryBytes}
 use Rattle.traced.specs.Well.{wellTraced}
 use Rattle.traced.specs.declared.Traced.{Traced}
 use Rattle.traced.proofs.Back.{entry-length}
-use Rattle.trace.specs.Writer.{Wrote, kept, full, refused, unfit, withEntry, next, appending, closing, onWrote, handedOut, TraceHandedOut}
-use Rattle.trace.specs.Written.{joined, blockOf, blocksFrom, traceOf, Entries}
+use Rattle.trace.specs.Writer.{Wrote, kept, full, refused, unfit, withEntry, nextBlock, appending, closing, onWrote, handedOut, TraceHandedOut}
+use Rattle.trace.specs.Written.{entriesBytes, blockOf, blocksFrom, traceOf, Entries}
 use Rattle.trace.specs.declared.writer.Writer.{Writer}
 use Rattle.trace.proofs.Writes.{append-kept, append-full, close-refused, close-none, close-full}
 
 -- entries side by side
-pub joined-behind : (es : List Traced) (e : Traced) → joined (es ++ (e ∷ [])) ≡ joined es ++ entryBytes e
-unfolding joined
+pub joined-behind : (es : List Traced) (e : Traced) → entriesBytes (es ++ (e ∷ [])) ≡ entriesBytes es ++ entryBytes e
+unfolding entriesBytes
 joined-behind [] e = append-nil (entryBytes e)
 joined-behind (d ∷ es) e =
-    ap (λ (l : List ℕ). entryBytes d ++ l) (joined-behind es e) ∙ sym (append-assoc (entryBytes d) (joined es) (entryBytes e))
+    ap (λ (l : List ℕ). entryBytes d ++ l) (joined-behind es e) ∙ sym (append-assoc (entryBytes d) (entriesBytes es) (entryBytes e))
 
-pub joined-length : (es : List Traced) → Entries es → length (joined es) ≡ 32 * length es
-unfolding joined Entries
+pub joined-length : (es : List Traced) → Entries es → length (entriesBytes es) ≡ 32 * length es
+unfolding entriesBytes Entries
 joined-length [] fine = refl
 joined-length (e ∷ es) fine =
     let rest = joined-length es (fine .1) in
@@ -46,7 +46,7 @@ entries-behind [] e fine this = (this, tt)
 entries-behind (d ∷ es) e fine this = (fine .0, entries-behind es e (fine .1) this)
 
 -- the block of some entries
-pub block-of : (number : ℕ) (es : List Traced) → 1 ≤ length es → blockOf number es ≡ blockBytes number (length es) (joined es)
+pub block-of : (number : ℕ) (es : List Traced) → 1 ≤ length es → blockOf number es ≡ blockBytes number (length es) (entriesBytes es)
 unfolding blockOf
 block-of number [] some = absurd (omega arith)
 block-of number (e ∷ es) some = refl
@@ -59,7 +59,7 @@ module _ (buffer : List ℕ) (number : ℕ) (waiting : List Traced) (whole : len
   fit : unfit (at number waiting) (length buffer) ≡ false
   fit = rw (eq-eqb (length buffer) 512 whole, lt-leb 15 (length waiting) few, lt-leb (2 ^ 48) number small)
 
-  module _ (e : Traced) (well : wellTraced e ≡ true) (fits : Fits e) (held : heldIn buffer (length waiting) ≡ joined waiting) where
+  module _ (e : Traced) (well : wellTraced e ≡ true) (fits : Fits e) (held : heldIn buffer (length waiting) ≡ entriesBytes waiting) where
     fit-entry : (unfit (at number waiting) (length buffer) || not (wellTraced e)) ≡ false
     fit-entry = rw (fit, well)
 
@@ -76,7 +76,7 @@ module _ (buffer : List ℕ) (number : ℕ) (waiting : List Traced) (whole : len
     pub longer : length (withEntry buffer (length waiting) e) ≡ 512
     longer = both .0
 
-    pub holds : heldIn (withEntry buffer (length waiting) e) (length (waiting ++ (e ∷ []))) ≡ joined (waiting ++ (e ∷ []))
+    pub holds : heldIn (withEntry buffer (length waiting) e) (length (waiting ++ (e ∷ []))) ≡ entriesBytes (waiting ++ (e ∷ []))
     holds =
         let more : length (waiting ++ (e ∷ [])) ≡ length waiting + 1 = behind-length waiting e ∙ sym (add-one (length waiting)) in
         ap (λ (n : ℕ). heldIn (withEntry buffer (length waiting) e) n) more
@@ -103,7 +103,7 @@ none-left buffer number whole (no small) =
     last-call (at number []) buffer (close-none (at number []) buffer (fit buffer number [] whole (omega arith) (omega arith)) refl)
 
 module _ (buffer : List ℕ) (number : ℕ) (es : List Traced) (whole : length buffer ≡ 512) (some : 1 ≤ length es) (few : length es ≤ 15)
-    (held : heldIn buffer (length es) ≡ joined es) where
+    (held : heldIn buffer (length es) ≡ entriesBytes es) where
   pub block-made : finished buffer number (length es) ≡ blockOf number es
   block-made =
       made buffer number (length es) whole few
@@ -112,10 +112,10 @@ module _ (buffer : List ℕ) (number : ℕ) (es : List Traced) (whole : length b
 
 pub length-of-block : (number : ℕ) (es : List Traced) → Entries es → 1 ≤ length es → length es ≤ 15 → length (blockOf number es) ≡ 512
 length-of-block number es fine some few =
-    ap length (block-of number es some) ∙ block-length number (length es) (joined es) (joined-length es fine) few
+    ap length (block-of number es some) ∙ block-length number (length es) (entriesBytes es) (joined-length es fine) few
 
-none-held : (buffer : List ℕ) → heldIn buffer 0 ≡ joined []
-unfolding joined
+none-held : (buffer : List ℕ) → heldIn buffer 0 ≡ entriesBytes []
+unfolding entriesBytes
 none-held buffer = refl
 
 pub no-entries : Entries []
@@ -132,7 +132,7 @@ others-of e es fine = fine .1
 
 -- one more entry, where what follows is known
 module _ (e : Traced) (es : List Traced) (buffer : List ℕ) (number : ℕ) (waiting : List Traced) (whole : length buffer ≡ 512)
-    (few : length waiting < 15) (small : number < 2 ^ 48) (held : heldIn buffer (length waiting) ≡ joined waiting) (waits : Entries waiting)
+    (few : length waiting < 15) (small : number < 2 ^ 48) (held : heldIn buffer (length waiting) ≡ entriesBytes waiting) (waits : Entries waiting)
     (well : wellTraced e ≡ true) (fits : Fits e) where
   fourteen-more : length waiting < 14
       → handedOut (at number (waiting ++ (e ∷ []))) (withEntry buffer (length waiting) e) es ≡ blocksFrom number (waiting ++ (e ∷ [])) es
@@ -168,7 +168,7 @@ module _ (e : Traced) (es : List Traced) (buffer : List ℕ) (number : ℕ) (wai
 
 -- the blocks that are handed out while some entries wait
 pub handed : (es : List Traced) (buffer : List ℕ) (number : ℕ) (waiting : List Traced) → length buffer ≡ 512 → length waiting < 15
-    → heldIn buffer (length waiting) ≡ joined waiting → Entries waiting → Entries es → 15 * number + length waiting + length es ≤ 15 * 2 ^ 48
+    → heldIn buffer (length waiting) ≡ entriesBytes waiting → Entries waiting → Entries es → 15 * number + length waiting + length es ≤ 15 * 2 ^ 48
     → handedOut (at number waiting) buffer es ≡ blocksFrom number waiting es
 unfolding blocksFrom blockOf
 handed [] buffer number [] whole few held waits fine small = none-left buffer number whole (decLe (2 ^ 48) number)
@@ -183,7 +183,7 @@ handed (e ∷ es) buffer number waiting whole few held waits fine small = go (ha
     this : (wellTraced e ≡ true) × Fits e
     this = first-of e es fine
 
-    go : ((b : List ℕ) (m : ℕ) (w : List Traced) → length b ≡ 512 → length w < 15 → heldIn b (length w) ≡ joined w → Entries w → Entries es
+    go : ((b : List ℕ) (m : ℕ) (w : List Traced) → length b ≡ 512 → length w < 15 → heldIn b (length w) ≡ entriesBytes w → Entries w → Entries es
         → 15 * m + length w + length es ≤ 15 * 2 ^ 48 → handedOut (at m w) b es ≡ blocksFrom m w es)
         → Dec (14 ≤ length waiting) → handedOut (at number waiting) buffer (e ∷ es) ≡ blocksFrom number waiting (e ∷ es)
     go rec (yes last) =

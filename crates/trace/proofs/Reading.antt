@@ -21,14 +21,14 @@ use Rattle.traced.specs.Decoded as of
 use Rattle.traced.specs.Entry.{entryBytes, tracedIn}
 use Rattle.traced.specs.Well.{wellTraced}
 use Rattle.traced.proofs.Back.{bytes-again}
-use Rattle.trace.specs.Told.{Told, entryAt, damagedAt, entriesFrom, toldOf, toldFrom, told, blocksIn}
-use Rattle.trace.specs.Reader.{Step, entry, damaged, end, blockAt, behind, shut, stepAt, onStep, steps, ToldInSteps}
+use Rattle.trace.specs.Told.{Told, tracedAt, damagedAt, entriesFrom, toldOf, toldFrom, told, blocksIn}
+use Rattle.trace.specs.Reader.{ReaderStep, entry, damaged, end, blockAt, behind, shut, stepAt, onReaderStep, steps, ToldInSteps}
 use Rattle.trace.specs.declared.Cursor.{Cursor}
 use Rattle.trace.proofs.Steps.{at-end, at-shut, at-entry}
 
 -- one step, then the others
-one-step : (n : ℕ) (bytes : List ℕ) (place index : ℕ) {s : Step} → s ≡ stepAt bytes place index
-    → steps (suc n) bytes place index ≡ onStep place index s (λ next. steps n bytes (next .place) (next .index))
+one-step : (n : ℕ) (bytes : List ℕ) (place index : ℕ) {s : ReaderStep} → s ≡ stepAt bytes place index
+    → steps (suc n) bytes place index ≡ onReaderStep place index s (λ next. steps n bytes (next .place) (next .index))
 unfolding steps
 one-step n bytes place index is = rw (← is)
 
@@ -124,7 +124,7 @@ module _ (bytes : List ℕ) (are : AreBytes bytes) (place : ℕ) where
         let last : count (blockAt bytes place) ≤ index + 1 = omega arith in
         one-step j bytes place index (entry-step index small here)
         ∙ rw (same-bytes index here, le-ltb (index + 1) (count (blockAt bytes place)) last)
-        (ap (λ (l : List Told). entryAt place index (take 32 (onward index)) ∷ l) (rest j (omega arith)))
+        (ap (λ (l : List Told). tracedAt place index (take 32 (onward index)) ∷ l) (rest j (omega arith)))
     through (suc k) index n after ends test rest (suc j) h =
         let here = first-well (suc k) (onward index) test in
         let small : index < 15 = omega (arith, few) in
@@ -132,7 +132,7 @@ module _ (bytes : List ℕ) (are : AreBytes bytes) (place : ℕ) where
         let others : entriesWell entryWell (suc k) (onward (suc index)) ≡ true = rw (← next-onward index) (rest-well (suc k) (onward index) test) in
         one-step j bytes place index (entry-step index small here)
         ∙ rw (same-bytes index here, lt-ltb (index + 1) (count (blockAt bytes place)) more, add-one index)
-        (ap (λ (l : List Told). entryAt place index (take 32 (onward index)) ∷ l)
+        (ap (λ (l : List Told). tracedAt place index (take 32 (onward index)) ∷ l)
         (through k (suc index) n after (omega arith) others rest j (omega arith)
         ∙ ap (λ (l : List ℕ). entriesFrom place (suc index) (suc k) l ++ after) (sym (next-onward index))))
 

@@ -12,10 +12,10 @@ use lib.Dec.{eqb, lit<}
 use lib.ListN.{length, take, drop, length-append}
 use lib.Seq.{take-at, drop-at}
 use Rattle.image.specs.Choice.{if_then_else_}
-use Rattle.image.proofs.Bytes.{AreBytes}
+use Rattle.image.proofs.Bytes.{AreBytes, bytes-append, bytes-number}
 use Rattle.blocks.specs.Block.{count, framed, entriesWell, wellLaid}
 use Rattle.blocks.specs.Written.{blockBytes}
-use Rattle.blocks.proofs.Finished.{bytes-append, bytes-number, counted, from-eight, block-framed}
+use Rattle.blocks.proofs.Finished.{counted, from-eight, block-framed}
 use Rattle.traced.specs.Decoded.{entryWell}
 use Rattle.traced.specs.Entry.{Fits, entryBytes, tracedIn}
 use Rattle.traced.specs.Well.{wellTraced}
@@ -23,8 +23,8 @@ use Rattle.traced.specs.declared.Traced.{Traced}
 use Rattle.traced.proofs.Back.{four, entry-back, entry-length}
 use Rattle.traced.proofs.Heads.{headOf, messageOf}
 use Rattle.image.specs.Bytes.{bytesOf}
-use Rattle.trace.specs.Told.{Told, entryAt, entriesFrom, toldOf, toldFrom, told, blocksIn}
-use Rattle.trace.specs.Written.{joined, blockOf, blocksFrom, traceOf, Entries, placed, ReadBack}
+use Rattle.trace.specs.Told.{Told, tracedAt, entriesFrom, toldOf, toldFrom, told, blocksIn}
+use Rattle.trace.specs.Written.{entriesBytes, blockOf, blocksFrom, traceOf, Entries, placed, ReadBack}
 use Rattle.trace.proofs.Apart.{block-first}
 use Rattle.trace.proofs.Filling.{joined-length, behind-length, entries-behind, block-of, length-of-block, no-entries, first-of, others-of}
 
@@ -43,30 +43,30 @@ entry-well : (e : Traced) → (wellTraced e ≡ true) × Fits e → entryWell (e
 unfolding entryWell
 entry-well e this = rw (eq-eqb (length (entryBytes e)) 32 (entry-length e (this .1)), entry-back e (this .1), this .0)
 
-joined-bytes : (es : List Traced) → Entries es → AreBytes (joined es)
-unfolding joined Entries
+joined-bytes : (es : List Traced) → Entries es → AreBytes (entriesBytes es)
+unfolding entriesBytes Entries
 joined-bytes [] fine i = lit< tt
-joined-bytes (e ∷ es) fine i = bytes-append (entryBytes e) (joined es) (entry-bytes e (fine .0 .1)) (joined-bytes es (fine .1)) i
+joined-bytes (e ∷ es) fine i = bytes-append (entryBytes e) (entriesBytes es) (entry-bytes e (fine .0 .1)) (joined-bytes es (fine .1)) i
 
-joined-well : (es : List Traced) (rest : List ℕ) → Entries es → entriesWell entryWell (length es) (joined es ++ rest) ≡ true
-unfolding joined Entries entriesWell
+joined-well : (es : List Traced) (rest : List ℕ) → Entries es → entriesWell entryWell (length es) (entriesBytes es ++ rest) ≡ true
+unfolding entriesBytes Entries entriesWell
 joined-well [] rest fine = refl
 joined-well (e ∷ es) rest fine =
     let this = entry-length e (fine .0 .1) in
-    rw (append-assoc (entryBytes e) (joined es) rest, take-at (entryBytes e) (joined es ++ rest) 32 this, drop-at (entryBytes e) (joined es ++ rest) 32 this, entry-well e (fine .0))
+    rw (append-assoc (entryBytes e) (entriesBytes es) rest, take-at (entryBytes e) (entriesBytes es ++ rest) 32 this, drop-at (entryBytes e) (entriesBytes es ++ rest) 32 this, entry-well e (fine .0))
     (joined-well es rest (fine .1))
 
 -- the entries of a block are told by their places in the trace
 entries-placed : (es : List Traced) (number i : ℕ) (rest : List ℕ) → Entries es → i + length es ≤ 15
-    → entriesFrom number i (length es) (joined es ++ rest) ≡ placed (15 * number + i) es
-unfolding joined Entries entriesFrom placed
+    → entriesFrom number i (length es) (entriesBytes es ++ rest) ≡ placed (15 * number + i) es
+unfolding entriesBytes Entries entriesFrom placed
 entries-placed [] number i rest fine few = refl
 entries-placed (e ∷ es) number i rest fine few =
     let this = entry-length e (fine .0 .1) in
     let block : (15 * number + i) / 15 ≡ number = omega arith in
     let index : (15 * number + i) % 15 ≡ i = omega arith in
-    rw (append-assoc (entryBytes e) (joined es) rest, take-at (entryBytes e) (joined es ++ rest) 32 this, drop-at (entryBytes e) (joined es ++ rest) 32 this, block, index)
-    (ap (λ (l : List Told). entryAt number i (entryBytes e) ∷ l)
+    rw (append-assoc (entryBytes e) (entriesBytes es) rest, take-at (entryBytes e) (entriesBytes es ++ rest) 32 this, drop-at (entryBytes e) (entriesBytes es ++ rest) 32 this, block, index)
+    (ap (λ (l : List Told). tracedAt number i (entryBytes e) ∷ l)
     (entries-placed es number (suc i) rest (fine .1) (omega arith) ∙ ap (λ (n : ℕ). placed n es) (add-suc (15 * number) i)))
 
 placed-behind : (xs ys : List Traced) (n : ℕ) → placed n (xs ++ ys) ≡ placed n xs ++ placed (n + length xs) ys
@@ -74,7 +74,7 @@ unfolding placed
 placed-behind [] ys n = ap (λ (k : ℕ). placed k ys) (sym (add-zero n))
 placed-behind (x ∷ xs) ys n =
     let same : suc n + length xs ≡ n + suc (length xs) = omega arith in
-    ap (λ (l : List Told). entryAt (n / 15) (n % 15) (entryBytes x) ∷ l)
+    ap (λ (l : List Told). tracedAt (n / 15) (n % 15) (entryBytes x) ∷ l)
     (placed-behind xs ys (suc n) ∙ ap (λ (k : ℕ). placed (suc n) xs ++ placed k ys) same)
 
 -- one block
@@ -82,14 +82,14 @@ module _ (number : ℕ) (es : List Traced) (fine : Entries es) (some : 1 ≤ len
   block-well : wellLaid entryWell (blockOf number es) number ≡ true
   unfolding wellLaid
   block-well =
-      rw (block-of number es some, counted number (length es) (joined es) (joined-length es fine) few, from-eight number (length es) (joined es) (joined-length es fine) few, block-framed number (length es) (joined es) (joined-length es fine) few some small (joined-bytes es fine))
+      rw (block-of number es some, counted number (length es) (entriesBytes es) (joined-length es fine) few, from-eight number (length es) (entriesBytes es) (joined-length es fine) few, block-framed number (length es) (entriesBytes es) (joined-length es fine) few some small (joined-bytes es fine))
       (joined-well es _ fine)
 
   block-told : toldOf (blockOf number es) number ≡ placed (15 * number) es
   unfolding toldOf
   block-told =
       rw block-well
-      (rw (block-of number es some, counted number (length es) (joined es) (joined-length es fine) few, from-eight number (length es) (joined es) (joined-length es fine) few)
+      (rw (block-of number es some, counted number (length es) (entriesBytes es) (joined-length es fine) few, from-eight number (length es) (entriesBytes es) (joined-length es fine) few)
       (entries-placed es number 0 _ fine (rw (zero-add (length es)) few) ∙ ap (λ (n : ℕ). placed n es) (add-zero (15 * number))))
 
   pub first-told : (rest : List ℕ)

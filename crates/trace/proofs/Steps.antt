@@ -12,7 +12,7 @@ use Rattle.blocks.specs.Block.{count, wellLaid}
 use Rattle.traced.specs.Decoded.{entryWell, decoded}
 use Rattle.traced.specs.Decoded as of
 use Rattle.traced.specs.declared.Traced.{Traced}
-use Rattle.trace.specs.Reader.{Step, entry, damaged, end, blockAt, behind, shut, stepAt, onDecoded}
+use Rattle.trace.specs.Reader.{ReaderStep, entry, damaged, end, blockAt, behind, shut, stepAt, onDecoded}
 
 module _ (bytes : List ℕ) (place index : ℕ) where
   pub at-end : leb (length bytes) (512 * place) ≡ true → end ≡ stepAt bytes place index

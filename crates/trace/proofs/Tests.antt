@@ -10,7 +10,7 @@ use lib.Dec.{eqb, leb, ltb}
 use lib.ListN.{length, getD, take, drop, length-take, length-drop}
 use lib.Seq.{getD-take, getD-drop, length-take-le}
 use Rattle.blocks.specs.Block.{framed, count, entriesWell, wellLaid}
-use Rattle.blocks.proofs.Frames.{framed-length, short, false-and}
+use Rattle.blocks.proofs.Frames.{framed-length, short, no-first}
 use Rattle.traced.specs.Decoded.{Decoded, entryWell, decoded}
 use Rattle.traced.specs.Decoded as of
 use Rattle.traced.specs.Entry.{tracedIn}
@@ -76,7 +76,7 @@ pub short-laid : (bytes : List ℕ) (place : ℕ) → length bytes / 512 ≤ pla
 unfolding wellLaid
 short-laid bytes place h =
     let lacks : length (blockAt bytes place) ≡ 512 → ⊥ = λ e. let sized = simp (length-take, length-drop) at e in omega arith in
-    false-and (framed (blockAt bytes place) place) (entriesWell entryWell (count (blockAt bytes place)) (drop 8 (blockAt bytes place)))
+    no-first (framed (blockAt bytes place) place) (entriesWell entryWell (count (blockAt bytes place)) (drop 8 (blockAt bytes place)))
     (short (blockAt bytes place) place lacks)
 
 -- whether a block is shut, case by case
@@ -113,7 +113,7 @@ module _ (bytes : List ℕ) (place index : ℕ) where
 module _ (block : List ℕ) (place : ℕ) where
   pub unframed : framed block place ≡ false → false ≡ wellLaid entryWell block place
   unfolding wellLaid
-  unframed h = sym (false-and (framed block place) (entriesWell entryWell (count block) (drop 8 block)) h)
+  unframed h = sym (no-first (framed block place) (entriesWell entryWell (count block) (drop 8 block)) h)
 
   pub by-entries : framed block place ≡ true → entriesWell entryWell (count block) (drop 8 block) ≡ wellLaid entryWell block place
   unfolding wellLaid

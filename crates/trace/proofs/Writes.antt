@@ -7,24 +7,17 @@ use native.Mathlib.Omega.{arith}
 use borrow.Author.Tests.{eqb-true, leb-false, lt-ltb, le-ltb, eq-eqb, ne-eqb, not-true, not-false}
 use lib.Dec.{eqb, leb, ltb}
 use lib.ListN.{length}
+use Rattle.image.proofs.Choices.{neither}
 use Rattle.blocks.specs.Written.{finished}
 use Rattle.traced.specs.Well.{wellTraced}
 use Rattle.traced.specs.declared.Traced.{Traced}
-use Rattle.trace.specs.Writer.{Wrote, kept, full, refused, unfit, withEntry, next, appending, closing}
+use Rattle.trace.specs.Writer.{Wrote, kept, full, refused, unfit, withEntry, nextBlock, appending, closing}
 use Rattle.trace.specs.declared.writer.Writer.{Writer}
-
-pub or-left : (a b : Bool) → (a || b) ≡ false → a ≡ false
-or-left true b h = h
-or-left false b h = refl
-
-pub or-right : (a b : Bool) → (a || b) ≡ false → b ≡ false
-or-right true b h = let z : _≡_ {A = ℕ} 0 1 = cc in absurd (omega arith)
-or-right false b h = h
 
 -- what a writer that fits its buffer has
 module _ (w : Writer) (len : ℕ) (h : unfit w len ≡ false) where
   pub fit-number : w .number < 2 ^ 48
-  fit-number = leb-false (2 ^ 48) (w .number) (or-right (not (eqb len 512) || leb 15 (w .count)) (leb (2 ^ 48) (w .number)) h)
+  fit-number = leb-false (2 ^ 48) (w .number) (neither (not (eqb len 512) || leb 15 (w .count)) (leb (2 ^ 48) (w .number)) h .1)
 
 module _ (w : Writer) (buffer : List ℕ) (e : Traced) where
   pub append-refused : (unfit w (length buffer) || not (wellTraced e)) ≡ true → (refused, buffer) ≡ appending w buffer e
@@ -33,14 +26,14 @@ module _ (w : Writer) (buffer : List ℕ) (e : Traced) where
 
   module _ (h : (unfit w (length buffer) || not (wellTraced e)) ≡ false) where
     pub append-fit : unfit w (length buffer) ≡ false
-    append-fit = or-left (unfit w (length buffer)) (not (wellTraced e)) h
+    append-fit = neither (unfit w (length buffer)) (not (wellTraced e)) h .0
 
     pub append-kept : w .count < 14
         → (kept (record { count = w .count + 1; number = w .number }), withEntry buffer (w .count) e) ≡ appending w buffer e
     unfolding appending
     append-kept few = rw (h, lt-ltb (w .count) 14 few)
 
-    pub append-full : 14 ≤ w .count → (full (next w), finished (withEntry buffer (w .count) e) (w .number) 15) ≡ appending w buffer e
+    pub append-full : 14 ≤ w .count → (full (nextBlock w), finished (withEntry buffer (w .count) e) (w .number) 15) ≡ appending w buffer e
     unfolding appending
     append-full last = rw (h, le-ltb (w .count) 14 last)
 
@@ -54,6 +47,6 @@ module _ (w : Writer) (buffer : List ℕ) where
     unfolding closing
     close-none none = rw (h, eq-eqb (w .count) 0 none)
 
-    pub close-full : (w .count ≡ 0 → ⊥) → (full (next w), finished buffer (w .number) (w .count)) ≡ closing w buffer
+    pub close-full : (w .count ≡ 0 → ⊥) → (full (nextBlock w), finished buffer (w .number) (w .count)) ≡ closing w buffer
     unfolding closing
     close-full some = rw (h, ne-eqb (w .count) 0 some)

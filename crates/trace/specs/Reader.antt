@@ -11,27 +11,20 @@ use Rattle.traced.specs.Decoded.{Decoded, entryWell, decoded}
 use Rattle.traced.specs.Decoded as of
 use Rattle.traced.specs.Entry.{entryBytes}
 use Rattle.traced.specs.declared.Traced.{Traced}
-use Rattle.trace.specs.Told.{Told, entryAt, damagedAt, told, blocksIn}
+use Rattle.trace.specs.Told.{Told, tracedAt, damagedAt, told, blocksIn}
 use Rattle.trace.specs.declared.Cursor.{Cursor}
-use Rattle.trace.specs.declared.Step.{Step as StepCode}
-use Rattle.trace.specs.declared.Step.the-variants as code
 
 -- the block at a place of a trace: 512 bytes, or fewer at the end
 abbrev pub blockAt : (bytes : List ℕ) (place : ℕ) → List ℕ
 blockAt bytes place = take 512 (drop (512 * place) bytes)
 
 -- the entry that stands at the reader's place, a damaged block there, or the end; and the reader's next place
-pub data Step : Type 0 where
-  entry : Traced → Cursor → Step
-  damaged : Cursor → Step
-  end : Step
+pub data ReaderStep : Type 0 where
+  entry : Traced → Cursor → ReaderStep
+  damaged : Cursor → ReaderStep
+  end : ReaderStep
 
-abbrev pub stepOf : StepCode → Step
-stepOf (code.Entry e next) = entry e next
-stepOf (code.Damaged next) = damaged next
-stepOf code.End = end
-
-abbrev pub onDecoded : Decoded → Step → (Traced → Step) → Step
+abbrev pub onDecoded : Decoded → ReaderStep → (Traced → ReaderStep) → ReaderStep
 onDecoded of.malformed none some = none
 onDecoded (of.entry e) none some = some e
 
@@ -45,7 +38,7 @@ abbrev pub shut : (bytes : List ℕ) (place index : ℕ) → Bool
 shut bytes place index =
     leb 15 index || ltb (length bytes) (512 * place + 512) || eqb index 0 && not (wellLaid entryWell (blockAt bytes place) place)
 
-unfoldable pub stepAt : (bytes : List ℕ) (place index : ℕ) → Step
+unfoldable pub stepAt : (bytes : List ℕ) (place index : ℕ) → ReaderStep
 stepAt bytes place index =
     if leb (length bytes) (512 * place) then end
     else if shut bytes place index then damaged (record { place = place + 1; index = 0 })
@@ -54,15 +47,15 @@ stepAt bytes place index =
     (λ e. entry e (behind (count (blockAt bytes place)) place index))
 
 -- what a step at a place tells, and what the steps from its next place do
-abbrev pub onStep : (place index : ℕ) → Step → (Cursor → List Told) → List Told
-onStep place index (entry e next) after = entryAt place index (entryBytes e) ∷ after next
-onStep place index (damaged next) after = damagedAt place ∷ after next
-onStep place index end after = []
+abbrev pub onReaderStep : (place index : ℕ) → ReaderStep → (Cursor → List Told) → List Told
+onReaderStep place index (entry e next) after = tracedAt place index (entryBytes e) ∷ after next
+onReaderStep place index (damaged next) after = damagedAt place ∷ after next
+onReaderStep place index end after = []
 
 -- at most n steps, from a place on
 unfoldable pub steps : (n : ℕ) (bytes : List ℕ) (place index : ℕ) → List Told
 steps zero bytes place index = []
-steps (suc n) bytes place index = onStep place index (stepAt bytes place index) (λ next. steps n bytes (next .place) (next .index))
+steps (suc n) bytes place index = onReaderStep place index (stepAt bytes place index) (λ next. steps n bytes (next .place) (next .index))
 
 -- the steps from the first block on tell what there is to tell, each once and in order
 abbrev pub ToldInSteps : Type 0

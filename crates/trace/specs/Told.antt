@@ -10,13 +10,13 @@ use Rattle.traced.specs.Decoded.{entryWell}
 
 pub data Told : Type 0 where
   -- an entry's 32 bytes, by its block and its place there, both from 0
-  entryAt : (block index : ℕ) (bytes : List ℕ) → Told
+  tracedAt : (block index : ℕ) (bytes : List ℕ) → Told
   damagedAt : (block : ℕ) → Told
 
 -- so many entries of a block, one behind the other, the first at an index
 unfoldable pub entriesFrom : (block index n : ℕ) → List ℕ → List Told
 entriesFrom block index zero bytes = []
-entriesFrom block index (suc n) bytes = entryAt block index (take 32 bytes) ∷ entriesFrom block (suc index) n (drop 32 bytes)
+entriesFrom block index (suc n) bytes = tracedAt block index (take 32 bytes) ∷ entriesFrom block (suc index) n (drop 32 bytes)
 
 unfoldable pub toldOf : (block : List ℕ) (place : ℕ) → List Told
 toldOf block place =

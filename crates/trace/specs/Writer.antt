@@ -12,19 +12,12 @@ use Rattle.traced.specs.Well.{wellTraced}
 use Rattle.traced.specs.declared.Traced.{Traced}
 use Rattle.trace.specs.Written.{traceOf, Entries}
 use Rattle.trace.specs.declared.writer.Writer.{Writer}
-use Rattle.trace.specs.declared.writer.Wrote.{Wrote as WroteCode}
-use Rattle.trace.specs.declared.writer.Wrote.the-variants as code
 
 -- the writer is to go on with; the buffer holds a block, to be taken first; or nothing was done
 pub data Wrote : Type 0 where
   kept : Writer → Wrote
   full : Writer → Wrote
   refused : Wrote
-
-abbrev pub wroteOf : WroteCode → Wrote
-wroteOf (code.Kept w) = kept w
-wroteOf (code.Full w) = full w
-wroteOf code.Refused = refused
 
 -- a buffer of another length, 15 entries in it, or a number of more than 48 bits
 abbrev pub unfit : Writer → (len : ℕ) → Bool
@@ -36,22 +29,22 @@ withEntry buffer n e =
     if leb (8 + 32 * n + 32) (length buffer) then take (8 + 32 * n) buffer ++ entryBytes e ++ drop (8 + 32 * n + 32) buffer else buffer
 
 -- the writer of the next block
-abbrev pub next : Writer → Writer
-next w = record { count = 0; number = w .number + 1 }
+abbrev pub nextBlock : Writer → Writer
+nextBlock w = record { count = 0; number = w .number + 1 }
 
 -- the 15th entry fills the block
 unfoldable pub appending : Writer → (buffer : List ℕ) → Traced → Wrote × List ℕ
 appending w buffer e =
     if unfit w (length buffer) || not (wellTraced e) then (refused, buffer)
     else if ltb (w .count) 14 then (kept (record { count = w .count + 1; number = w .number }), withEntry buffer (w .count) e)
-    else (full (next w), finished (withEntry buffer (w .count) e) (w .number) 15)
+    else (full (nextBlock w), finished (withEntry buffer (w .count) e) (w .number) 15)
 
 -- a block of no entries is never handed out
 unfoldable pub closing : Writer → (buffer : List ℕ) → Wrote × List ℕ
 closing w buffer =
     if unfit w (length buffer) then (refused, buffer)
     else if eqb (w .count) 0 then (kept w, buffer)
-    else (full (next w), finished buffer (w .number) (w .count))
+    else (full (nextBlock w), finished buffer (w .number) (w .count))
 
 -- what is handed out by a call, and by those after it
 abbrev pub onWrote : (old : Writer) → Wrote × List ℕ → (Writer → List ℕ → List ℕ) → List ℕ

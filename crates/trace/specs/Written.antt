@@ -10,16 +10,16 @@ use Rattle.blocks.specs.Written.{blockBytes}
 use Rattle.traced.specs.Entry.{Fits, entryBytes}
 use Rattle.traced.specs.Well.{wellTraced}
 use Rattle.traced.specs.declared.Traced.{Traced}
-use Rattle.trace.specs.Told.{Told, entryAt, told}
+use Rattle.trace.specs.Told.{Told, tracedAt, told}
 
 -- entries side by side
-unfoldable pub joined : List Traced → List ℕ
-joined [] = []
-joined (e ∷ es) = entryBytes e ++ joined es
+unfoldable pub entriesBytes : List Traced → List ℕ
+entriesBytes [] = []
+entriesBytes (e ∷ es) = entryBytes e ++ entriesBytes es
 
 unfoldable pub blockOf : (number : ℕ) → List Traced → List ℕ
 blockOf number [] = []
-blockOf number (e ∷ es) = blockBytes number (length (e ∷ es)) (joined (e ∷ es))
+blockOf number (e ∷ es) = blockBytes number (length (e ∷ es)) (entriesBytes (e ∷ es))
 
 -- the blocks from a number on, where some entries wait for their block to be filled: 15 fill it
 unfoldable pub blocksFrom : (number : ℕ) (waiting es : List Traced) → List ℕ
@@ -40,7 +40,7 @@ Entries (e ∷ es) = ((wellTraced e ≡ true) × Fits e) × Entries es
 -- entry n of a trace stands in block n / 15, at n % 15
 unfoldable pub placed : (n : ℕ) → List Traced → List Told
 placed n [] = []
-placed n (e ∷ es) = entryAt (n / 15) (n % 15) (entryBytes e) ∷ placed (suc n) es
+placed n (e ∷ es) = tracedAt (n / 15) (n % 15) (entryBytes e) ∷ placed (suc n) es
 
 -- what was written is read back: every entry, in order, and nothing damaged. A trace has 2^48 blocks at most
 abbrev pub ReadBack : Type 0

@@ -6,7 +6,8 @@ ghost use Prim.Native.Nat.{_+_, _*_, _≤_, _<_};
 ghost use lib.ListN.{length, take, drop};
 ghost use Rattle.blocks.specs.Block.{count, entriesWell, wellLaid};
 ghost use Rattle.traced.specs.Decoded.{entryWell};
-ghost use Rattle.trace.specs.Reader.{blockAt, shut, behind, stepOf, stepAt};
+ghost use Rattle.trace.specs.Reader.{blockAt, shut, behind, stepAt};
+ghost use Rattle.trace.specs.Answers.{readerStepOf};
 
 mod writer;
 
@@ -130,7 +131,7 @@ fn is_past(bytes: &[u8], place: u64) -> bool
 
 // The next entry in order, or the next damaged block.
 pub fn next(bytes: &[u8], cursor: Cursor) -> Step
-    ensures { λ r. ⌜ stepOf r ≡ stepAt (now (bytes .entry)) (cursor .place) (cursor .index) ⌝ }
+    ensures { λ r. ⌜ readerStepOf r ≡ stepAt (now (bytes .entry)) (cursor .place) (cursor .index) ⌝ }
 {
     let place = cursor.place;
     let index = cursor.index;

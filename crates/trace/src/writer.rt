@@ -1,6 +1,7 @@
 // A writer of traces. Its state is handed in and out by value; the block that is being filled is a lent buffer.
 ghost use mathlib.Core.Path.{_≡_};
-ghost use Rattle.trace.specs.Writer.{unfit, wroteOf, appending, closing};
+ghost use Rattle.trace.specs.Writer.{unfit, appending, closing};
+ghost use Rattle.trace.specs.Answers.{wroteOf};
 use blocks::finish;
 use traced::Traced;
 use traced::encode;

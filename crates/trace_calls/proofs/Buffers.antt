@@ -29,12 +29,6 @@ cursor-two cursor h =
     let two = neither (not (eqb (length cursor) 2)) (leb 15 (getD cursor 1 0)) h in
     (eqb-true (length cursor) 2 (not-false (eqb (length cursor) 2) (two .0)), leb-false 15 (getD cursor 1 0) (two .1))
 
-pub both-set : (numbers : List ℕ) (a b : ℕ) → length numbers ≡ 2 → set (set numbers 0 a) 1 b ≡ a ∷ b ∷ []
-both-set [] a b h = absurd (omega arith)
-both-set (x ∷ []) a b h = absurd (omega arith)
-both-set (x ∷ (y ∷ [])) a b h = refl
-both-set (x ∷ (y ∷ (z ∷ rest))) a b h = absurd (omega arith)
-
 -- an entry fills its buffer
 pub whole : (buffer bytes : List ℕ) → length buffer ≡ 32
     → (if leb (0 + 32) (length buffer) then take 0 buffer ++ bytes ++ drop (0 + 32) buffer else buffer) ≡ bytes

@@ -11,7 +11,7 @@ use Rattle.traced.specs.Decoded.{entryWell}
 use Rattle.traced.specs.Entry.{entryBytes}
 use Rattle.traced.specs.declared.Traced.{Traced}
 use Rattle.trace.specs.Reader as reader
-use Rattle.trace.specs.Reader.{Step, blockAt, stepAt}
+use Rattle.trace.specs.Reader.{ReaderStep, blockAt, stepAt}
 use Rattle.trace.specs.Writer.{Wrote, kept, full, refused, appending, closing}
 use Rattle.trace.specs.declared.Cursor.{Cursor}
 use Rattle.trace.specs.declared.writer.Writer.{Writer}
@@ -77,14 +77,14 @@ abbrev pub wrote : (other : ℕ) (writer : List ℕ) → Wrote × List ℕ → �
 wrote other writer done = (statusOf other (done .0), writerAfter writer (done .0), done .1)
 
 -- a request of a kind, to be given its answer
-abbrev pub asked : (kind source address «data» : ℕ) → Traced
-asked kind source address «data» = plain kind source address «data» 0 0 0 0
+abbrev pub unanswered : (kind source address «data» : ℕ) → Traced
+unanswered kind source address «data» = plain kind source address «data» 0 0 0 0
 
 unfoldable pub appendCall : (writer block : List ℕ) (kind source address «data» : ℕ) (answer : List ℕ) → ℕ × List ℕ × List ℕ
 appendCall writer block kind source address «data» answer =
     if badWriter writer (length block) then (badTrace, writer, block)
     else if not (eqb (length answer) 32) then (badAnswer, writer, block)
-    else wrote badAnswer writer (appending (writerIn writer) block (packedIn (asked kind source address «data») answer))
+    else wrote badAnswer writer (appending (writerIn writer) block (packedIn (unanswered kind source address «data») answer))
 
 unfoldable pub closeCall : (writer block : List ℕ) → ℕ × List ℕ × List ℕ
 closeCall writer block =
@@ -98,16 +98,16 @@ badCursor cursor = not (eqb (length cursor) 2) || leb 15 (getD cursor 1 0)
 abbrev pub cursorIn : (cursor : List ℕ) → Cursor
 cursorIn cursor = record { place = getD cursor 0 0; index = getD cursor 1 0 }
 
-abbrev pub placeOf : Cursor → List ℕ
-placeOf c = c .place ∷ c .index ∷ []
+abbrev pub placeNumbers : Cursor → List ℕ
+placeNumbers c = c .place ∷ c .index ∷ []
 
 abbrev pub checkCall : (bytes : List ℕ) (place : ℕ) → ℕ
 checkCall bytes place = if not (wellLaid entryWell (blockAt bytes place) place) then blockDamaged else ok
 
 -- the status, the next place, and the entry's bytes where one is handed out
-abbrev pub stepped : (cursor entry : List ℕ) → Step → ℕ × List ℕ × List ℕ
-stepped cursor entry (reader.entry e next) = (entryHanded, placeOf next, entryBytes e)
-stepped cursor entry (reader.damaged next) = (blockDamaged, placeOf next, entry)
+abbrev pub stepped : (cursor entry : List ℕ) → ReaderStep → ℕ × List ℕ × List ℕ
+stepped cursor entry (reader.entry e next) = (entryHanded, placeNumbers next, entryBytes e)
+stepped cursor entry (reader.damaged next) = (blockDamaged, placeNumbers next, entry)
 stepped cursor entry reader.end = (traceEnd, cursor, entry)
 
 unfoldable pub nextCall : (bytes cursor entry : List ℕ) → ℕ × List ℕ × List ℕ
@@ -118,9 +118,9 @@ nextCall bytes cursor entry =
 
 -- the status, the image, the next place, and the entry of the answer now, where it differs
 abbrev pub rerun : (cursor entry : List ℕ) → Replayed × List ℕ → ℕ × List ℕ × List ℕ × List ℕ
-rerun cursor entry (replay.alike next, image) = (answerSame, image, placeOf next, entry)
-rerun cursor entry (replay.differs e next, image) = (answerDiffers, image, placeOf next, entryBytes e)
-rerun cursor entry (replay.damaged next, image) = (blockDamaged, image, placeOf next, entry)
+rerun cursor entry (replay.alike next, image) = (answerSame, image, placeNumbers next, entry)
+rerun cursor entry (replay.differs e next, image) = (answerDiffers, image, placeNumbers next, entryBytes e)
+rerun cursor entry (replay.damaged next, image) = (blockDamaged, image, placeNumbers next, entry)
 rerun cursor entry (replay.end, image) = (traceEnd, image, cursor, entry)
 
 unfoldable pub replayCall : Registers → (windows image bytes cursor entry : List ℕ) → ℕ × List ℕ × List ℕ × List ℕ

@@ -4,7 +4,7 @@ ghost use mathlib.Core.Bool.{false};
 ghost use mathlib.Core.List.{[], _∷_};
 ghost use lib.ListN.{length};
 ghost use Rattle.traced.specs.Entry.{entryBytes};
-ghost use Rattle.trace_calls.specs.Calls.{badCursor, cursorIn, placeOf, checkCall, nextCall, replayCall};
+ghost use Rattle.trace_calls.specs.Calls.{badCursor, cursorIn, placeNumbers, checkCall, nextCall, replayCall};
 use crate::BAD_ANSWER;
 use crate::BAD_TRACE;
 use crate::DAMAGED;
@@ -44,7 +44,7 @@ fn read(cursor: &[u64]) -> Cursor
 
 fn write(cursor: &mut [u64], c: Cursor)
     requires { ⌜ length (now cursor) ≡ 2 ⌝ }
-    ensures { λ _. ⌜ now (cursor .exit) ≡ placeOf c ⌝ }
+    ensures { λ _. ⌜ now (cursor .exit) ≡ placeNumbers c ⌝ }
 {
     cursor[0] = c.place;
     cursor[1] = c.index as u64;

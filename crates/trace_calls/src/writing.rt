@@ -3,7 +3,7 @@ ghost use mathlib.Core.Path.{_≡_};
 ghost use mathlib.Core.List.{[], _∷_};
 ghost use mathlib.Core.Bool.{false};
 ghost use lib.ListN.{length};
-ghost use Rattle.trace.specs.Writer.{wroteOf};
+ghost use Rattle.trace.specs.Answers.{wroteOf};
 ghost use Rattle.trace_calls.specs.Calls.{badWriter, writerIn, numbersOf, statusOf, writerAfter, appendCall, closeCall};
 use crate::BAD_ANSWER;
 use crate::BAD_TRACE;

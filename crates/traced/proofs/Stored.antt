@@ -10,32 +10,25 @@ use lib.Dec.{leb, eqb}
 use lib.ListN.{length, getD, take, drop, length-take, length-drop}
 use lib.Seq.{drop-drop, take-take, length-take-le, getD-take, getD-drop}
 use Rattle.image.specs.Bits.{bits}
-use Rattle.image.specs.Bytes.{littleEndian, bytesOf}
+use Rattle.image.specs.Bytes.{littleEndian, bytesOf, spell}
 use Rattle.image.specs.Choice.{if_then_else_}
-use Rattle.image.specs.Entries.{spell}
 use Rattle.image.specs.Memory.{wordAt, withWord, onFetch, entry, ofImage}
-use Rattle.image.proofs.Bytes.{bytes-beside}
 use Rattle.image.proofs.Pages.{drop-take}
-use Rattle.image.proofs.Stores.{withWords, Words, all-stored}
-use Rattle.image.proofs.Words.{wordsIn, inside, spell-one}
+use Rattle.image.proofs.Stores.{withWords, Words, all-stored, words-beside}
+use Rattle.image.proofs.Words.{wordsIn, inside, spell-one, wordOr0, whole-word}
 use Rattle.traced.specs.Decoded.{malformed, entryWell, decoded}
 use Rattle.traced.specs.Decoded as told
 use Rattle.traced.specs.Entry.{headBytes, entryBytes, tracedIn}
 use Rattle.traced.specs.Well.{wellTraced}
 use Rattle.traced.specs.declared.Traced.{Traced}
 
--- the first word of a run, then the others
-beside : (w : ℕ) (ws : List ℕ) (n : ℕ) → w < 2 ^ 64 → bytesOf (8 + n) (spell (w ∷ ws)) ≡ bytesOf 8 w ++ bytesOf n (spell ws)
-unfolding spell
-beside w ws n h = sym (bytes-beside 8 n w (spell ws) h)
-
 module _ (a b c d : ℕ) (ha : a < 2 ^ 64) (hb : b < 2 ^ 64) (hc : c < 2 ^ 64) (hd : d < 2 ^ 64) where
   four-words : bytesOf 32 (spell (a ∷ b ∷ c ∷ d ∷ [])) ≡ bytesOf 8 a ++ bytesOf 8 b ++ bytesOf 8 c ++ bytesOf 8 d
   four-words =
       rw (
-        beside a (b ∷ c ∷ d ∷ []) 24 ha,
-        beside b (c ∷ d ∷ []) 16 hb,
-        beside c (d ∷ []) 8 hc,
+        words-beside a (b ∷ c ∷ d ∷ []) 24 ha,
+        words-beside b (c ∷ d ∷ []) 16 hb,
+        words-beside c (d ∷ []) 8 hc,
         spell-one d,
         ← append-assoc (bytesOf 8 b) (bytesOf 8 c) (bytesOf 8 d),
         ← append-assoc (bytesOf 8 a) (bytesOf 8 b ++ bytesOf 8 c) (bytesOf 8 d),
@@ -56,11 +49,6 @@ pub not-laid : (buffer : List ℕ) (at : ℕ) (e : Traced) → length buffer < a
     → buffer ≡ (if leb (at + 32) (length buffer) then take at buffer ++ entryBytes e ++ drop (at + 32) buffer else buffer)
 not-laid buffer at e past = rw (lt-leb (at + 32) (length buffer) past)
 
--- a word that lies whole in a buffer
-pub whole-word : (b : List ℕ) (at : ℕ) → at + 8 ≤ length b → onFetch (entry 1 (ofImage b) at) 0 (λ w. w) ≡ wordAt b at
-unfolding wordsIn
-whole-word b at h = rw (inside b 1 at h) (spell-one (wordAt b at))
-
 -- a word of an entry is the buffer's
 pub word-within : (b : List ℕ) (at k : ℕ) → k + 8 ≤ 32 → wordAt (take 32 (drop at b)) k ≡ wordAt b (at + k)
 unfolding wordAt
@@ -69,9 +57,6 @@ word-within b at k h =
     let part : drop k (take 32 (drop at b)) ≡ take (32 - k) (drop (at + k) b) =
     ap (λ (n : ℕ). drop k (take n (drop at b))) split ∙ drop-take k (32 - k) (drop at b) ∙ ap (λ (l : List ℕ). take (32 - k) l) (drop-drop k at b) in
     ap littleEndian (ap (λ (l : List ℕ). take 8 l) part ∙ take-take 8 (32 - k) (drop (at + k) b) (omega arith))
-
-abbrev wordOr0 : List ℕ → ℕ → ℕ
-wordOr0 b at = onFetch (entry 1 (ofImage b) at) 0 (λ w. w)
 
 -- the fields of the four words that are read are those of the entry
 pub read-fields : (b : List ℕ) (at : ℕ) → at + 32 ≤ length b

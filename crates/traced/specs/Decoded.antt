@@ -8,8 +8,6 @@ use lib.ListN.{length}
 use Rattle.image.specs.Choice.{if_then_else_}
 use Rattle.traced.specs.Entry.{Fits, entryBytes, tracedIn}
 use Rattle.traced.specs.Well.{wellTraced}
-use Rattle.traced.specs.declared.Decoded.{Decoded as DecodedCode}
-use Rattle.traced.specs.declared.Decoded.the-variants as code
 use Rattle.traced.specs.declared.Traced.{Traced}
 
 pub data Decoded : Type 0 where
@@ -21,10 +19,6 @@ entryWell bytes = eqb (length bytes) 32 && wellTraced (tracedIn bytes)
 
 unfoldable pub decoded : List ℕ → Decoded
 decoded bytes = if entryWell bytes then entry (tracedIn bytes) else malformed
-
-abbrev pub decodedOf : DecodedCode → Decoded
-decodedOf (code.Entry e) = entry e
-decodedOf code.Malformed = malformed
 
 -- what is decoded of an entry's bytes is the entry, if it is laid out well, and else nothing
 abbrev pub DecodedAgain : Type 0

@@ -1,3 +1,4 @@
 pub mod Entry
 pub mod Well
 pub mod Decoded
+pub mod Answers

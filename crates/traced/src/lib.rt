@@ -7,7 +7,8 @@ ghost use Rattle.image.specs.Bytes.{bytesOf};
 ghost use Rattle.image.specs.Choice.{if_then_else_};
 ghost use Rattle.image.specs.Memory.{onFetch, entry, ofImage};
 ghost use lib.Dec.{leb};
-ghost use Rattle.traced.specs.Decoded.{decoded, decodedOf};
+ghost use Rattle.traced.specs.Decoded.{decoded};
+ghost use Rattle.traced.specs.Answers.{decodedOf};
 ghost use Rattle.traced.specs.Entry.{headBytes, entryBytes, tracedIn};
 ghost use Rattle.traced.specs.Well.{wellTraced};
 

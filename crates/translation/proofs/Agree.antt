@@ -32,11 +32,7 @@ use Rattle.translation.specs.declared.TranslationRequest.{TranslationReq
 use Rattle.translation.proofs.Pages.{same-width}
 use Rattle.translation.proofs.Walks.{Within, Near, told, within, walks-alike}
 
-or-false : (a b : Bool) → (a || b) ≡ false → (a ≡ false) × (b ≡ false)
-or-false true b h = let z : _≡_ {A = ℕ} 0 1 = cc in absurd (omega arith)
-or-false false b h = (refl, h)
-
-both-right : (write : Bool) → rightOf write both ≡ true
+pub both-right : (write : Bool) → rightOf write both ≡ true
 both-right true = refl
 both-right false = refl
 

@@ -14,7 +14,7 @@ use Rattle.dma.specs.declared.context.Context.{Context}
 use Rattle.dma.proofs.Steps.{index-of}
 
 -- what is the same from a bit on is the same from any bit above it
-same-above : (a b low high : ℕ) → low ≤ high → a / 2 ^ low ≡ b / 2 ^ low → a / 2 ^ high ≡ b / 2 ^ high
+pub same-above : (a b low high : ℕ) → low ≤ high → a / 2 ^ low ≡ b / 2 ^ low → a / 2 ^ high ≡ b / 2 ^ high
 same-above a b low high h same =
     let sum : low + (high - low) ≡ high = omega arith in
     let by : (n : ℕ) → n / 2 ^ high ≡ n / 2 ^ low / 2 ^ (high - low) = λ n. sym (shr-shr n low (high - low) ∙ ap (λ (k : ℕ). n / 2 ^ k) sum) in

@@ -9,6 +9,7 @@ use Rattle.image.specs.Check.{Check, stop, go, onCheck}
 use Rattle.image.specs.Choice.{if_then_else_}
 use Rattle.image.specs.Memory.{Memory, Fetched, missing, found, entry, onFetch}
 use Rattle.image.specs.Rules.{Rules, answer, run, mapRules}
+use Rattle.image.proofs.Choices.{neither}
 use Rattle.image.proofs.Fields.{fits}
 use Rattle.image.proofs.Trees.{run-map}
 use Rattle.registers.specs.Admission.{Admitted, refusal, pass, takenUp, admission, onAdmission, inInterruptRange}
@@ -28,10 +29,6 @@ use Rattle.translation.specs.Rights.{both}
 use Rattle.translation.specs.declared.Rights.{Rights}
 use Rattle.translation.specs.declared.TranslationRequest.{TranslationRequest}
 
-or-last : (a b : Bool) → (a || b) ≡ false → b ≡ false
-or-last true b h = let z : _≡_ {A = ℕ} 0 1 = cc in absurd (omega arith)
-or-last false b h = h
-
 -- a context that is found has type 0, 1 or 2
 abbrev BelowThree : Lookup → Type 0
 BelowThree (context c) = c .«translation_type» < 3
@@ -44,7 +41,7 @@ checked registers e {c} h =
     let says = passed .1 in
     let is : c ≡ contextOf e = cc in
     let below = fits e 3 2 in
-    let not-three = eqb-false (translationType e) 3 (or-last (not (widthSupported registers (addressWidth e))) _ (passed .0)) in
+    let not-three = eqb-false (translationType e) 3 (neither (not (widthSupported registers (addressWidth e))) _ (passed .0) .1) in
     rw is (omega arith)
 
 below-three : (registers : Registers) (source : ℕ) (m : Memory) → BelowThree (run (lookupRules registers source) m)

@@ -1,7 +1,7 @@
 -- What the code's enums say, in document 02's values.
 use Prim.Native.Nat.{ℕ}
 use mathlib.Core.Path.{_≡_}
-use Rattle.image.specs.Entries.{placeOf}
+use Rattle.image.specs.Answers.{placeOf}
 use Rattle.image.specs.Place.{Place, noEntry, entryAt}
 use Rattle.faults.specs.Answers.{faultOf}
 use Rattle.faults.specs.Reason.{numberOf}

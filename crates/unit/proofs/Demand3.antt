@@ -17,7 +17,7 @@ use Rattle.dma.proofs.Forks.{Fork, Ends, memory-forks}
 use Rattle.dma.proofs.Rights.{rights-on, rights-off}
 use Rattle.translation.specs.Requests.{requestRules}
 use Rattle.translation.proofs.Local.{translation-locality}
-use Rattle.interrupts.specs.Claims.{outcome, namedWords}
+use Rattle.interrupts.specs.Claims.{answerOver, namedWords}
 use Rattle.interrupts.proofs.Isolation.{isolated, same-bits}
 use Rattle.takes.specs.Take.{takeRules}
 use Rattle.unit.specs.Isolation.{MemoryAlike, TranslationsAlike, InterruptsAlike, RightsKeep, RightsDeny, MoreKeeps, Isolation, MoreMemory, FlatImages}
@@ -28,24 +28,24 @@ same-word : (l l′ : Lent) (at : ℕ) → SameWordAt l l′ at → memoryOf l a
 unfolding ofWindows entryIn
 same-word l l′ at h = rw (h .whole, h .whole′, h .same)
 
-alike : (l l′ : Lent) (words : List ℕ) → SameWordsAt l l′ words → SameIn words (memoryOf l) (memoryOf l′)
+pub same-words : (l l′ : Lent) (words : List ℕ) → SameWordsAt l l′ words → SameIn words (memoryOf l) (memoryOf l′)
 unfolding SameWordsAt SameIn
-alike l l′ [] h = tt
-alike l l′ (at ∷ rest) h = (same-word l l′ at (h .0), alike l l′ rest (h .1))
+same-words l l′ [] h = tt
+same-words l l′ (at ∷ rest) h = (same-word l l′ at (h .0), same-words l l′ rest (h .1))
 
 memory : MemoryAlike
 memory registers request l l′ answered same =
     rw (l .good, l′ .good)
-    (locality registers request (memoryOf l) (memoryOf l′) (rw (l .good) at answered) (alike l l′ (named (memoryRules registers request) (memoryOf l)) same))
+    (locality registers request (memoryOf l) (memoryOf l′) (rw (l .good) at answered) (same-words l l′ (named (memoryRules registers request) (memoryOf l)) same))
 
 translations : TranslationsAlike
 translations registers request l l′ answered same =
     rw (l .good, l′ .good)
-    (translation-locality registers request (memoryOf l) (memoryOf l′) (rw (l .good) at answered) (alike l l′ (named (requestRules registers request) (memoryOf l)) same))
+    (translation-locality registers request (memoryOf l) (memoryOf l′) (rw (l .good) at answered) (same-words l l′ (named (requestRules registers request) (memoryOf l)) same))
 
 interrupts : InterruptsAlike
 interrupts registers request l l′ answered same =
-    let words = alike l l′ (namedWords registers request (memoryOf l)) same in
+    let words = same-words l l′ (namedWords registers request (memoryOf l)) same in
     let met = rw (l .good) at answered in
     let is = isolated registers request (memoryOf l) (memoryOf l′) met words in
     (rw (l .good, l′ .good) (sym (is .0)), rw (l .good, l′ .good) (sym (is .1)), same-bits registers request (l .windows) (l .bytes) (l′ .windows) (l′ .bytes) (l .good) (l′ .good) met words)
@@ -84,6 +84,6 @@ flat-images image h =
       good = good;
       memory = λ registers request. rw good (ap (answerOver registers request) same);
       translations = λ registers request. rw good (ap (run (requestRules registers request)) same);
-      interrupts = λ registers request. rw good (ap (outcome registers request) same);
+      interrupts = λ registers request. rw good (ap (answerOver registers request) same);
       takes = λ registers descriptor. rw good (ap (run (takeRules registers descriptor)) same);
     }

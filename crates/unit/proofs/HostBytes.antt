@@ -18,7 +18,7 @@ use Rattle.image.proofs.WindowBytes.{byte-spot}
 use Rattle.image.proofs.WindowEntries.{AllFrom, spot-in, spot-none, wider}
 use Rattle.image.proofs.Words.{bytesFrom, part}
 use Rattle.dma.specs.Isolation.{SwitchedEntry, BothFetched, Switched}
-use Rattle.unit.specs.Lent.{Lent, memoryOf, placeOf, byteOf, SwitchedAt, ShowsAll}
+use Rattle.unit.specs.Lent.{Lent, memoryOf, spotOf, byteOf, SwitchedAt, ShowsAll}
 
 -- a byte in front of the number that the bytes after it spell, and so many bytes from an address
 abbrev front : Fetched → Fetched → Fetched
@@ -109,7 +109,7 @@ module _ (l : Lent) where
   fine = good (l .windows) (length (l .bytes)) (l .good)
 
   -- whole in a window
-  whole-bytes : (at : ℕ) {place left : ℕ} → placeOf l 8 at ≡ here place left → (n i : ℕ) → i + n ≤ 8
+  whole-bytes : (at : ℕ) {place left : ℕ} → spotOf l 8 at ≡ here place left → (n i : ℕ) → i + n ≤ 8
       → joined n (byteOf l) (at + i) ≡ found (littleEndian (bytesFrom (l .bytes) n (place + i)))
   unfolding joined littleEndian bytesFrom
   whole-bytes at spot zero i h = refl
@@ -121,28 +121,28 @@ module _ (l : Lent) where
   -- the word by its bytes
   word-of-bytes : (at : ℕ) → at % 8 ≡ 0 → memoryOf l at ≡ joined 8 (byteOf l) at
   unfolding ofWindows entryIn
-  word-of-bytes at aligned = by (placeOf l 1 at) refl
+  word-of-bytes at aligned = by (spotOf l 1 at) refl
     where
-      wide : placeOf l 8 at ≡ onSpot (placeOf l 1 at) nowhere (λ place left. if leb 8 left then here place left else nowhere)
+      wide : spotOf l 8 at ≡ onSpot (spotOf l 1 at) nowhere (λ place left. if leb 8 left then here place left else nowhere)
       wide = wider (length (l .bytes)) ws 8 at fine (omega arith)
 
-      held-whole : {place left : ℕ} → placeOf l 8 at ≡ here place left → memoryOf l at ≡ joined 8 (byteOf l) at
+      held-whole : {place left : ℕ} → spotOf l 8 at ≡ here place left → memoryOf l at ≡ joined 8 (byteOf l) at
       held-whole {place} {left} spot =
           let lies = spot-in (length (l .bytes)) ws 8 at fine spot in
           let p : place + 0 ≡ place = omega arith in
           let q : at + 0 ≡ at = omega arith in
           rw (spot, part (l .bytes) 8 place (omega (arith, lies .0, lies .1))) (sym (rw (p, q) at (whole-bytes at spot 8 0 (omega arith))))
 
-      ends : (place left : ℕ) → placeOf l 1 at ≡ here place left → Dec (8 ≤ left) → memoryOf l at ≡ joined 8 (byteOf l) at
+      ends : (place left : ℕ) → spotOf l 1 at ≡ here place left → Dec (8 ≤ left) → memoryOf l at ≡ joined 8 (byteOf l) at
       ends place left first (yes h) = held-whole {place = place} {left = left} (wide ∙ rw (first, le-leb 8 left h))
       ends place left first (no h) =
-          let none : placeOf l 8 at ≡ nowhere = wide ∙ rw (first, lt-leb 8 left (omega arith)) in
+          let none : spotOf l 8 at ≡ nowhere = wide ∙ rw (first, lt-leb 8 left (omega arith)) in
           let behind = byte-behind (length (l .bytes)) ws at fine first (omega arith) in
           rw none (sym (joined-missing 8 (byteOf l) at left (omega arith) (rw behind)))
 
-      by : (s : Spot) → placeOf l 1 at ≡ s → memoryOf l at ≡ joined 8 (byteOf l) at
+      by : (s : Spot) → spotOf l 1 at ≡ s → memoryOf l at ≡ joined 8 (byteOf l) at
       by nowhere first =
-          let none : placeOf l 8 at ≡ nowhere = wide ∙ rw first in
+          let none : spotOf l 8 at ≡ nowhere = wide ∙ rw first in
           let here-none : byteOf l (at + 0) ≡ missing = let q : at + 0 ≡ at = omega arith in rw (q, first) in
           rw none (sym (joined-missing 8 (byteOf l) at 0 (omega arith) here-none))
       by (here place left) first = ends place left first (decLe 8 left)

@@ -19,9 +19,9 @@ use Rattle.dma.specs.declared.MemoryRequest.{MemoryRequest}
 use Rattle.translation.specs.Claims as translation
 use Rattle.translation.specs.Requests.{TranslationOutcome, requestRules, translationAnswer, translationAnswerPlace}
 use Rattle.translation.specs.declared.TranslationRequest.{TranslationRequest}
-use Rattle.interrupts.specs.Claims.{outcome, namedWords, AccessFault, bitAt, sets}
+use Rattle.interrupts.specs.Claims.{answerOver, namedWords, AccessFault, bitAt, sets}
 use Rattle.interrupts.specs.Interrupts.{InterruptOutcome, interruptAnswer, interruptAnswerPlace}
-use Rattle.interrupts.specs.Post.{written}
+use Rattle.interrupts.specs.Post.{interruptWritten}
 use Rattle.interrupts.specs.declared.InterruptRequest.{InterruptRequest}
 use Rattle.takes.specs.Take.{takeRules, takeAnswer}
 use Rattle.unit.specs.Lent.{Lent, memoryOf, SameWordsAt, SwitchedAt, ShowsAll}
@@ -47,7 +47,7 @@ interruptPlaceOver registers request l = interruptAnswerPlace registers request 
 
 -- the run that an interrupt leaves
 abbrev pub leftBy : Registers → InterruptRequest → Lent → List ℕ
-leftBy registers request l = written (l .windows) (interruptOver registers request l) (l .bytes)
+leftBy registers request l = interruptWritten (l .windows) (interruptOver registers request l) (l .bytes)
 
 abbrev pub MemoryAlike : Type 0
 MemoryAlike =
@@ -131,7 +131,7 @@ pub record FlatImage (image : List ℕ) : Type 0 where
   pub translations : (registers : Registers) (request : TranslationRequest)
       → translationAnswer registers request (flat (length image)) image ≡ run (requestRules registers request) (ofImage image)
   pub interrupts : (registers : Registers) (request : InterruptRequest)
-      → interruptAnswer registers request (flat (length image)) image ≡ outcome registers request (ofImage image)
+      → interruptAnswer registers request (flat (length image)) image ≡ answerOver registers request (ofImage image)
   pub takes : (registers : Registers) (descriptor : ℕ)
       → takeAnswer registers descriptor (flat (length image)) image ≡ run (takeRules registers descriptor) (ofImage image)
 

@@ -19,21 +19,21 @@ abbrev pub memoryOf : Lent → Memory
 memoryOf l = ofWindows (l .windows) (l .bytes)
 
 -- where in its run so many bytes from a host address stand: where a single window holds them all
-abbrev pub placeOf : Lent → (size at : ℕ) → Spot
-placeOf l = spotIn (windowsOf (l .windows))
+abbrev pub spotOf : Lent → (size at : ℕ) → Spot
+spotOf l = spotIn (windowsOf (l .windows))
 
 -- the byte at a host address, where a window shows one
 abbrev pub byteOf : Lent → (at : ℕ) → Fetched
-byteOf l at = onSpot (placeOf l 1 at) missing (λ place left. found (getD (l .bytes) place 0))
+byteOf l at = onSpot (spotOf l 1 at) missing (λ place left. found (getD (l .bytes) place 0))
 
 -- Two are alike in a word that lies whole in a window of each, with the same 8 bytes.
 pub record SameWordAt (l l′ : Lent) (at : ℕ) : Type 0 where
   pub place : ℕ
   pub left : ℕ
-  pub whole : placeOf l 8 at ≡ here place left
+  pub whole : spotOf l 8 at ≡ here place left
   pub place′ : ℕ
   pub left′ : ℕ
-  pub whole′ : placeOf l′ 8 at ≡ here place′ left′
+  pub whole′ : spotOf l′ 8 at ≡ here place′ left′
   pub same : take 8 (drop place (l .bytes)) ≡ take 8 (drop place′ (l′ .bytes))
 
 unfoldable pub SameWordsAt : (l l′ : Lent) → List ℕ → Type 0

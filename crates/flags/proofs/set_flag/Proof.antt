@@ -4,7 +4,8 @@ use mathlib.Core.Path.{_≡_, refl, ap, sym, _∙_, subst}
 use native.Mathlib.Omega.{arith}
 use lib.Bits.{bitOr}
 use lib.ListN.{length, getD, set}
-use Rattle.image.specs.Spans.{windowBy, Holds, HeldBy}
+use Rattle.image.specs.Spans.{windowBy, Holds}
+use Rattle.image.specs.Answers.{HeldBy}
 use Rattle.image.specs.Windows.{windowsOf}
 use Rattle.image.specs.declared.entries.Held.{Held}
 use Rattle.image.proofs.GoodWindows.{good-window, held, one-sum}

@@ -10,7 +10,7 @@ use Rattle.image.specs.Rules.{run}
 use Rattle.registers.specs.declared.Registers.{Registers}
 use Rattle.interrupts.specs.Answers.{outcomeOf, entryOf}
 use Rattle.interrupts.specs.Interrupts.{InterruptOutcome, interruptAnswer, interruptAnswerPlace}
-use Rattle.interrupts.specs.Post.{written}
+use Rattle.interrupts.specs.Post.{interruptWritten}
 use Rattle.interrupts.specs.declared.InterruptRequest.{InterruptRequest}
 use Rattle.interrupts.specs.declared.answer.InterruptAnswer.the-variants as answer
 use Rattle.interrupts.specs.declared.answer.Posted as posted
@@ -80,7 +80,7 @@ returns-2 c =
     let k = told .before .before in
     let same = sym (ap outcomeOf (told .answer .given .1)) ∙ decided k in
     let place = sym (ap entryOf (told .answer .given .1)) ∙ concerned k in
-    (same, (place, c .before .before .write-post .ensures ∙ ap (λ (o : InterruptOutcome). written (windows k) o (bytes k)) same))
+    (same, (place, c .before .before .write-post .ensures ∙ ap (λ (o : InterruptOutcome). interruptWritten (windows k) o (bytes k)) same))
 
 same-length-2 : tie.Need-same-length-2
 same-length-2 c = search needs
@@ -89,7 +89,7 @@ returns-3 : tie.Need-returns-3
 returns-3 c =
     let k = c .before in
     let left = unposted (k .decide .result) (windows k) (bytes k) (c .match .keys2) in
-    (decided k, (concerned k, left ∙ ap (λ (o : InterruptOutcome). written (windows k) o (bytes k)) (decided k)))
+    (decided k, (concerned k, left ∙ ap (λ (o : InterruptOutcome). interruptWritten (windows k) o (bytes k)) (decided k)))
 
 pub interrupt-request-spec : {M : Type 1} → statement M
 interrupt-request-spec =

@@ -6,7 +6,7 @@ use native.Mathlib.Omega.{arith}
 use borrow.Author.Needs.{needs}
 use borrow.Author.Tests.{not-true, not-false}
 use lib.ListN.{length}
-use Rattle.tables.specs.Tables.{entryOf}
+use Rattle.tables.specs.Tables.{heldEntry}
 use Rattle.marking.specs.Marking.{markEntry, markEntries}
 use Rattle.marking.proofs.Turns.{good, bad, entries-first, entries-done}
 use Rattle.marking.proofs.mark_entries.Statement.{statement}

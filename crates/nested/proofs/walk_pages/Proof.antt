@@ -9,7 +9,7 @@ use Rattle.image.specs.Spans.{Opened}
 use Rattle.image.specs.Windows.{ofWindows}
 use Rattle.nested.specs.Answers.{PagesNames}
 use Rattle.nested.specs.Pages.{Pages}
-use Rattle.nested.specs.Stages.{kindRules, stageRules, Fits}
+use Rattle.nested.specs.Stages.{kindRules, stageRules, StageFits}
 use Rattle.nested.specs.declared.stage.Walk.{Walk}
 use borrow.Author.Needs.{needs}
 use Rattle.nested.proofs.walk_pages.Statement.{statement}
@@ -24,7 +24,7 @@ begun m {last} {at} {q} same rules = ap (λ (place : ℕ). lastTried (entryAt pl
 abbrev Inv-loop : tie.InvT-loop
 Inv-loop windows image walk at flags₀ stage₀ flags stage =
     Opened (walk .space .first) windows (length image)
-    × Fits (walk .space .entry) stage
+    × StageFits (walk .space .entry) stage
     × (length flags ≡ length flags₀)
     × (47 ≤ length flags₀)
     × (run (stageRules walk stage flags) (ofWindows windows image) ≡ run (whole walk) (ofWindows windows image))

@@ -1,7 +1,7 @@
 use mathlib.Core.Path.{ap, sym, _∙_}
 use denote.Ref.{now}
 use lib.ListN.{take, drop}
-use Rattle.traced.specs.Decoded.{decodedOf}
+use Rattle.traced.specs.Answers.{decodedOf}
 use Rattle.trace.proofs.Tests.{well-entry, not-entry}
 use borrow.Author.Needs.{needs}
 use Rattle.trace.proofs.is_entry.Statement.{statement}

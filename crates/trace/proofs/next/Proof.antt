@@ -5,7 +5,7 @@ use native.Mathlib.Omega.{arith}
 use denote.Ref.{now}
 use lib.Dec.{leb}
 use lib.ListN.{length}
-use Rattle.traced.specs.Decoded.{decodedOf}
+use Rattle.traced.specs.Answers.{decodedOf}
 use Rattle.trace.specs.Reader.{entry, damaged, shut}
 use Rattle.trace.specs.declared.Cursor.{Cursor}
 use Rattle.trace.proofs.Steps.{at-end, more-left, at-shut, at-malformed, at-entry, open-index, open-whole}

@@ -1,6 +1,6 @@
 use mathlib.Core.Path.{ap, sym, _∙_}
 use Prim.Native.Nat.{ℕ}
-use Rattle.image.specs.Entries.{fetched8}
+use Rattle.image.specs.Answers.{fetched8}
 use Rattle.image.specs.Memory.{Fetched, onFetch}
 use borrow.Author.Needs.{needs}
 use Rattle.traced.proofs.word.Statement.{statement}

@@ -2,7 +2,8 @@ use mathlib.Core.Bool.{Bool, false, _||_}
 use mathlib.Core.Path.{_≡_, ap, ap₂, sym, _∙_, subst}
 use lib.ListN.{length}
 use Rattle.image.specs.Windows.{ofWindows, badWindows}
-use Rattle.image.proofs.GoodWindows.{neither, three-each}
+use Rattle.image.proofs.Choices.{neither}
+use Rattle.image.proofs.GoodWindows.{three-each}
 use Rattle.registers.specs.Registers.{registersBad}
 use Rattle.registers.proofs.Good.{Good, good}
 use Rattle.dma.specs.Answers.{lookupOf}

@@ -6,7 +6,7 @@ use lib.Dec.{lit≤}
 use lib.Pow.{pow-pos, pow-mono}
 use native.Mathlib.Nat.{mod-lt}
 use Rattle.image.proofs.Fields.{shifted-one}
-use Rattle.places.specs.Layout.{levelOf}
+use Rattle.places.specs.Layout.{keyLevel}
 use borrow.Author.Needs.{needs}
 use Rattle.cache.proofs.state.page_address.Statement.{statement}
 use Rattle.cache.proofs.state.page_address.Tie as tie
@@ -24,18 +24,18 @@ shl-result c = search needs
 
 rem-result : tie.Need-rem-result
 rem-result c =
-    let bits = 3 + 9 * levelOf (c .args .key) in
+    let bits = 3 + 9 * keyLevel (c .args .key) in
     subst (λ (n : ℕ). 0 < n) (sym (shifted-one bits (omega arith))) (pow-pos bits)
 
 add-result-2 : tie.Need-add-result-2
 add-result-2 c =
-    let bits = 3 + 9 * levelOf (c .args .key) in
+    let bits = 3 + 9 * keyLevel (c .args .key) in
     let span : 2 ^ bits ≤ 2 ^ 30 = pow-mono {j = 30} (omega arith) in
     let low : c .args .address % 2 ^ bits < 2 ^ bits = mod-lt (c .args .address) (pow-pos bits) in
     rw (shifted-one bits (omega arith)) (omega arith)
 
 returns : tie.Need-returns
-returns c = rw (shifted-one (3 + 9 * levelOf (c .args .key)) (omega arith))
+returns c = rw (shifted-one (3 + 9 * keyLevel (c .args .key)) (omega arith))
 
 pub page-address-spec : {M : Type 1} → statement M
 page-address-spec =

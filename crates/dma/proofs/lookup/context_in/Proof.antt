@@ -2,7 +2,7 @@ use Prim.Native.Nat.{ℕ, _+_, _*_, _%_}
 use mathlib.Core.Bool.{Bool, false}
 use mathlib.Core.Path.{_≡_, refl, ap, sym, _∙_}
 use native.Mathlib.Omega.{arith}
-use Rattle.image.specs.Entries.{fetched16, number16}
+use Rattle.image.specs.Answers.{fetched16, number16}
 use Rattle.image.specs.Memory.{found, entry}
 use Rattle.image.specs.Place.{entryAt}
 use Rattle.image.specs.Rules.{answer}

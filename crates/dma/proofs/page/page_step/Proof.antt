@@ -3,7 +3,7 @@
 use Prim.Native.Nat.{suc}
 use mathlib.Core.Path.{_≡_, refl, ap, sym, _∙_, subst}
 use native.Mathlib.Numerals.{add-one}
-use Rattle.image.specs.Entries.{fetched8}
+use Rattle.image.specs.Answers.{fetched8}
 use Rattle.image.specs.Check.{go}
 use Rattle.image.specs.Memory.{found, entry}
 use Rattle.image.specs.Place.{Place, entryAt}

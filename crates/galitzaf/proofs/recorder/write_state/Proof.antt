@@ -1,6 +1,6 @@
 use mathlib.Core.Path.{_≡_, refl, ap, sym, _∙_}
-use Rattle.galitzaf.proofs.States.{both-set}
 use borrow.Author.Needs.{needs}
+use Rattle.image.proofs.Stores.{both-set}
 use Rattle.galitzaf.proofs.recorder.write_state.Statement.{statement}
 use Rattle.galitzaf.proofs.recorder.write_state.Tie as tie
 

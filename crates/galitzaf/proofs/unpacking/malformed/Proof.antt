@@ -5,9 +5,9 @@ use borrow.Author.Tests.{ne-eqb}
 use lib.ListN.{length}
 use denote.Ref.{now}
 use Rattle.image.specs.Bits.{bits}
+use Rattle.image.proofs.Words.{wordOr0}
 use Rattle.galitzaf.specs.Registers.{malformedRegisters}
 use Rattle.galitzaf.proofs.Registers.{first-set, second-set, third-tells}
-use Rattle.galitzaf.proofs.Whole.{wordOr0}
 use borrow.Author.Needs.{needs}
 use Rattle.galitzaf.proofs.unpacking.malformed.Statement.{statement}
 use Rattle.galitzaf.proofs.unpacking.malformed.Tie as tie

@@ -3,7 +3,7 @@ use mathlib.Core.Path.{_≡_, refl, ap, sym, _∙_}
 use native.Mathlib.Omega.{arith}
 use Rattle.image.specs.Windows.{ofWindows}
 use Rattle.image.specs.Memory.{missing, found, entry}
-use Rattle.image.specs.Entries.{fetched16}
+use Rattle.image.specs.Answers.{fetched16}
 use Rattle.image.proofs.Halves.{none-low, none-high, both}
 use borrow.Author.Needs.{needs}
 use Rattle.image.proofs.entries.page_entry32.Statement.{statement}

@@ -3,7 +3,7 @@ use denote.Ref.{now}
 use Prim.Native.Nat.{ℕ}
 use mathlib.Core.Path.{subst}
 use borrow.Author.Needs.{needs}
-use Rattle.image.specs.Spans.{PlacedBy}
+use Rattle.image.specs.Answers.{PlacedBy}
 use Rattle.image.specs.Windows.{windowsOf}
 use Rattle.image.specs.declared.entries.Placed.{Placed}
 use Rattle.image.proofs.entries.place64.Statement.{statement}

@@ -2,7 +2,8 @@ use native.Mathlib.Omega.{arith}
 use denote.Ref.{now}
 use mathlib.Core.Path.{subst}
 use Prim.Native.Nat.{_+_, _-_}
-use Rattle.image.specs.Spans.{windowBy, Holds, HeldBy}
+use Rattle.image.specs.Spans.{windowBy, Holds}
+use Rattle.image.specs.Answers.{HeldBy}
 use Rattle.image.specs.Windows.{windowsOf, endOf}
 use Rattle.image.specs.declared.entries.Held.{Held}
 use Rattle.image.proofs.GoodWindows.{three-each, good-window}

@@ -1,7 +1,7 @@
 -- Its field is not 0.
 use borrow.Author.Needs.{needs}
 use Rattle.image.specs.Bits.{bits, inOneWord}
-use Rattle.image.specs.Entries.{number64}
+use Rattle.image.specs.Answers.{number64}
 use Rattle.image.proofs.WordFields.{any-in-word}
 use Rattle.image.proofs.entry_fields.any_set64.Statement.{statement}
 use Rattle.image.proofs.entry_fields.any_set64.Tie as tie

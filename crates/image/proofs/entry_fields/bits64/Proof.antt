@@ -1,7 +1,7 @@
 use mathlib.Core.Path.{_∙_}
 use native.Mathlib.Omega.{arith}
 use borrow.Author.Needs.{needs}
-use Rattle.image.specs.Entries.{words64}
+use Rattle.image.specs.Answers.{words64}
 use Rattle.image.proofs.Stores.{Words}
 use Rattle.image.proofs.WordFields.{in-word}
 use Rattle.image.proofs.entry_fields.bits64.Statement.{statement}

@@ -1,6 +1,6 @@
 use mathlib.Core.Path.{refl}
 use borrow.Author.Needs.{needs}
-use Rattle.image.specs.Entries.{spell}
+use Rattle.image.specs.Bytes.{spell}
 use Rattle.image.proofs.entry_fields.widened.Statement.{statement}
 use Rattle.image.proofs.entry_fields.widened.Tie as tie
 

@@ -3,7 +3,7 @@ use Prim.Native.Nat.{ℕ, _+_, _≤_}
 use mathlib.Core.Path.{_≡_}
 use native.Mathlib.Omega.{arith}
 use borrow.Author.Needs.{needs}
-use Rattle.image.specs.Entries.{words64}
+use Rattle.image.specs.Answers.{words64}
 use Rattle.image.proofs.WordFields.{no-word}
 use Rattle.image.proofs.entry_fields.word64.Statement.{statement}
 use Rattle.image.proofs.entry_fields.word64.Tie as tie

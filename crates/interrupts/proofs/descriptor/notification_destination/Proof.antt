@@ -3,7 +3,7 @@ use Prim.Native.Nat.{_^_}
 use native.Mathlib.Nat.{lt-of-lt-of-le}
 use borrow.Author.Needs.{needs}
 use lib.Dec.{lit≤}
-use Rattle.image.specs.Entries.{number64}
+use Rattle.image.specs.Answers.{number64}
 use Rattle.image.proofs.Fields.{fits}
 use Rattle.interrupts.proofs.descriptor.notification_destination.Statement.{statement}
 use Rattle.interrupts.proofs.descriptor.notification_destination.Tie as tie

@@ -1,7 +1,7 @@
 -- Silent or due by its callee; what is due by its fields.
 use borrow.Author.Needs.{needs}
 use borrow.Author.Tests.{not-true, not-false}
-use Rattle.image.specs.Entries.{number64}
+use Rattle.image.specs.Answers.{number64}
 use Rattle.image.proofs.Fields.{fits}
 use Rattle.interrupts.proofs.descriptor.notification_of.Statement.{statement}
 use Rattle.interrupts.proofs.descriptor.notification_of.Tie as tie

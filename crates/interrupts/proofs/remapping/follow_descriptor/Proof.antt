@@ -2,7 +2,7 @@
 use mathlib.Core.Path.{refl, ap, sym, _∙_}
 use borrow.Author.Needs.{needs}
 use Rattle.image.specs.Windows.{ofWindows}
-use Rattle.image.specs.Entries.{fetched64}
+use Rattle.image.specs.Answers.{fetched64}
 use Rattle.interrupts.specs.Answers.{descriptorChecked}
 use Rattle.interrupts.proofs.Stages.{no-descriptor, descriptor-checked}
 use Rattle.interrupts.proofs.remapping.follow_descriptor.Statement.{statement}

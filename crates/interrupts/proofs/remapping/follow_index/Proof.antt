@@ -3,7 +3,7 @@ use Prim.Native.Nat.{_+_, _*_}
 use mathlib.Core.Path.{_≡_, refl, ap, sym, _∙_, subst}
 use borrow.Author.Needs.{needs}
 use Rattle.image.specs.Windows.{ofWindows}
-use Rattle.image.specs.Entries.{fetched16}
+use Rattle.image.specs.Answers.{fetched16}
 use Rattle.image.specs.Place.{Place, entryAt, lastTried, stoppedAt}
 use Rattle.image.specs.Rules.{run}
 use Rattle.irte.specs.Answers.{askedOf, irtePlace}

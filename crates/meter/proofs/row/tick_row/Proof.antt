@@ -45,7 +45,7 @@ use denote.Triple.Statement.{Contract, Triple}
 use denote.Triple.Table.{entered, cited}
 use denote.Triple.Walked.{says, Stays, stay-slice, stay-none-slice, walkOf, Walks, ends-at, walked, goes-slice, goes-none-slice, walk-meets}
 use Rattle.meter.specs.declared.Meter.{Meter}
-use Rattle.meter.specs.Meter.{ticked, byteOf}
+use Rattle.meter.specs.Meter.{ticked, meterByte}
 use Rattle.meter.proofs.Meter as T
 use Rattle.meter.proofs.Meter.Laws as T′
 use Rattle.meter.proofs.Rows.{fit, allFit, steps, marks, steps-length, marks-length, steps-next, marks-next, good-next, both-true, even, span, fine, end, inside, all-turns}
@@ -162,8 +162,8 @@ module _ {M : Type 1} (𝓤 : URA M) (H : Heap 𝓤) (A : Atoms 𝓤) (W : Given
   tick-of : (m : Meter) (c : ℕ) (r : Meter) → ent 𝓤 (ensured 𝓤 H A tick.ended (tick.clauses 𝓤 H A at-mem run) tt (m, (c, tt)) tt r) (fact 𝓤 (r ≡ ticked m c))
   tick-of m c r = exE 𝓤 _ (λ ws. snd∗ 𝓤 (sem 𝓤 H A (lasts tick.ended tt (m, (c, tt)) ws)) (fact 𝓤 (r ≡ ticked m c)))
 
-  byte-of : (m : Meter) (r : ℕ) → ent 𝓤 (ensured 𝓤 H A byte.ended (byte.clauses 𝓤 H A at-mem run) tt (m, tt) tt r) (fact 𝓤 (r ≡ byteOf m))
-  byte-of m r = exE 𝓤 _ (λ ws. snd∗ 𝓤 (sem 𝓤 H A (lasts byte.ended tt (m, tt) ws)) (fact 𝓤 (r ≡ byteOf m)))
+  byte-of : (m : Meter) (r : ℕ) → ent 𝓤 (ensured 𝓤 H A byte.ended (byte.clauses 𝓤 H A at-mem run) tt (m, tt) tt r) (fact 𝓤 (r ≡ meterByte m))
+  byte-of m r = exE 𝓤 _ (λ ws. snd∗ 𝓤 (sem 𝓤 H A (lasts byte.ended tt (m, tt) ws)) (fact 𝓤 (r ≡ meterByte m)))
 
 -- ---- the walk
 module _ {M : Type 1} (𝓤 : URA M) (H : Heap 𝓤) (A : Atoms 𝓤) (W : Given 𝓤 H A) (at-mem : Memory → SProp 𝓤) (run : Routine → Fun 𝓤) (κ₀ κ₁ κ₂ : Lft) (q₀ q₁ q₂ : Share)
@@ -279,7 +279,7 @@ module _ {M : Type 1} (𝓤 : URA M) (H : Heap 𝓤) (A : Atoms 𝓤) (W : Given
         -- its byte
         use0 W (raw (Byte 𝓤 H A W at-mem run .pre (to-byte 𝓤 H A W at-mem run r))) (goes-byte 𝓤 H A W at-mem run r (spelled r _ is)) $
         calls-at ! fm (Byte 𝓤 H A W at-mem run) (known .byte) (to-byte 𝓤 H A W at-mem run r) (and-then ! (load ! (from ! (stop !)) (look ! 12 refl)) (no-more !)) (λ u.
-        told ! tt u8 (λ n. n ≡ byteOf r) (byte-of 𝓤 H A W at-mem run r) u (id⊢ 𝓤 _) (λ n f at-n.
+        told ! tt u8 (λ n. n ≡ meterByte r) (byte-of 𝓤 H A W at-mem run r) u (id⊢ 𝓤 _) (λ n f at-n.
         land ! (from ! (stop !)) (init ! 29 refl (uint-lawful 𝓤 H A W w8 .typed n _ at-n .0)) $
         rewrite ! 29 (λ (u : Val). ‵ (fat fullShare (tyInt w8) l₂₆ 0 u)) (ap only (uint-tells w8 n _ at-n)) refl $
         assigns ! (bin ! (load ! (from ! (fld ! refl (stop !))) (look-in ! 8 (sub ! 0 refl (whole !)))) (load ! (from ! (stop !)) (look ! 4 refl)) tt) (from ! (stop !)) (init ! 30 refl (tt, tt)) $
@@ -292,7 +292,7 @@ module _ {M : Type 1} (𝓤 : URA M) (H : Heap 𝓤) (A : Atoms 𝓤) (W : Given
         forget ! 11 refl $ forget ! 21 refl $ forget ! 22 refl $ forget ! 23 refl $ forget ! 24 refl $ forget ! 25 refl $ forget ! 26 refl $ forget ! 27 refl $ forget ! 28 refl $ forget ! 29 refl $ forget ! 30 refl $
         rewrite ! 4 (λ (j : ℕ). ‵ (fat fullShare word l₇ 0 (vint w64 j))) (one-more i) refl $
         rewrite ! 0 (λ (zs : List Meter). ‵ (row T.the-row fullShare zs b₀ o₀)) (ap (set xs i) e ∙ steps-next i ms cs none (places .0) (places .1)) refl $
-        rewrite ! 2 (λ (zs : List ℕ). ‵ (row u8 fullShare zs b₂ o₂)) (ap (set ys i) (f ∙ ap byteOf e) ∙ marks-next i ms cs bs none (places .0) (places .1) (places .2)) refl $ by ! k))))))))
+        rewrite ! 2 (λ (zs : List ℕ). ‵ (row u8 fullShare zs b₂ o₂)) (ap (set ys i) (f ∙ ap meterByte e) ∙ marks-next i ms cs bs none (places .0) (places .1) (places .2)) refl $ by ! k))))))))
       where
         xs : List Meter
         xs = steps i ms cs

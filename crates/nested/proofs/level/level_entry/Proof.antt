@@ -7,7 +7,7 @@ use lib.ListN.{take, length}
 use Rattle.image.specs.Memory.{Memory, missing, found, entry, onFetch}
 use Rattle.image.specs.Windows.{ofWindows}
 use Rattle.dma.specs.Walk.{Step, done}
-use Rattle.nested.specs.Pages.{Pages, Handed, unfetched, walkStep}
+use Rattle.nested.specs.Pages.{Pages, FirstHanded, noFirstEntry, walkStep}
 use borrow.Author.Needs.{needs}
 use Rattle.nested.proofs.level.level_entry.Statement.{statement}
 use Rattle.nested.proofs.level.level_entry.Tie as tie
@@ -16,7 +16,7 @@ module _ (s : tie.Start) where
   abbrev memory : Memory
   memory = ofWindows (s .args .windows .now) (s .args .image .now)
 
-  abbrev given : Handed
+  abbrev given : FirstHanded
   given = record { top = s .args .stage .top; writable = s .args .writable; flags = take (s .args .count) (s .args .flags .now) }
 
   -- an entry at its address in a page

@@ -7,7 +7,7 @@ use lib.ListN.{take}
 use Rattle.image.specs.Place.{entryAt}
 use Rattle.dma.specs.Page.{hostAddress}
 use Rattle.dma.specs.Walk.{Step, done, down}
-use Rattle.nested.specs.Pages.{Pages, reached, Handed, handed}
+use Rattle.nested.specs.Pages.{Pages, reached, FirstHanded, firstHanded}
 use Rattle.nested.proofs.Firsts.{down-told, page-told, fault-told, above-one}
 use borrow.Author.Needs.{needs}
 use Rattle.nested.proofs.level.level_step.Statement.{statement}

@@ -5,7 +5,7 @@ use mathlib.Core.Path.{_≡_, refl, ap, sym, _∙_}
 use native.Mathlib.Omega.{arith}
 use lib.ListN.{take}
 use Rattle.dma.specs.Page.{hostAddress}
-use Rattle.nested.specs.Pages.{handed}
+use Rattle.nested.specs.Pages.{firstHanded}
 use Rattle.nested.proofs.Rests.{page-last, page-next, fault-last}
 use borrow.Author.Needs.{needs}
 use Rattle.nested.proofs.turn.after_level.Statement.{statement}
@@ -59,7 +59,7 @@ returns-3 c =
     let n = g .0 in
     let grows = rw (g .1) at (s .pre .4) in
     let host = c .before .before .host-address .ensures in (
-      λ flags. rw (g .1, host) (page-next (w .space .registers) (w .space .entry) (w .asked .address) (w .asked .write) (n .0) (n .1 .0) (hostAddress (n .1 .0) (n .0) (w .asked .address)) (handed false (take (n .1 .1 .1 .0) flags)) (c .if1 .left)),
+      λ flags. rw (g .1, host) (page-next (w .space .registers) (w .space .entry) (w .asked .address) (w .asked .write) (n .0) (n .1 .0) (hostAddress (n .1 .0) (n .0) (w .asked .address)) (firstHanded false (take (n .1 .1 .1 .0) flags)) (c .if1 .left)),
       (
         rw (g .1),
         (

@@ -9,7 +9,7 @@ use Rattle.image.specs.Rules.{run}
 use Rattle.image.specs.Windows.{ofWindows}
 use Rattle.dma.specs.Walk.{Step}
 use Rattle.nested.specs.Answers.{levelOf, levelPlace}
-use Rattle.nested.specs.Pages.{Pages, Handed, handed}
+use Rattle.nested.specs.Pages.{Pages, FirstHanded, firstHanded}
 use Rattle.nested.specs.Stages.{entryOver}
 use Rattle.nested.proofs.Firsts.{levelOver, entered, entered-at, grows-more}
 use Rattle.nested.proofs.Rests.{onward, onward-at}
@@ -51,7 +51,7 @@ returns c =
     let told = rw (c .before .before .before .before .before .before .at .given .1) at (l .ensures) in
     let e = c .before .before .before .level-entry in
     let n = c .after-level in
-    let handed-in = handed (a .stage .top) (take (a .stage .count) (a .flags .now)) in
+    let handed-in = firstHanded (a .stage .top) (take (a .stage .count) (a .flags .now)) in
     let this : a .stage .level ≡ suc (a .stage .level - 1) = omega (arith, told .0) in
     let over = entered (w .space .registers) (w .space .entry) (w .asked .address) (w .asked .write) m (a .stage .level - 1) (a .stage .at) handed-in (told .4) in
     let stepped = rw this at (e .ensures .0) in

@@ -3,16 +3,17 @@ use mathlib.Core.Bool.{Bool, true, false, not, _||_}
 use mathlib.Core.Path.{_≡_, refl, ap, sym, _∙_}
 use native.Mathlib.Omega.{arith}
 use borrow.Author.Needs.{needs}
-use borrow.Author.Tests.{ne-eqb, eqb-true, eqb-false}
+use borrow.Author.Tests.{ne-eqb, eqb-true, eqb-false, not-true, not-false}
 use lib.Dec.{eqb}
 use lib.ListN.{take}
 use Rattle.image.specs.Memory.{Memory}
 use Rattle.image.specs.Place.{entryAt}
 use Rattle.image.specs.Rules.{run}
 use Rattle.image.specs.Windows.{ofWindows}
+use Rattle.image.proofs.Choices.{neither}
 use Rattle.pasid.specs.declared.table.PasidEntry.{PasidEntry}
-use Rattle.nested.specs.Pages.{Handed, handed, locate, SecondWalkable}
-use Rattle.nested.specs.Stages.{Fits}
+use Rattle.nested.specs.Pages.{FirstHanded, firstHanded, locate, SecondWalkable}
+use Rattle.nested.specs.Stages.{StageFits}
 use Rattle.nested.specs.declared.stage.Stage.{Stage}
 use Rattle.nested.proofs.Nested.{itself, host-aligned}
 use Rattle.nested.proofs.Rests.{nested, page-found, entry-place, entry-found, faulted, faulted-at}
@@ -20,30 +21,18 @@ use Rattle.nested.proofs.way.locate.Statement.{statement}
 use Rattle.nested.proofs.way.locate.Tie as tie
 
 -- an entry, which stands at its address itself; or what the second level is asked for
-neither : (a b : Bool) → (a || b) ≡ false → (a ≡ false) × (b ≡ false)
-neither true b h = let z : _≡_ {A = ℕ} 0 1 = cc in absurd (omega arith)
-neither false b h = (refl, h)
-
-off : (b : Bool) → not b ≡ true → b ≡ false
-off true h = sym h
-off false h = refl
-
-on : (b : Bool) → not b ≡ false → b ≡ true
-on true h = refl
-on false h = sym h
-
 some : (level : ℕ) → (level ≡ 0 → ⊥) → 0 < level
 some zero h = absurd (h refl)
 some (suc n) h = omega arith
 
-few : (p : PasidEntry) (s : Stage) → Fits p s → s .level ≤ 5
+few : (p : PasidEntry) (s : Stage) → StageFits p s → s .level ≤ 5
 few p s fits = by (s .level) (λ more. fits .0 more .1)
   where
     by : (level : ℕ) → (0 < level → level ≤ 5) → level ≤ 5
     by zero h = omega arith
     by (suc n) h = h (omega arith)
 
-asks : (p : PasidEntry) (s : Stage) → Fits p s → (eqb (s .level) 0 || eqb (p .kind) 3) ≡ true → SecondWalkable p × (s .count ≤ 41)
+asks : (p : PasidEntry) (s : Stage) → StageFits p s → (eqb (s .level) 0 || eqb (p .kind) 3) ≡ true → SecondWalkable p × (s .count ≤ 41)
 asks p s fits second = by (eqb (s .level) 0) refl
   where
     by : (t : Bool) → eqb (s .level) 0 ≡ t → SecondWalkable p × (s .count ≤ 41)
@@ -57,8 +46,8 @@ module _ (s : tie.Start) where
   abbrev memory : Memory
   memory = ofWindows (s .args .windows .now) (s .args .image .now)
 
-  abbrev given : Handed
-  given = handed (s .args .stage .top) (take (s .args .stage .count) (s .args .flags .now))
+  abbrev given : FirstHanded
+  given = firstHanded (s .args .stage .top) (take (s .args .stage .count) (s .args .flags .now))
 
 place-of-requires : tie.Need-place-of-requires
 place-of-requires c κs =
@@ -71,7 +60,7 @@ returns c =
     let s = c .before .before .before .before .before .before in
     let w = s .args .walk in
     let at = c .before .before .place-of in
-    let other = neither _ _ (sym (c .before .through-second .ensures) ∙ off (c .before .through-second .result) (c .if1 .taken)) in
+    let other = neither _ _ (sym (c .before .through-second .ensures) ∙ not-true (c .before .through-second .result) (c .if1 .taken)) in
     let more = some (s .args .stage .level) (eqb-false (s .args .stage .level) 0 (other .0)) in
     let place = entry-place (w .space .registers) (w .space .entry) (w .asked .address) (w .asked .write) (memory s) (s .args .stage .level) (s .args .stage .at) (at .result) (given s) (at .ensures .0) more in
     let fine = at .ensures .1 more in (
@@ -86,7 +75,7 @@ returns c =
 intermediate-requires : tie.Need-intermediate-requires
 intermediate-requires c κs =
     let s = c .before .before .before .before .before .before .before in
-    let second = sym (c .before .before .through-second .ensures) ∙ on (c .before .before .through-second .result) (c .before .if1 .left) in
+    let second = sym (c .before .before .through-second .ensures) ∙ not-false (c .before .before .through-second .result) (c .before .if1 .left) in
     let may = asks (s .args .walk .space .entry) (s .args .stage) (s .pre .1) second in
     (s .pre .0, may .0, omega (arith, may .1, s .pre .2))
 
@@ -109,7 +98,7 @@ returns-2 c =
     let told = rw (g .1) at (i .ensures .0) in
     let page = rw (g .1) at (i .ensures .1 .1 .0) in
     let grown = rw (g .1) at (i .ensures .1 .1 .1) in
-    let second = sym (c .before .before .before .before .before .before .before .before .before .before .before .through-second .ensures) ∙ on (c .before .before .before .before .before .before .before .before .before .before .before .through-second .result) (c .before .before .before .before .before .before .before .before .before .before .if1 .left) in
+    let second = sym (c .before .before .before .before .before .before .before .before .before .before .before .through-second .ensures) ∙ not-false (c .before .before .before .before .before .before .before .before .before .before .before .through-second .result) (c .before .before .before .before .before .before .before .before .before .before .if1 .left) in
     let may = asks (w .space .entry) (s .args .stage) (s .pre .1) second in (
       rw (c .before .before .host-address .ensures)
           (page-found (w .space .registers) (w .space .entry) (w .asked .address) (w .asked .write) (memory s) (s .args .stage .level) (s .args .stage .at) (at .result) (given s) (at .ensures .0) (c .if2 .taken) told),
@@ -132,7 +121,7 @@ returns-3 c =
     let told = rw (g .1) at (i .ensures .0) in
     let page = rw (g .1) at (i .ensures .1 .1 .0) in
     let grown = rw (g .1) at (i .ensures .1 .1 .1) in
-    let second = sym (c .before .before .before .before .before .before .before .before .before .before .before .through-second .ensures) ∙ on (c .before .before .before .before .before .before .before .before .before .before .before .through-second .result) (c .before .before .before .before .before .before .before .before .before .before .if1 .left) in
+    let second = sym (c .before .before .before .before .before .before .before .before .before .before .before .through-second .ensures) ∙ not-false (c .before .before .before .before .before .before .before .before .before .before .before .through-second .result) (c .before .before .before .before .before .before .before .before .before .before .if1 .left) in
     let more = some (s .args .stage .level) (c .if2 .left) in
     let three = nested (w .space .registers) (w .space .entry) (w .asked .address) (w .asked .write) (s .args .stage .level) (ne-eqb (s .args .stage .level) 0 (c .if2 .left)) second in
     let host = c .before .before .host-address .ensures in
@@ -157,7 +146,7 @@ returns-4 c =
     let g = c .before .reason .given in
     let told = rw (g .1) at (i .ensures .0) in
     let there = rw (g .1) at (i .ensures .1 .0) in
-    let second = sym (c .before .before .before .before .before .before .before .before .through-second .ensures) ∙ on (c .before .before .before .before .before .before .before .before .through-second .result) (c .before .before .before .before .before .before .before .if1 .left) in (
+    let second = sym (c .before .before .before .before .before .before .before .before .through-second .ensures) ∙ not-false (c .before .before .before .before .before .before .before .before .through-second .result) (c .before .before .before .before .before .before .before .if1 .left) in (
       faulted (w .space .registers) (w .space .entry) (w .asked .address) (w .asked .write) (memory s) (s .args .stage .level) (s .args .stage .at) (at .result) (given s) (at .ensures .0) second told,
       faulted-at (w .space .registers) (w .space .entry) (w .asked .address) (w .asked .write) (memory s) (s .args .stage .level) (s .args .stage .at) (at .result) (given s) (at .ensures .0) second told (entryAt (s .args .stage .last)) there,
       tt,

@@ -1,4 +1,4 @@
-use Rattle.image.specs.Entries.{number64}
+use Rattle.image.specs.Answers.{number64}
 use Rattle.pasid.proofs.Wide.{context-upper}
 use borrow.Author.Needs.{needs}
 use Rattle.pasid.proofs.context.upper_set.Statement.{statement}

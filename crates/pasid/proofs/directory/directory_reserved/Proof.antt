@@ -1,7 +1,7 @@
 use Prim.Native.Nat.{_<_, _^_}
 use mathlib.Core.Path.{_≡_}
 use native.Mathlib.Omega.{arith}
-use Rattle.dma.proofs.Address.{from-haw}
+use Rattle.registers.proofs.Powers.{from-bit}
 use Rattle.pasid.specs.Directory.{directoryReserved}
 use borrow.Author.Needs.{needs}
 use Rattle.pasid.proofs.directory.directory_reserved.Statement.{statement}
@@ -18,7 +18,7 @@ unfolding directoryReserved
 returns c =
     let s = c .before .before in
     let word : s .args .e < 2 ^ 64 = omega arith in
-    rw (from-haw (s .args .haw) word, c .before .field .ensures, c .at-or-above-power .ensures)
+    rw (from-bit (s .args .haw) word, c .before .field .ensures, c .at-or-above-power .ensures)
 
 pub directory-reserved-spec : {M : Type 1} → statement M
 directory-reserved-spec = tie.close (tie.spec field-requires at-or-above-power-requires returns)

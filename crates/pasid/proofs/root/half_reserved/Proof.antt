@@ -1,8 +1,8 @@
 use Prim.Native.Nat.{_<_, _^_}
 use mathlib.Core.Path.{_≡_}
 use native.Mathlib.Omega.{arith}
-use Rattle.dma.proofs.Address.{from-haw}
 use borrow.Author.Needs.{needs}
+use Rattle.registers.proofs.Powers.{from-bit}
 use Rattle.pasid.proofs.root.half_reserved.Statement.{statement}
 use Rattle.pasid.proofs.root.half_reserved.Tie as tie
 
@@ -19,7 +19,7 @@ returns : tie.Need-returns
 returns c =
     let s = c .before .before .before in
     let word : s .args .half < 2 ^ 64 = omega arith in
-    rw (from-haw (s .args .haw) word, c .before .before .field .ensures, c .before .field2 .ensures, c .at-or-above-power .ensures)
+    rw (from-bit (s .args .haw) word, c .before .before .field .ensures, c .before .field2 .ensures, c .at-or-above-power .ensures)
 
 pub half-reserved-spec : {M : Type 1} → statement M
 half-reserved-spec =

@@ -4,7 +4,7 @@ use mathlib.Core.Path.{_≡_}
 use native.Mathlib.Omega.{arith}
 use lib.Dec.{lit<}
 use Rattle.image.specs.Bits.{bits}
-use Rattle.image.specs.Entries.{number64, words64}
+use Rattle.image.specs.Answers.{number64, words64}
 use Rattle.image.proofs.Fields.{in-first}
 use Rattle.image.proofs.Stores.{Words}
 use Rattle.image.proofs.WordFields.{of-word}

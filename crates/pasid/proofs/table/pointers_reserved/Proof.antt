@@ -3,12 +3,12 @@ use mathlib.Core.List.{[], _∷_}
 use mathlib.Core.Path.{_≡_}
 use native.Mathlib.Omega.{arith}
 use lib.Dec.{lit<}
+use Rattle.registers.proofs.Powers.{from-bit}
 use Rattle.image.specs.Bits.{bits}
-use Rattle.image.specs.Entries.{number64, words64}
+use Rattle.image.specs.Answers.{number64, words64}
 use Rattle.image.proofs.Fields.{in-first}
 use Rattle.image.proofs.Stores.{Words}
 use Rattle.image.proofs.WordFields.{of-word}
-use Rattle.dma.proofs.Address.{from-haw}
 use Rattle.pasid.specs.Table.{pointersReserved}
 use borrow.Author.Needs.{needs}
 use Rattle.pasid.proofs.table.pointers_reserved.Statement.{statement}
@@ -24,7 +24,7 @@ returns c =
     let third : e .w2 < 2 ^ 64 = omega arith in
     let words : Words (words64 e) = (omega arith, (omega arith, (omega arith, (omega arith, (omega arith, (omega arith, (omega arith, (omega arith, tt)))))))) in
     let upper : bits (number64 e) 191 (128 + haw) ≡ bits (e .w2) 63 haw = of-word 2 (words64 e) words 63 haw (lit< tt) in
-    rw (in-first (e .w1 ∷ e .w2 ∷ e .w3 ∷ e .w4 ∷ e .w5 ∷ e .w6 ∷ e .w7 ∷ []) low 63 haw (lit< tt), upper, from-haw haw low, from-haw haw third, c .before .at-or-above-power .ensures, c .at-or-above-power2 .ensures)
+    rw (in-first (e .w1 ∷ e .w2 ∷ e .w3 ∷ e .w4 ∷ e .w5 ∷ e .w6 ∷ e .w7 ∷ []) low 63 haw (lit< tt), upper, from-bit haw low, from-bit haw third, c .before .at-or-above-power .ensures, c .at-or-above-power2 .ensures)
 
 pub pointers-reserved-spec : {M : Type 1} → statement M
 pointers-reserved-spec = tie.close (tie.spec

@@ -1,6 +1,6 @@
 use mathlib.Core.Bool.{false}
 use mathlib.Core.Path.{ap, sym, _∙_}
-use Rattle.image.specs.Entries.{fetched16}
+use Rattle.image.specs.Answers.{fetched16}
 use Rattle.image.specs.Memory.{Fetched, onFetch}
 use Rattle.region.specs.Shared.{meetsNamed}
 use borrow.Author.Needs.{needs}

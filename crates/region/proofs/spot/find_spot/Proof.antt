@@ -4,7 +4,7 @@ use native.Mathlib.Omega.{arith}
 use lib.ListN.{length, drop}
 use Rattle.image.specs.Windows.{windowsOf, windowAt, spotIn}
 use Rattle.image.proofs.GoodWindows.{good-at, held, spot-at, spot-after, spot-none-left}
-use Rattle.region.specs.Copy.{isWhole, placeIn}
+use Rattle.region.specs.Copy.{isWhole, spotPlace}
 use borrow.Author.Needs.{needs}
 use Rattle.region.proofs.spot.find_spot.Statement.{statement}
 use Rattle.region.proofs.spot.find_spot.Tie as tie
@@ -52,7 +52,7 @@ returns : tie.Need-returns Inv-loop μ-loop
 returns c =
     let t = c .before .before in
     let found = t .before .before .before .loop .inv .0 ∙ spot-at (s t .args .windows .now) (s t .args .size) (s t .args .at) (3 * n t) (within t) (sym (t .before .holds-all .ensures) ∙ t .if1 .taken) in
-    (sym (ap isWhole found), sym (ap placeIn found))
+    (sym (ap isWhole found), sym (ap spotPlace found))
 
 loop-again : tie.Need-loop-again Inv-loop μ-loop
 loop-again c =
@@ -71,7 +71,7 @@ returns-2 c =
     let a = c .before .before .before .args in
     let k = c .before .loop .n in
     let none = c .before .loop .inv .0 ∙ spot-none-left (a .windows .now) (a .size) (a .at) (3 * k) (omega (arith, c .loop-test .left)) in
-    (sym (ap isWhole none), sym (ap placeIn none))
+    (sym (ap isWhole none), sym (ap spotPlace none))
 
 pub find-spot-spec : {M : Type 1} → statement M
 find-spot-spec =

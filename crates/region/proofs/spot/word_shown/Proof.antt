@@ -1,7 +1,7 @@
 use Prim.Native.Nat.{ℕ, _+_, _-_, _%_}
 use mathlib.Core.Path.{_≡_, ap, sym, _∙_}
 use native.Mathlib.Omega.{arith}
-use Rattle.image.specs.Entries.{fetched8}
+use Rattle.image.specs.Answers.{fetched8}
 use Rattle.image.specs.Memory.{Fetched, entry, onFetch}
 use Rattle.image.specs.Windows.{ofWindows}
 use Rattle.region.specs.Copy.{wordShown}

@@ -3,7 +3,7 @@ use mathlib.Core.Path.{ap, sym, subst, _∙_}
 use denote.Ref.{now}
 use lib.ListN.{length}
 use borrow.Author.Needs.{needs}
-use Rattle.image.specs.Spans.{HeldBy}
+use Rattle.image.specs.Answers.{HeldBy}
 use Rattle.image.specs.Windows.{Spot, windowsOf}
 use Rattle.image.specs.declared.entries.Held.{Held}
 use Rattle.regions.proofs.TableOutside.{there, outside-told}

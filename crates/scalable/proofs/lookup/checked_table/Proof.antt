@@ -2,7 +2,7 @@ use mathlib.Core.Bool.{_||_}
 use mathlib.Core.Path.{_≡_, refl, ap, sym, _∙_}
 use Rattle.image.specs.Bits.{bit}
 use Rattle.image.specs.Check.{onCheck}
-use Rattle.image.specs.Entries.{number64}
+use Rattle.image.specs.Answers.{number64}
 use Rattle.pasid.specs.Answers.{tableChecked}
 use Rattle.scalable.specs.Lookup.{pasidEntry, noPasidEntry}
 use borrow.Author.Needs.{needs}

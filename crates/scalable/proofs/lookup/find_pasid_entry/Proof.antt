@@ -7,7 +7,7 @@ use Rattle.image.specs.Windows.{ofWindows}
 use Rattle.image.specs.Memory.{missing, found, entry}
 use Rattle.image.specs.Bits.{bits, bit}
 use Rattle.image.specs.Check.{onCheck, stop, go}
-use Rattle.image.specs.Entries.{number16, number64, fetched8, fetched16, fetched64}
+use Rattle.image.specs.Answers.{number16, number64, fetched8, fetched16, fetched64}
 use Rattle.image.specs.EntryKind.{rootEntry, scalableContextEntry, pasidDirectoryEntry, pasidTableEntry}
 use Rattle.image.specs.Place.{entryAt, lastTried}
 use Rattle.image.specs.Rules.{run, answer}

@@ -6,15 +6,16 @@ use native.Mathlib.Omega.{arith}
 use lib.ListN.{take}
 use lib.Seq.{append-snoc}
 use Rattle.flags.specs.Flags.{flag}
-use Rattle.second.proofs.Told.{is-set, is-clear, none-more}
+use Rattle.second.proofs.Told.{none-more}
 use borrow.Author.Needs.{needs}
+use borrow.Author.Tests.{not-true, not-false}
 use Rattle.second.proofs.step.collect.Statement.{statement}
 use Rattle.second.proofs.step.collect.Tie as tie
 
 returns : tie.Need-returns
 returns c =
     let a = c .before .before .before .before .args in
-    (rw (← c .before .before .flag-clear .ensures, is-clear (a .entry .slade && c .before .before .flag-clear .result) (c .if1 .taken)) (sym (append-nil (take (a .count) (a .flags .now)))), (omega arith, none-more (a .count) (a .dirty)))
+    (rw (← c .before .before .flag-clear .ensures, not-true (a .entry .slade && c .before .before .flag-clear .result) (c .if1 .taken)) (sym (append-nil (take (a .count) (a .flags .now)))), (omega arith, none-more (a .count) (a .dirty)))
 
 -- A, bit 8
 accessed : (c : tie.After-push) → let a = c .before .before .before .before .before .before .args in
@@ -28,7 +29,7 @@ returns-2 c =
     let f = t .before .before .before in
     let e = f .before .before in
     let a = e .before .before .before .before .args in (
-      rw (← e .before .before .flag-clear .ensures, is-set (a .entry .slade && e .before .before .flag-clear .result) (e .if1 .left), t .if2 .taken)
+      rw (← e .before .before .flag-clear .ensures, not-false (a .entry .slade && e .before .before .flag-clear .result) (e .if1 .left), t .if2 .taken)
           (ap (λ (n : ℕ). take n (c .before .before .push2 .last .0)) (second .0)
           ∙ second .1
           ∙ ap (λ (l : List ℕ). l ++ (flag (a .at) 9 ∷ [])) (accessed f)
@@ -41,7 +42,7 @@ returns-3 c =
     let f = c .before .before .before in
     let e = f .before .before in
     let a = e .before .before .before .before .args in (
-      rw (← e .before .before .flag-clear .ensures, is-set (a .entry .slade && e .before .before .flag-clear .result) (e .if1 .left), c .if2 .left) (accessed f),
+      rw (← e .before .before .flag-clear .ensures, not-false (a .entry .slade && e .before .before .flag-clear .result) (e .if1 .left), c .if2 .left) (accessed f),
       rw (c .if2 .left) (omega (arith, f .push .ensures .0), omega (arith, f .push .ensures .0)),
     )
 

@@ -3,7 +3,7 @@ use mathlib.Core.Path.{_≡_, refl, ap, sym, _∙_, subst}
 use native.Mathlib.Omega.{arith}
 use native.Mathlib.Numerals.{add-one}
 use Rattle.image.specs.Windows.{ofWindows}
-use Rattle.image.specs.Entries.{fetched8}
+use Rattle.image.specs.Answers.{fetched8}
 use Rattle.image.specs.Memory.{entry}
 use Rattle.image.specs.Place.{Place, entryAt}
 use Rattle.dma.specs.Walk.{placeIn}

@@ -8,7 +8,7 @@ use Rattle.image.proofs.Fields.{in-place-lt}
 use Rattle.dma.specs.Page.{pageReserved}
 use Rattle.dma.proofs.Reserved.{low-leaf}
 use Rattle.second.specs.Answers.{handedBy}
-use Rattle.second.specs.Second.{Handed, readable, writable, flagsNotSnooped}
+use Rattle.second.specs.Second.{SecondHanded, readable, writable, flagsNotSnooped}
 use Rattle.second.proofs.Rights as rights
 use Rattle.second.proofs.Seconds as step
 use Rattle.second.proofs.Told.{at-most-two}
@@ -19,7 +19,7 @@ use Rattle.second.proofs.step.second_step.Tie as tie
 abbrev start : tie.After-join → tie.Start
 start k = k .before .before
 
-abbrev above : tie.After-join → Handed
+abbrev above : tie.After-join → SecondHanded
 above k = let a = start k .args in handedBy (a .above) (a .flags .now)
 
 -- the tests that the code is past

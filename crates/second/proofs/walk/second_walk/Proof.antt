@@ -10,8 +10,8 @@ use Rattle.image.specs.Place.{Place, entryAt, lastTried}
 use Rattle.image.specs.Rules.{run}
 use Rattle.image.specs.Windows.{ofWindows}
 use Rattle.dma.specs.Walk.{down, placeIn}
-use Rattle.second.specs.Answers.{handed, stepPlace, StepReachable, StepGrown}
-use Rattle.second.specs.Second.{Handed, atTop, secondRules}
+use Rattle.second.specs.Answers.{secondHanded, stepPlace, StepReachable, StepGrown}
+use Rattle.second.specs.Second.{SecondHanded, atTop, secondRules}
 use Rattle.second.proofs.Rights.{from-top, under-top}
 use Rattle.second.proofs.Seconds.{ended, led, ended-at, led-at, anew, down-to}
 use Rattle.second.proofs.Told.{told}
@@ -27,10 +27,10 @@ Inv-loop windows image space wanted address flags₀ count₀ level₀ table₀ 
     × (count₀ ≤ n)
     × (n + level ≤ count₀ + space .entry .«second_levels»)
     × (length flags ≡ length flags₀)
-    × (run (secondRules (space .registers) (space .entry) wanted address level table (handed (eqb level (space .entry .«second_levels»)) rights (take n flags))) (ofWindows windows image)
+    × (run (secondRules (space .registers) (space .entry) wanted address level table (secondHanded (eqb level (space .entry .«second_levels»)) rights (take n flags))) (ofWindows windows image)
     ≡ run (secondRules (space .registers) (space .entry) wanted address (space .entry .«second_levels») (space .entry .«second_top») (atTop (take count₀ flags₀))) (ofWindows windows image))
     × ((before before′ : Place)
-    → lastTried before (secondRules (space .registers) (space .entry) wanted address level table (handed (eqb level (space .entry .«second_levels»)) rights (take n flags))) (ofWindows windows image)
+    → lastTried before (secondRules (space .registers) (space .entry) wanted address level table (secondHanded (eqb level (space .entry .«second_levels»)) rights (take n flags))) (ofWindows windows image)
     ≡ lastTried before′ (secondRules (space .registers) (space .entry) wanted address (space .entry .«second_levels») (space .entry .«second_top») (atTop (take count₀ flags₀))) (ofWindows windows image))
 
 abbrev μ-loop : tie.MeasureT-loop
@@ -73,10 +73,10 @@ module _ (i : tie.In-loop Inv-loop μ-loop) where
   abbrev s : tie.Start Inv-loop μ-loop
   s = i .before .before .before .before .before
 
-  abbrev above : Handed
+  abbrev above : SecondHanded
   above =
       let l = i .before .loop in
-      handed (eqb (l .level) (s .args .space .entry .«second_levels»)) (l .rights) (take (l .count) (l .flags))
+      secondHanded (eqb (l .level) (s .args .space .entry .«second_levels»)) (l .rights) (take (l .count) (l .flags))
 
 returns : tie.Need-returns Inv-loop μ-loop
 returns c =

@@ -4,14 +4,14 @@ use mathlib.Core.Path.{_≡_, refl, ap, sym, _∙_}
 use native.Mathlib.Omega.{arith}
 use borrow.Author.Needs.{needs}
 use lib.ListN.{length}
-use Rattle.tables.specs.Tables.{zeroed}
+use Rattle.tables.specs.Tables.{wordsZeroed}
 use Rattle.tables.proofs.Folds.{zeroed-on, zeroed-done}
 use Rattle.tables.proofs.entries.clear_table.Statement.{statement}
 use Rattle.tables.proofs.entries.clear_table.Tie as tie
 
 abbrev Inv-loop : tie.InvT-loop
 Inv-loop bytes₀ table left₀ at₀ bytes left at =
-    (zeroed left bytes at ≡ zeroed 512 bytes₀ table)
+    (wordsZeroed left bytes at ≡ wordsZeroed 512 bytes₀ table)
     × (left ≤ 512)
     × (at + 8 * left ≡ table + 4096)
     × (length bytes ≡ length bytes₀)

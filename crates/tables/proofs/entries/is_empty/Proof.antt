@@ -3,7 +3,7 @@ use mathlib.Core.Bool.{Bool}
 use mathlib.Core.Path.{_≡_, refl, ap, sym, _∙_}
 use native.Mathlib.Omega.{arith}
 use borrow.Author.Needs.{needs}
-use Rattle.tables.specs.Tables.{entryOf, present, absent}
+use Rattle.tables.specs.Tables.{heldEntry, present, absent}
 use Rattle.tables.proofs.Folds.{absent-on, absent-stop, absent-done}
 use Rattle.tables.proofs.entries.is_empty.Statement.{statement}
 use Rattle.tables.proofs.entries.is_empty.Tie as tie
@@ -20,7 +20,7 @@ loop-holds c = (refl, omega arith, omega arith)
 
 -- what the test of an entry tells
 told : (c : tie.After-is-present Inv-loop μ-loop) {t : Bool} → c .is-present .result ≡ t
-    → present (entryOf (c .before .before .before .before .before .args .bytes .now) (c .before .before .before .loop .at)) ≡ t
+    → present (heldEntry (c .before .before .before .before .before .args .bytes .now) (c .before .before .before .loop .at)) ≡ t
 told c h = ap (λ (e : ℕ). present e) (sym (c .before .entry-of .ensures)) ∙ sym (c .is-present .ensures) ∙ h
 
 returns : tie.Need-returns Inv-loop μ-loop

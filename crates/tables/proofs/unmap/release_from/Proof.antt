@@ -7,14 +7,14 @@ use borrow.Author.Needs.{needs}
 use borrow.Author.Tests.{not-true, not-false}
 use lib.ListN.{length}
 use Rattle.tables.specs.Tables.{tables}
-use Rattle.tables.specs.Unmapped.{released}
+use Rattle.tables.specs.Unmapped.{freedTables}
 use Rattle.tables.proofs.Changes.{released-on, released-stop, released-done}
 use Rattle.tables.proofs.unmap.release_from.Statement.{statement}
 use Rattle.tables.proofs.unmap.release_from.Tie as tie
 
 abbrev Inv-loop : tie.InvT-loop
 Inv-loop bytes₀ marks₀ tree place levels from left₀ below₀ bytes marks left below =
-    (released tree place left below (tables bytes marks) ≡ released tree place levels from (tables bytes₀ marks₀))
+    (freedTables tree place left below (tables bytes marks) ≡ freedTables tree place levels from (tables bytes₀ marks₀))
     × (left + below ≡ levels + from)
     × (length bytes ≡ length bytes₀)
     × (length marks ≡ length marks₀)

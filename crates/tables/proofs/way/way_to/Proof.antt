@@ -5,7 +5,7 @@ use mathlib.Core.Path.{_≡_, refl, ap, sym, _∙_}
 use native.Mathlib.Omega.{arith}
 use borrow.Author.Needs.{needs}
 use Rattle.dma.specs.Walk.{placeIn}
-use Rattle.tables.specs.Tables.{entryOf, tableOf}
+use Rattle.tables.specs.Tables.{heldEntry, tableOf}
 use Rattle.tables.specs.Way.{ends, wayTo, way}
 use Rattle.tables.proofs.Folds.{way-ends, way-on, way-done, made-stop}
 use Rattle.tables.proofs.way.way_to.Statement.{statement}
@@ -33,12 +33,12 @@ place-of-requires-2 c κs = let l = c .before .loop in (omega (arith, l .inv .3)
 -- the entry that a turn reads, and whether the way ends there
 module _ (c : tie.After-entry-of Inv-loop μ-loop) where
   read : c .entry-of .result
-      ≡ entryOf (c .before .before .before .before .before .args .bytes .now) (placeIn (c .before .before .before .before .before .args .place) (c .before .before .before .loop .table) (c .before .before .before .loop .below))
-  read = c .entry-of .ensures ∙ ap (entryOf _) (c .before .place-of .ensures .0)
+      ≡ heldEntry (c .before .before .before .before .before .args .bytes .now) (placeIn (c .before .before .before .before .before .args .place) (c .before .before .before .loop .table) (c .before .before .before .loop .below))
+  read = c .entry-of .ensures ∙ ap (heldEntry _) (c .before .place-of .ensures .0)
 
 told : (c : tie.After-ends Inv-loop μ-loop) {t : Bool} → c .ends .result ≡ t
     → ends (c .before .before .before .before .before .before .args .last) (c .before .before .before .before .loop .below)
-    (entryOf (c .before .before .before .before .before .before .args .bytes .now) (placeIn (c .before .before .before .before .before .before .args .place) (c .before .before .before .before .loop .table) (c .before .before .before .before .loop .below)))
+    (heldEntry (c .before .before .before .before .before .before .args .bytes .now) (placeIn (c .before .before .before .before .before .before .args .place) (c .before .before .before .before .loop .table) (c .before .before .before .before .loop .below)))
     ≡ t
 told c h = ap (λ (e : ℕ). ends (c .before .before .before .before .before .before .args .last) (c .before .before .before .before .loop .below) e) (sym (read (c .before))) ∙ sym (c .ends .ensures) ∙ h
 
@@ -74,7 +74,7 @@ returns-2 c =
     let o = c .before .before in
     let l = o .before .loop in
     let a = o .before .before .before .args in (
-      made-stop (a .bytes .now) (a .place) 0 (l .table) (c .before .place-of2 .ensures .0) (c .entry-of2 .ensures ∙ ap (entryOf (a .bytes .now)) (c .before .place-of2 .ensures .0))
+      made-stop (a .bytes .now) (a .place) 0 (l .table) (c .before .place-of2 .ensures .0) (c .entry-of2 .ensures ∙ ap (heldEntry (a .bytes .now)) (c .before .place-of2 .ensures .0))
           ∙ way-done (a .bytes .now) (a .tree .start) (a .place) (a .last) (l .table) (l .below) (o .loop-test .left)
           ∙ l .inv .0,
       (omega arith, l .inv .3),

@@ -7,7 +7,7 @@ use denote.Ref.{now}
 use lib.ListN.{length}
 use Rattle.blocks.specs.Written.{finished}
 use Rattle.traced.specs.Well.{wellTraced}
-use Rattle.trace.specs.Writer.{kept, full, unfit, next}
+use Rattle.trace.specs.Writer.{kept, full, unfit, nextBlock}
 use Rattle.trace.proofs.Writes.{fit-number, append-refused, append-fit, append-kept, append-full}
 use borrow.Author.Needs.{needs}
 use Rattle.trace.proofs.writer.append.Statement.{statement}
@@ -77,7 +77,7 @@ returns-3 c =
     let laid = last .before .before .before .before in
     let free = laid .before .before .before in
     let a = free .before .before .before .before .args in
-    ap (λ (b : List ℕ). (full (next (a .w)), b))
+    ap (λ (b : List ℕ). (full (nextBlock (a .w)), b))
     (c .before .before .before .finish .ensures ∙ ap (λ (b : List ℕ). finished b (a .w .number) 15) (laid .encode .ensures))
     ∙ append-full (a .w) (now (a .buffer)) (a .e) (fit free) (last .if2 .left)
 

@@ -5,7 +5,7 @@ use mathlib.Core.List.{List}
 use native.Mathlib.Omega.{arith}
 use denote.Ref.{now}
 use lib.ListN.{length}
-use Rattle.trace.specs.Writer.{full, unfit, next}
+use Rattle.trace.specs.Writer.{full, unfit, nextBlock}
 use Rattle.trace.proofs.Writes.{fit-number, close-refused, close-none, close-full}
 use borrow.Author.Needs.{needs}
 use Rattle.trace.proofs.writer.close.Statement.{statement}
@@ -45,7 +45,7 @@ returns-3 c =
     let last = c .before .before .before .before .before in
     let free = last .before .before in
     let a = free .before .before .before .args in
-    ap (λ (b : List ℕ). (full (next (a .w)), b)) (c .before .before .before .finish .ensures)
+    ap (λ (b : List ℕ). (full (nextBlock (a .w)), b)) (c .before .before .before .finish .ensures)
     ∙ close-full (a .w) (now (a .buffer)) (fit free) (last .if2 .left)
 
 pub close-spec : {M : Type 1} → statement M

@@ -2,7 +2,7 @@ use borrow.Author.Tests.{eq-eqb, ne-eqb}
 use mathlib.Core.Bool.{false}
 use mathlib.Core.Path.{_≡_, ap, sym, _∙_}
 use lib.ListN.{length}
-use Rattle.replay.specs.Replayed.{replayedOf}
+use Rattle.replay.specs.Answers.{replayedOf}
 use Rattle.replay.specs.declared.Replayed.{Replayed}
 use Rattle.trace_calls.specs.Calls.{badCursor, rerun, replayCall}
 use Rattle.trace_calls.proofs.Buffers.{cursor-two}

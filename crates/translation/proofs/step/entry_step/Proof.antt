@@ -1,6 +1,6 @@
 use mathlib.Core.Path.{_≡_, ap, sym, _∙_, subst}
 use native.Mathlib.Numerals.{add-one}
-use Rattle.image.specs.Entries.{fetched8}
+use Rattle.image.specs.Answers.{fetched8}
 use Rattle.image.specs.Place.{Place, entryAt}
 use Rattle.image.specs.Windows.{ofWindows}
 use Rattle.translation.specs.Answers.{StepNames}

@@ -1,8 +1,12 @@
--- An entry as the words that the code holds, and what each fetch of the code says it found.
-use Prim.Native.Nat.{ℕ, _+_, _*_, _^_}
+-- An entry as the words that the code holds, and what the code's fetches and searches say they found.
+use Prim.Native.Nat.{ℕ}
 use mathlib.Core.List.{List, [], _∷_}
+use mathlib.Core.Path.{_≡_}
+use Rattle.image.specs.Bytes.{spell}
 use Rattle.image.specs.Memory.{Fetched, missing, found}
 use Rattle.image.specs.Place.{Place, noEntry, entryAt}
+use Rattle.image.specs.Spans.{windowBy, Holds, Stands}
+use Rattle.image.specs.Windows.{Window, nowhere, spotIn}
 use Rattle.image.specs.declared.Entry16.{Entry16}
 use Rattle.image.specs.declared.Entry64.{Entry64}
 use Rattle.image.specs.declared.Found8.{Found8}
@@ -13,11 +17,10 @@ use Rattle.image.specs.declared.Found64.{Found64}
 use Rattle.image.specs.declared.Found64.the-variants as found64
 use Rattle.image.specs.declared.EntryAddress.{EntryAddress}
 use Rattle.image.specs.declared.EntryAddress.the-variants as address
-
--- the number that a run of words spells, lowest word first
-unfoldable pub spell : List ℕ → ℕ
-spell [] = 0
-spell (w ∷ ws) = w + 2 ^ 64 * spell ws
+use Rattle.image.specs.declared.entries.Held.{Held}
+use Rattle.image.specs.declared.entries.Held.the-variants as held
+use Rattle.image.specs.declared.entries.Placed.{Placed}
+use Rattle.image.specs.declared.entries.Placed.the-variants as placed
 
 abbrev pub words16 : Entry16 → List ℕ
 words16 e = e .low ∷ e .high ∷ []
@@ -60,3 +63,12 @@ missed64 (found64.Missing wanted) at = wanted
 abbrev pub placeOf : EntryAddress → Place
 placeOf address.NoEntry = noEntry
 placeOf (address.At at) = entryAt at
+
+-- the window that holds the byte at a host address, and the place of so many bytes from there on: for the code's contracts
+abbrev pub HeldBy : Held → List Window → (run at : ℕ) → Type 0
+HeldBy (held.In s) ws run at = Holds (windowBy s) ws run at
+HeldBy held.Nowhere ws run at = spotIn ws 1 at ≡ nowhere
+
+abbrev pub PlacedBy : Placed → List Window → (run size at : ℕ) → Type 0
+PlacedBy (placed.At place) ws run size at = Stands place ws run size at
+PlacedBy placed.Nowhere ws run size at = spotIn ws size at ≡ nowhere
