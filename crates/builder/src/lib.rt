@@ -11,6 +11,7 @@ use items::take_items;
 use marking::mark_tables;
 use ready::Ready;
 use ready::make_ready;
+use region::Area;
 use region::copy_in;
 use region::copy_out;
 use registers::Registers;
@@ -57,8 +58,7 @@ pub fn build(
         windows,
         memory,
         source,
-        start,
-        size,
+        Area { start, size },
         copy.len() as u64,
         marks.len() as u64,
     );

@@ -13,6 +13,7 @@ use dma::Lookup;
 use dma::find_context;
 use image::bad_windows;
 use image::first_span;
+use region::Area;
 use region::bad_region;
 use registers::Registers;
 use registers::SourceId;
@@ -30,13 +31,13 @@ fn is_sized(size: u64, copy: u64, marks: u64) -> bool
     (copy == size) & (marks == size / 4096)
 }
 
-fn is_top_outside(start: u64, size: u64, top: u64) -> bool
-    ensures { λ r. ⌜ r ≡ topOutside start size top ⌝ }
+fn is_top_outside(area: Area, top: u64) -> bool
+    ensures { λ r. ⌜ r ≡ topOutside (area .start) (area .size) top ⌝ }
 {
-    if top < start {
+    if top < area.start {
         return true;
     }
-    size <= top - start
+    area.size <= top - area.start
 }
 
 // In a context that was found.
@@ -44,32 +45,31 @@ fn ready_in(
     registers: Registers,
     windows: &[u64],
     memory: &[u8],
-    start: u64,
-    size: u64,
+    area: Area,
     copy: u64,
     marks: u64,
     context: Context,
 ) -> Ready
     requires { ⌜ (badWindows (now windows) (length (now memory)) ≡ false) × (registersBad registers ≡ false) × UsableContext context ⌝ }
-    ensures { λ r. ⌜ readinessOf r ≡ inContext registers (now (windows .entry)) (now (memory .entry)) start size copy marks context ⌝ }
+    ensures { λ r. ⌜ readinessOf r ≡ inContext registers (now (windows .entry)) (now (memory .entry)) (area .start) (area .size) copy marks context ⌝ }
     ensures { λ r. ⌜ IfReady (Usable registers copy marks) (readinessOf r) ⌝ }
 {
     if context.translation_type == 2 {
         return Ready::NotYet(2);
     }
-    if bad_region(windows, memory, registers, start, size) {
+    if bad_region(windows, memory, registers, area) {
         return Ready::NotYet(3);
     }
-    if !is_sized(size, copy, marks) {
+    if !is_sized(area.size, copy, marks) {
         return Ready::NotYet(5);
     }
     let top = context.top;
-    if is_top_outside(start, size, top) {
+    if is_top_outside(area, top) {
         return Ready::NotYet(4);
     }
     Ready::Tables(Tree {
-        start,
-        top: top - start,
+        start: area.start,
+        top: top - area.start,
         below: context.levels - 1,
     })
 }
@@ -79,12 +79,11 @@ pub(crate) fn make_ready(
     windows: &[u64],
     memory: &[u8],
     source: SourceId,
-    start: u64,
-    size: u64,
+    area: Area,
     copy: u64,
     marks: u64,
 ) -> Ready
-    ensures { λ r. ⌜ readinessOf r ≡ readiness registers (now (windows .entry)) (now (memory .entry)) start size copy marks (source .id) ⌝ }
+    ensures { λ r. ⌜ readinessOf r ≡ readiness registers (now (windows .entry)) (now (memory .entry)) (area .start) (area .size) copy marks (source .id) ⌝ }
     ensures { λ r. ⌜ IfReady (Usable registers copy marks) (readinessOf r) ⌝ }
 {
     if bad_windows(windows, memory.len()) | registers.bad() {
@@ -98,14 +97,5 @@ pub(crate) fn make_ready(
     let Lookup::Found(context, _) = found else {
         return Ready::NotYet(2);
     };
-    ready_in(
-        registers,
-        windows,
-        memory,
-        start,
-        size,
-        copy,
-        marks,
-        context,
-    )
+    ready_in(registers, windows, memory, area, copy, marks, context)
 }

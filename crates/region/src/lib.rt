@@ -7,3 +7,9 @@ mod spot;
 pub use copy::copy_in;
 pub use copy::copy_out;
 pub use region::bad_region;
+
+// So many bytes from a host address on.
+pub struct Area {
+    pub start: u64,
+    pub size: u64,
+}

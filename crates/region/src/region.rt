@@ -7,6 +7,7 @@ ghost use lib.Dec.{ltb};
 ghost use Rattle.image.specs.Windows.{ofWindows, badWindows};
 ghost use Rattle.registers.specs.Registers.{registersBad};
 ghost use Rattle.region.specs.Region.{pagesShown, badRegion};
+use crate::Area;
 use crate::shared::shares_tables;
 use crate::spot::find_spot;
 use registers::Registers;
@@ -30,35 +31,29 @@ fn pages_shown(windows: &[u64], run: usize, start: u64, pages: u64) -> bool
 }
 
 // An end past 2^HAW.
-fn past_width(haw: u8, start: u64, size: u64) -> bool
+fn past_width(haw: u8, area: Area) -> bool
     requires { ⌜ haw ≤ 52 ⌝ }
-    ensures { λ r. ⌜ r ≡ ltb (2 ^ haw) (start + size) ⌝ }
+    ensures { λ r. ⌜ r ≡ ltb (2 ^ haw) (area .start + area .size) ⌝ }
 {
     let limit = 1u64 << haw;
-    if limit < start {
+    if limit < area.start {
         return true;
     }
-    limit - start < size
+    limit - area.start < area.size
 }
 
-pub fn bad_region(
-    windows: &[u64],
-    image: &[u8],
-    registers: Registers,
-    start: u64,
-    size: u64,
-) -> bool
+pub fn bad_region(windows: &[u64], image: &[u8], registers: Registers, area: Area) -> bool
     requires { ⌜ (badWindows (now windows) (length (now image)) ≡ false) × (registersBad registers ≡ false) ⌝ }
-    ensures { λ r. ⌜ r ≡ badRegion registers (now (windows .entry)) (now (image .entry)) start size ⌝ }
+    ensures { λ r. ⌜ r ≡ badRegion registers (now (windows .entry)) (now (image .entry)) (area .start) (area .size) ⌝ }
 {
-    if (start % 4096 != 0) | (size % 4096 != 0) {
+    if (area.start % 4096 != 0) | (area.size % 4096 != 0) {
         return true;
     }
-    if past_width(registers.haw, start, size) {
+    if past_width(registers.haw, area) {
         return true;
     }
-    if !pages_shown(windows, image.len(), start, size / 4096) {
+    if !pages_shown(windows, image.len(), area.start, area.size / 4096) {
         return true;
     }
-    shares_tables(windows, image, registers, start, size)
+    shares_tables(windows, image, registers, area)
 }

@@ -7,6 +7,7 @@ ghost use Rattle.image.specs.Answers.{number16};
 ghost use Rattle.image.specs.Windows.{ofWindows, badWindows};
 ghost use Rattle.registers.specs.Registers.{registersBad};
 ghost use Rattle.region.specs.Shared.{meets as sharesByte, meetsContextTable, meetsDescriptor, meetsNamed, meetsNamedAt, anyNamed, interruptEntries, sharesTables};
+use crate::Area;
 use dma::table_address;
 use image::Entry16;
 use image::Found16;
@@ -16,80 +17,72 @@ use irte::descriptor_address;
 use registers::Registers;
 
 // Neither sum can wrap: that of the other bytes isn't made.
-fn meets(start: u64, size: u64, other: u64, n: u64) -> bool
-    requires { ⌜ (start + size < 2 ^ 63) × (0 < n) ⌝ }
-    ensures { λ r. ⌜ r ≡ sharesByte start size other n ⌝ }
+fn meets(area: Area, other: u64, n: u64) -> bool
+    requires { ⌜ (area .start + area .size < 2 ^ 63) × (0 < n) ⌝ }
+    ensures { λ r. ⌜ r ≡ sharesByte (area .start) (area .size) other n ⌝ }
 {
-    if size == 0 {
+    if area.size == 0 {
         return false;
     }
-    if start + size <= other {
+    if area.start + area.size <= other {
         return false;
     }
-    if start < n {
+    if area.start < n {
         return true;
     }
-    start - n < other
+    area.start - n < other
 }
 
-fn meets_context_table(start: u64, size: u64, e: Entry16) -> bool
-    requires { ⌜ start + size < 2 ^ 63 ⌝ }
-    ensures { λ r. ⌜ r ≡ meetsContextTable start size (number16 e) ⌝ }
+fn meets_context_table(area: Area, e: Entry16) -> bool
+    requires { ⌜ area .start + area .size < 2 ^ 63 ⌝ }
+    ensures { λ r. ⌜ r ≡ meetsContextTable (area .start) (area .size) (number16 e) ⌝ }
 {
-    bit16(e, 0) & meets(start, size, table_address(e), 4096)
+    bit16(e, 0) & meets(area, table_address(e), 4096)
 }
 
-fn meets_descriptor(start: u64, size: u64, e: Entry16) -> bool
-    requires { ⌜ start + size < 2 ^ 63 ⌝ }
-    ensures { λ r. ⌜ r ≡ meetsDescriptor start size (number16 e) ⌝ }
+fn meets_descriptor(area: Area, e: Entry16) -> bool
+    requires { ⌜ area .start + area .size < 2 ^ 63 ⌝ }
+    ensures { λ r. ⌜ r ≡ meetsDescriptor (area .start) (area .size) (number16 e) ⌝ }
 {
-    bit16(e, 0) & bit16(e, 15) & meets(start, size, descriptor_address(e), 64)
+    bit16(e, 0) & bit16(e, 15) & meets(area, descriptor_address(e), 64)
 }
 
-fn meets_named(posted: bool, start: u64, size: u64, e: Entry16) -> bool
-    requires { ⌜ start + size < 2 ^ 63 ⌝ }
-    ensures { λ r. ⌜ r ≡ meetsNamed posted start size (number16 e) ⌝ }
+fn meets_named(posted: bool, area: Area, e: Entry16) -> bool
+    requires { ⌜ area .start + area .size < 2 ^ 63 ⌝ }
+    ensures { λ r. ⌜ r ≡ meetsNamed posted (area .start) (area .size) (number16 e) ⌝ }
 {
     if posted {
-        return meets_descriptor(start, size, e);
+        return meets_descriptor(area, e);
     }
-    meets_context_table(start, size, e)
+    meets_context_table(area, e)
 }
 
 // What an entry at an address names, if it can be fetched.
-fn meets_named_at(
-    windows: &[u64],
-    image: &[u8],
-    posted: bool,
-    start: u64,
-    size: u64,
-    at: u64,
-) -> bool
-    requires { ⌜ (badWindows (now windows) (length (now image)) ≡ false) × (start + size < 2 ^ 63) × (at % 16 ≡ 0) ⌝ }
-    ensures { λ r. ⌜ r ≡ meetsNamedAt posted start size (ofWindows (now (windows .entry)) (now (image .entry))) at ⌝ }
+fn meets_named_at(windows: &[u64], image: &[u8], posted: bool, area: Area, at: u64) -> bool
+    requires { ⌜ (badWindows (now windows) (length (now image)) ≡ false) × (area .start + area .size < 2 ^ 63) × (at % 16 ≡ 0) ⌝ }
+    ensures { λ r. ⌜ r ≡ meetsNamedAt posted (area .start) (area .size) (ofWindows (now (windows .entry)) (now (image .entry))) at ⌝ }
 {
     let Found16::Entry(e) = fetch16(windows, image, at) else {
         return false;
     };
-    meets_named(posted, start, size, e)
+    meets_named(posted, area, e)
 }
 
 fn any_named(
     windows: &[u64],
     image: &[u8],
     posted: bool,
-    start: u64,
-    size: u64,
+    area: Area,
     table: u64,
     entries: u64,
 ) -> bool
-    requires { ⌜ (badWindows (now windows) (length (now image)) ≡ false) × (start + size < 2 ^ 63) × (table % 16 ≡ 0) × (table + 16 * entries < 2 ^ 64) ⌝ }
-    ensures { λ r. ⌜ r ≡ anyNamed posted start size (ofWindows (now (windows .entry)) (now (image .entry))) entries table ⌝ }
+    requires { ⌜ (badWindows (now windows) (length (now image)) ≡ false) × (area .start + area .size < 2 ^ 63) × (table % 16 ≡ 0) × (table + 16 * entries < 2 ^ 64) ⌝ }
+    ensures { λ r. ⌜ r ≡ anyNamed posted (area .start) (area .size) (ofWindows (now (windows .entry)) (now (image .entry))) entries table ⌝ }
 {
     let mut left = entries;
     let mut at = table;
     while 0 < left {
-        if meets_named_at(windows, image, posted, start, size, at) {
+        if meets_named_at(windows, image, posted, area, at) {
             return true;
         }
         left -= 1;
@@ -105,40 +98,25 @@ fn interrupt_entries(registers: Registers) -> u64
     1u64 << (registers.s + 1)
 }
 
-pub(crate) fn shares_tables(
-    windows: &[u64],
-    image: &[u8],
-    registers: Registers,
-    start: u64,
-    size: u64,
-) -> bool
-    requires { ⌜ (badWindows (now windows) (length (now image)) ≡ false) × (registersBad registers ≡ false) × (start + size < 2 ^ 63) ⌝ }
-    ensures { λ r. ⌜ r ≡ sharesTables registers start size (ofWindows (now (windows .entry)) (now (image .entry))) ⌝ }
+pub(crate) fn shares_tables(windows: &[u64], image: &[u8], registers: Registers, area: Area) -> bool
+    requires { ⌜ (badWindows (now windows) (length (now image)) ≡ false) × (registersBad registers ≡ false) × (area .start + area .size < 2 ^ 63) ⌝ }
+    ensures { λ r. ⌜ r ≡ sharesTables registers (area .start) (area .size) (ofWindows (now (windows .entry)) (now (image .entry))) ⌝ }
 {
     let entries = interrupt_entries(registers);
-    if meets(start, size, registers.root_table, 4096) {
+    if meets(area, registers.root_table, 4096) {
         return true;
     }
-    if any_named(
-        windows,
-        image,
-        false,
-        start,
-        size,
-        registers.root_table,
-        256,
-    ) {
+    if any_named(windows, image, false, area, registers.root_table, 256) {
         return true;
     }
-    if meets(start, size, registers.interrupt_table, 16 * entries) {
+    if meets(area, registers.interrupt_table, 16 * entries) {
         return true;
     }
     any_named(
         windows,
         image,
         true,
-        start,
-        size,
+        area,
         registers.interrupt_table,
         entries,
     )

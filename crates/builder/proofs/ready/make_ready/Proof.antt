@@ -23,14 +23,14 @@ returns : tie.Need-returns
 returns c =
     let b = c .before in
     let a = b .before .before .before .before .args in
-    (refused-1 (a .registers) (a .windows .now) (a .memory .now) (a .start) (a .size) (a .copy) (a .marks) (a .source .id) (told b (c .if1 .taken)), tt)
+    (refused-1 (a .registers) (a .windows .now) (a .memory .now) (a .area .start) (a .area .size) (a .copy) (a .marks) (a .source .id) (told b (c .if1 .taken)), tt)
 
 returns-2 : tie.Need-returns-2
 returns-2 c =
     let e = c .before .before in
     let b = e .before in
     let a = b .before .before .before .before .args in
-    (off-1 (a .registers) (a .windows .now) (a .memory .now) (a .start) (a .size) (a .copy) (a .marks) (a .source .id) (told b (e .if1 .left)) (c .if2 .taken), tt)
+    (off-1 (a .registers) (a .windows .now) (a .memory .now) (a .area .start) (a .area .size) (a .copy) (a .marks) (a .source .id) (told b (e .if1 .left)) (c .if2 .taken), tt)
 
 -- neither windows nor registers are refused
 fine : (e : tie.Else1)
@@ -57,8 +57,8 @@ returns-3 c =
     let e = n .before .before in
     let b = e .before in
     let a = b .before .before .before .before .args in (
-      ap (λ (l : Lookup). onLookup l (λ reason fpd. notYet 2) (inContext (a .registers) (a .windows .now) (a .memory .now) (a .start) (a .size) (a .copy) (a .marks))) (sym (ap lookupOf (c .enum-told .given .1)) ∙ f .find-context .ensures .0)
-          ∙ looked (a .registers) (a .windows .now) (a .memory .now) (a .start) (a .size) (a .copy) (a .marks) (a .source .id) (told b (e .if1 .left)) (n .if2 .left),
+      ap (λ (l : Lookup). onLookup l (λ reason fpd. notYet 2) (inContext (a .registers) (a .windows .now) (a .memory .now) (a .area .start) (a .area .size) (a .copy) (a .marks))) (sym (ap lookupOf (c .enum-told .given .1)) ∙ f .find-context .ensures .0)
+          ∙ looked (a .registers) (a .windows .now) (a .memory .now) (a .area .start) (a .area .size) (a .copy) (a .marks) (a .source .id) (told b (e .if1 .left)) (n .if2 .left),
       tt,
     )
 
@@ -84,8 +84,8 @@ returns-4 c =
     let b = e .before in
     let a = b .before .before .before .before .args in (
       c .ready-in .ensures .0
-          ∙ ap (λ (l : Lookup). onLookup l (λ reason fpd. notYet 2) (inContext (a .registers) (a .windows .now) (a .memory .now) (a .start) (a .size) (a .copy) (a .marks))) (sym (ap lookupOf (d .found .given .1)) ∙ f .find-context .ensures .0)
-          ∙ looked (a .registers) (a .windows .now) (a .memory .now) (a .start) (a .size) (a .copy) (a .marks) (a .source .id) (told b (e .if1 .left)) (n .if2 .left),
+          ∙ ap (λ (l : Lookup). onLookup l (λ reason fpd. notYet 2) (inContext (a .registers) (a .windows .now) (a .memory .now) (a .area .start) (a .area .size) (a .copy) (a .marks))) (sym (ap lookupOf (d .found .given .1)) ∙ f .find-context .ensures .0)
+          ∙ looked (a .registers) (a .windows .now) (a .memory .now) (a .area .start) (a .area .size) (a .copy) (a .marks) (a .source .id) (told b (e .if1 .left)) (n .if2 .left),
       c .ready-in .ensures .1,
     )
 

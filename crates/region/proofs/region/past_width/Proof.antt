@@ -11,15 +11,18 @@ use Rattle.region.proofs.region.past_width.Tie as tie
 
 returns : tie.Need-returns
 returns c =
-    let a = c .before .args in
-    let is = shifted-one (a .haw) (omega (arith, c .before .pre)) in
-    sym (lt-ltb (2 ^ a .haw) (a .start + a .size) (omega (arith, is, c .if1 .taken)))
+    let s = c .before .before in
+    let a = s .args in
+    let is = shifted-one (a .haw) (omega (arith, s .pre)) in
+    sym (lt-ltb (2 ^ a .haw) (a .area .start + a .area .size) (omega (arith, is, c .if1 .taken)))
 
 returns-2 : tie.Need-returns-2
 returns-2 c =
-    let a = c .before .args in
-    let is = shifted-one (a .haw) (omega (arith, c .before .pre)) in
-    ap (λ (limit : ℕ). ltb (limit - a .start) (a .size)) is ∙ past (2 ^ a .haw) (a .start) (a .size) (omega (arith, is, c .if1 .left))
+    let e = c .before .before in
+    let s = e .before .before in
+    let a = s .args in
+    let is = shifted-one (a .haw) (omega (arith, s .pre)) in
+    ap (λ (limit : ℕ). ltb (limit - a .area .start) (a .area .size)) is ∙ past (2 ^ a .haw) (a .area .start) (a .area .size) (omega (arith, is, e .if1 .left))
 
 pub past-width-spec : {M : Type 1} → statement M
 past-width-spec = tie.close (tie.spec

@@ -9,13 +9,13 @@ use Rattle.region.proofs.shared.any_named.Statement.{statement}
 use Rattle.region.proofs.shared.any_named.Tie as tie
 
 abbrev Inv-loop : tie.InvT-loop
-Inv-loop windows image posted start size table entries left₀ at₀ left at =
-    (anyNamed posted start size (ofWindows windows image) left at ≡ anyNamed posted start size (ofWindows windows image) entries table)
+Inv-loop windows image posted area table entries left₀ at₀ left at =
+    (anyNamed posted (area .start) (area .size) (ofWindows windows image) left at ≡ anyNamed posted (area .start) (area .size) (ofWindows windows image) entries table)
     × (at + 16 * left ≡ table + 16 * entries)
     × (at % 16 ≡ 0)
 
 abbrev μ-loop : tie.MeasureT-loop
-μ-loop windows image posted start size table entries left₀ at₀ left at = left
+μ-loop windows image posted area table entries left₀ at₀ left at = left
 
 loop-holds : tie.Need-loop-holds Inv-loop μ-loop
 loop-holds c = (refl, refl, c .before .before .pre .2)
@@ -30,7 +30,7 @@ returns c =
     let i = c .before .before in
     let l = i .before .loop in
     let a = i .before .before .before .before .args in
-    named-one (a .posted) (a .start) (a .size) (ofWindows (a .windows .now) (a .image .now)) (l .left) (l .at) (i .loop-test .taken) (sym (c .before .meets-named-at .ensures) ∙ c .if1 .taken)
+    named-one (a .posted) (a .area .start) (a .area .size) (ofWindows (a .windows .now) (a .image .now)) (l .left) (l .at) (i .loop-test .taken) (sym (c .before .meets-named-at .ensures) ∙ c .if1 .taken)
     ∙ l .inv .0
 
 add-at : tie.Need-add-at Inv-loop μ-loop
@@ -45,7 +45,7 @@ loop-again c =
     let i = c .before .before in
     let l = i .before .loop in
     let a = i .before .before .before .before .args in (
-      named-on (a .posted) (a .start) (a .size) (ofWindows (a .windows .now) (a .image .now)) (l .left) (l .at) (i .loop-test .taken) (sym (c .before .meets-named-at .ensures) ∙ c .if1 .left)
+      named-on (a .posted) (a .area .start) (a .area .size) (ofWindows (a .windows .now) (a .image .now)) (l .left) (l .at) (i .loop-test .taken) (sym (c .before .meets-named-at .ensures) ∙ c .if1 .left)
           ∙ l .inv .0,
       omega (arith, l .inv .1, i .loop-test .taken),
       omega (arith, l .inv .2),
@@ -55,7 +55,7 @@ returns-2 : tie.Need-returns-2 Inv-loop μ-loop
 returns-2 c =
     let l = c .before .loop in
     let a = c .before .before .before .before .args in
-    named-done (a .posted) (a .start) (a .size) (ofWindows (a .windows .now) (a .image .now)) (l .left) (l .at) (c .loop-test .left)
+    named-done (a .posted) (a .area .start) (a .area .size) (ofWindows (a .windows .now) (a .image .now)) (l .left) (l .at) (c .loop-test .left)
     ∙ l .inv .0
 
 pub any-named-spec : {M : Type 1} → statement M

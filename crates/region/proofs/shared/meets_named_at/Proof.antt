@@ -11,7 +11,7 @@ returns : tie.Need-returns
 returns c =
     let f = c .before .before in
     let a = f .before .before .before .args in
-    ap (λ (x : Fetched). onFetch x false (meetsNamed (a .posted) (a .start) (a .size))) (sym (ap fetched16 (c .enum-told .given .1)) ∙ f .fetch16 .ensures .0)
+    ap (λ (x : Fetched). onFetch x false (meetsNamed (a .posted) (a .area .start) (a .area .size))) (sym (ap fetched16 (c .enum-told .given .1)) ∙ f .fetch16 .ensures .0)
 
 returns-2 : tie.Need-returns-2
 returns-2 c =
@@ -19,7 +19,7 @@ returns-2 c =
     let f = e .before .before in
     let a = f .before .before .before .args in
     c .meets-named .ensures
-    ∙ ap (λ (x : Fetched). onFetch x false (meetsNamed (a .posted) (a .start) (a .size))) (sym (ap fetched16 (e .e .given .1)) ∙ f .fetch16 .ensures .0)
+    ∙ ap (λ (x : Fetched). onFetch x false (meetsNamed (a .posted) (a .area .start) (a .area .size))) (sym (ap fetched16 (e .e .given .1)) ∙ f .fetch16 .ensures .0)
 
 pub meets-named-at-spec : {M : Type 1} → statement M
 meets-named-at-spec =

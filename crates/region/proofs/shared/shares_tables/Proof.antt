@@ -23,7 +23,7 @@ returns : tie.Need-returns
 returns c =
     let m = c .before in
     let a = m .before .before .before .before .args in
-    shares-1 (a .registers) (a .start) (a .size) (ofWindows (a .windows .now) (a .image .now)) (sym (m .meets .ensures) ∙ c .if1 .taken)
+    shares-1 (a .registers) (a .area .start) (a .area .size) (ofWindows (a .windows .now) (a .image .now)) (sym (m .meets .ensures) ∙ c .if1 .taken)
 
 any-named-requires : tie.Need-any-named-requires
 any-named-requires c κs =
@@ -39,7 +39,7 @@ returns-2 c =
     let e = x .before in
     let m = e .before in
     let a = m .before .before .before .before .args in
-    shares-2 (a .registers) (a .start) (a .size) (ofWindows (a .windows .now) (a .image .now)) (sym (m .meets .ensures) ∙ e .if1 .left) (sym (x .any-named .ensures) ∙ c .if2 .taken)
+    shares-2 (a .registers) (a .area .start) (a .area .size) (ofWindows (a .windows .now) (a .image .now)) (sym (m .meets .ensures) ∙ e .if1 .left) (sym (x .any-named .ensures) ∙ c .if2 .taken)
 
 mul-meets : tie.Need-mul-meets
 mul-meets c = let n = c .before .before .before .before in omega (arith, n .interrupt-entries .ensures .2)
@@ -51,13 +51,13 @@ meets-requires-2 c κs =
 
 -- the third test, by the count of entries
 third : (m : tie.After-meets2) {t : Bool} → m .meets2 .result ≡ t
-    → meets (m .before .before .before .before .before .before .before .before .args .start) (m .before .before .before .before .before .before .before .before .args .size)
+    → meets (m .before .before .before .before .before .before .before .before .args .area .start) (m .before .before .before .before .before .before .before .before .args .area .size)
     (m .before .before .before .before .before .before .before .before .args .registers .«interrupt_table») (16 * interruptEntries (m .before .before .before .before .before .before .before .before .args .registers))
     ≡ t
 third m h =
     let n = m .before .before .before .before .before in
     let a = n .before .before .before .args in
-    ap (λ (k : ℕ). meets (a .start) (a .size) (a .registers .«interrupt_table») (16 * k)) (sym (n .interrupt-entries .ensures .0)) ∙ sym (m .meets2 .ensures) ∙ h
+    ap (λ (k : ℕ). meets (a .area .start) (a .area .size) (a .registers .«interrupt_table») (16 * k)) (sym (n .interrupt-entries .ensures .0)) ∙ sym (m .meets2 .ensures) ∙ h
 
 returns-3 : tie.Need-returns-3
 returns-3 c =
@@ -67,7 +67,7 @@ returns-3 c =
     let e = x .before in
     let m = e .before in
     let a = m .before .before .before .before .args in
-    shares-3 (a .registers) (a .start) (a .size) (ofWindows (a .windows .now) (a .image .now)) (sym (m .meets .ensures) ∙ e .if1 .left) (sym (x .any-named .ensures) ∙ e2 .if2 .left) (third m2 (c .if3 .taken))
+    shares-3 (a .registers) (a .area .start) (a .area .size) (ofWindows (a .windows .now) (a .image .now)) (sym (m .meets .ensures) ∙ e .if1 .left) (sym (x .any-named .ensures) ∙ e2 .if2 .left) (third m2 (c .if3 .taken))
 
 any-named-requires-2 : tie.Need-any-named-requires-2
 any-named-requires-2 c κs =
@@ -89,8 +89,8 @@ returns-4 c =
     let i = m .before in
     let a = m .before .before .before .before .args in
     c .any-named2 .ensures
-    ∙ ap (λ (k : ℕ). anyNamed true (a .start) (a .size) (ofWindows (a .windows .now) (a .image .now)) k (a .registers .«interrupt_table»)) (i .interrupt-entries .ensures .0)
-    ∙ shares-4 (a .registers) (a .start) (a .size) (ofWindows (a .windows .now) (a .image .now)) (sym (m .meets .ensures) ∙ e .if1 .left) (sym (x .any-named .ensures) ∙ e2 .if2 .left) (third m2 (e3 .if3 .left))
+    ∙ ap (λ (k : ℕ). anyNamed true (a .area .start) (a .area .size) (ofWindows (a .windows .now) (a .image .now)) k (a .registers .«interrupt_table»)) (i .interrupt-entries .ensures .0)
+    ∙ shares-4 (a .registers) (a .area .start) (a .area .size) (ofWindows (a .windows .now) (a .image .now)) (sym (m .meets .ensures) ∙ e .if1 .left) (sym (x .any-named .ensures) ∙ e2 .if2 .left) (third m2 (e3 .if3 .left))
 
 pub shares-tables-spec : {M : Type 1} → statement M
 shares-tables-spec =
