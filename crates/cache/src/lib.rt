@@ -5,9 +5,9 @@ ghost use Prim.Native.Nat.{_%_};
 ghost use lib.ListN.{length, replicate};
 ghost use Rattle.image.specs.Place.{stoppedAt};
 ghost use Rattle.image.specs.Rules.{run};
-ghost use Rattle.image.specs.Windows.{ofWindows, badWindows};
-ghost use Rattle.dma.specs.Answers.{outcomeOf, entryOf};
-ghost use Rattle.dma.specs.Requests.{memoryOutcome, concerned};
+ghost use Rattle.image.specs.Spans.{Opened};
+ghost use Rattle.image.specs.Windows.{ofWindows};
+ghost use Rattle.dma.specs.Answers.{translationOf, Names, outcomeOf, entryOf};
 ghost use Rattle.dma.specs.Translation.{translationRules};
 ghost use Rattle.cache.specs.Engine.{domainOver};
 ghost use Rattle.cache.specs.Numbers.{kept, cachedAnswer, cachedPlace, cachedState, stateWithout};
@@ -18,10 +18,12 @@ mod state;
 use dma::Lookup;
 use dma::MemoryAnswer;
 use dma::MemoryRequest;
+use dma::Translation;
 use dma::answer;
 use dma::find_context;
 use dma::translate_in;
 use dma::without_context;
+use image::Span;
 use image::bad_windows;
 use image::first_span;
 use places::WORDS;
@@ -35,27 +37,27 @@ use state::held_address;
 use state::keep;
 use state::newest;
 
-// The walk, where nothing that is held answers; a page that is granted is held.
-fn walk_and_keep(
-    registers: Registers,
+// The translation, where nothing that is held answers; a page that is granted is held.
+fn translate_and_keep(
+    first: Span,
     windows: &[u64],
     image: &[u8],
-    state: &mut [u64],
+    registers: Registers,
     request: MemoryRequest,
-) -> MemoryAnswer
-    requires { ⌜ (badWindows (now windows) (length (now image)) ≡ false) × (registers .«root_table» % 4096 ≡ 0) ⌝ }
-    ensures { λ r. ⌜ outcomeOf r ≡ memoryOutcome request (run (translationRules registers (request .address) (request .write) (request .source .id)) (ofWindows (now (windows .entry)) (now (image .entry)))) ⌝ }
-    ensures { λ r. ⌜ entryOf r ≡ concerned (outcomeOf r) (stoppedAt (translationRules registers (request .address) (request .write) (request .source .id)) (ofWindows (now (windows .entry)) (now (image .entry)))) ⌝ }
+    state: &mut [u64],
+) -> Translation
+    requires { ⌜ Opened first (now windows) (length (now image)) × (registers .«root_table» % 4096 ≡ 0) ⌝ }
+    ensures { λ r. ⌜ translationOf r ≡ run (translationRules registers (request .address) (request .write) (request .source .id)) (ofWindows (now (windows .entry)) (now (image .entry))) ⌝ }
+    ensures { λ r. ⌜ Names r (stoppedAt (translationRules registers (request .address) (request .write) (request .source .id)) (ofWindows (now (windows .entry)) (now (image .entry)))) ⌝ }
     ensures { λ _. ⌜ now (state .exit) ≡ kept (now (state .entry)) request (run (translationRules registers (request .address) (request .write) (request .source .id)) (ofWindows (now (windows .entry)) (now (image .entry)))) (domainOver registers (request .source .id) (ofWindows (now (windows .entry)) (now (image .entry)))) ⌝ }
 {
-    let first = first_span(windows);
     let found = find_context(first, windows, image, registers, request.source);
     let Lookup::Found(context, at) = found else {
-        return answer(request, without_context(found));
+        return without_context(found);
     };
     let translated = translate_in(first, windows, image, registers, request, context, at);
     keep(state, request, translated, context.domain);
-    answer(request, translated)
+    translated
 }
 
 // Where a read or a write of a device may go, from what is held or by the walk.
@@ -81,7 +83,11 @@ pub fn cached_request(
             if age < 64 {
                 return MemoryAnswer::Granted(held_address(state, age, request.address));
             }
-            walk_and_keep(registers, windows, image, state, request)
+            let first = first_span(windows);
+            answer(
+                request,
+                translate_and_keep(first, windows, image, registers, request, state),
+            )
         }
     }
 }

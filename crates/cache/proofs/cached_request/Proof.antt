@@ -6,10 +6,12 @@ use native.Mathlib.Omega.{arith}
 use denote.Ref.{now}
 use lib.ListN.{length}
 use Rattle.image.specs.Windows.{ofWindows, badWindows}
+use Rattle.image.proofs.GoodWindows.{three-each}
 use Rattle.registers.specs.Answers.{admittedOf}
 use Rattle.dma.specs.Answers.{outcomeOf, entryOf}
-use Rattle.dma.specs.Requests.{granted}
+use Rattle.dma.specs.Requests.{granted, memoryOutcome}
 use Rattle.dma.proofs.Admissions.{taken-root}
+use Rattle.dma.proofs.Forks.{reachable}
 use Rattle.registers.specs.Admission.{takenUp, admission}
 use Rattle.cache.specs.Numbers.{newest, heldAddress}
 use Rattle.cache.proofs.Answered.{state-refuses, state-passes, state-hits, state-misses}
@@ -21,7 +23,7 @@ use Rattle.cache.proofs.cached_request.Reads as reads
 use Rattle.cache.proofs.cached_request.Lts as lts
 use Rattle.cache.proofs.state.held_address.Reads as held-address-reads
 use Rattle.cache.proofs.state.newest.Reads as newest-reads
-use Rattle.cache.proofs.walk_and_keep.Reads as walk-and-keep-reads
+use Rattle.cache.proofs.translate_and_keep.Reads as translate-and-keep-reads
 use Rattle.image.proofs.bad_windows.Reads as bad-windows-reads
 use Rattle.registers.proofs.admit.Reads as admit-reads
 use Rattle.registers.proofs.in_interrupt_range.Reads as in-interrupt-range-reads
@@ -81,11 +83,23 @@ returns-2 c =
     let told = ap granted (c .held-address .ensures ∙ ap (λ x. heldAddress st x (a .request .address)) (n .newest .ensures)) in
     (rw good (told ∙ is .0), (rw good (is .1), rw good (is .2)))
 
-walk-and-keep-requires : tie.Need-walk-and-keep-requires
-walk-and-keep-requires c κs =
-    let k = c .before .before in
-    let a = k .before .before .before .before .before .before .before .before .before .before .before .args in
-    (fine (k .before .before .before .before .before .before), taken-root (a .registers) _ _ (taken k))
+first-span-requires : tie.Need-first-span-requires
+first-span-requires c κs =
+    let n = c .before in
+    let a = n .before .before .before .before .before .before .before .before .before .before .before .args in
+    three-each (now (a .windows)) (length (now (a .image))) (fine (n .before .before .before .before .before .before)) .1
+
+translate-and-keep-requires : tie.Need-translate-and-keep-requires
+translate-and-keep-requires c κs =
+    let n = c .before .before .before in
+    ((fine (n .before .before .before .before .before .before), c .before .first-span .ensures), taken-root _ _ _ (taken n))
+
+answer-requires : tie.Need-answer-requires
+answer-requires c κs =
+    let w = c .before .before in
+    let n = w .before .before .before .before in
+    let a = n .before .before .before .before .before .before .before .before .before .before .before .args in
+    rw (w .translate-and-keep .ensures .0) (reachable (a .registers) (a .request) (ofWindows (now (a .windows)) (now (a .image))) (taken-root _ _ _ (taken n)))
 
 returns-3 : tie.Need-returns-3
 returns-3 c =
@@ -110,14 +124,16 @@ same-length-2 c = search needs
 
 returns-5 : tie.Need-returns-5
 returns-5 c =
-    let w = c .before .before in
-    let n = w .before .before .before in
+    let w = c .before .before .before in
+    let n = w .before .before .before .before in
     let k = n .before .before .before .before in
     let a = k .before .before .before .before .before .before .before .args in
-    let m = ofWindows (now (a .windows)) (now (a .image)) in
     let st = now (a .state) in
-    let none : 64 ≤ newest st (a .request) = subst (λ x. 64 ≤ x) (n .newest .ensures) (omega (arith, w .before .before .if2 .left)) in
-    let is = state-misses (a .registers) st (a .request) m (k .before .in-interrupt-range .ensures) (taken n) none _ _ _ (w .walk-and-keep .ensures .0) (w .walk-and-keep .ensures .1 .0) (w .walk-and-keep .ensures .1 .1) in
+    let none : 64 ≤ newest st (a .request) = subst (λ x. 64 ≤ x) (n .newest .ensures) (omega (arith, w .before .before .before .if2 .left)) in
+    let is =
+    state-misses (a .registers) st (a .request) (ofWindows (now (a .windows)) (now (a .image))) (k .before .in-interrupt-range .ensures) (taken n) none _ _ _
+    (c .answer .ensures .0 ∙ ap (memoryOutcome (a .request)) (w .translate-and-keep .ensures .0))
+    (c .answer .ensures .1 _ (w .translate-and-keep .ensures .1 .0)) (w .translate-and-keep .ensures .1 .1) in
     let good = fine (k .before .before) in
     (rw good (is .0), (rw good (is .1), rw good (is .2)))
 
@@ -136,7 +152,9 @@ cached-request-spec =
     held-address-requires
     same-length
     returns-2
-    walk-and-keep-requires
+    first-span-requires
+    translate-and-keep-requires
+    answer-requires
     returns-3
     returns-4
     same-length-2
