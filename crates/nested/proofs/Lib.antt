@@ -1,5 +1,6 @@
 pub mod Few
 pub mod Firsts
+pub mod Leads
 pub mod Nested
 pub mod Rests
 pub mod Thens
