@@ -24,6 +24,7 @@ use Rattle.pasid.specs.Table.{tableReserved, tableInvalid, tableCheck}
 use Rattle.pasid.specs.declared.Pasid.{Pasid}
 use Rattle.pasid.specs.declared.ScalableRegisters.{ScalableRegisters}
 use Rattle.pasid.specs.declared.context.ScalableContext.{ScalableContext}
+use Rattle.pasid.specs.declared.directory.PasidTable.{PasidTable}
 use Rattle.pasid.specs.declared.table.PasidEntry.{PasidEntry}
 use Rattle.first.specs.First.{FirstStep, down as downTo, page as pageAt, fault as stopped, onFirst, flagClear, firstReserved, notSnooped, userDenied, writeDenied, firstFrame, firstStep, notCanonical}
 use Rattle.second.specs.Second.{Walked, page, fault as noPage, SecondHanded as Above, readable, writable, flagsNotSnooped, secondFlags, handedOn, atTop, noSecondEntry, secondStep, secondRules}
@@ -103,9 +104,9 @@ module _ (r : ScalableRegisters) where
       (tested _ (contextInvalid pasid e) 0x43 _ refl
       (tested _ (pasid .present && not (bit e 3)) 0x45 _ refl (tested _ (pasid .present && beyond e (pasid .value)) 0x46 _ refl tt))))
 
-  directory-checks : (e : ℕ) → Checks (λ table. Unit {0}) (directoryCheck (r .base .haw) e)
+  directory-checks : (fpd : Bool) (e : ℕ) → Checks (λ t. Unit {0}) (directoryCheck (r .base .haw) fpd e)
   unfolding directoryCheck
-  directory-checks e = tested _ (not (bit e 0)) 0x51 _ refl (tested _ (directoryReserved (r .base .haw) e) 0x52 _ refl tt)
+  directory-checks fpd e = tested _ (not (bit e 0)) 0x51 _ refl (tested _ (directoryReserved (r .base .haw) e) 0x52 _ refl tt)
 
   table-checks : (privileged fpd : Bool) (e : ℕ) → Checks Levels (tableCheck r privileged fpd e)
   unfolding tableCheck
@@ -114,12 +115,12 @@ module _ (r : ScalableRegisters) where
       (tested _ (tableReserved r e) 0x5A _ refl
       (tested _ (tableInvalid r e) 0x5B _ refl (tested _ (privileged && not (bit e 128)) 0x5D _ refl (omega arith, omega arith))))
 
-  table-told : (c : ScalableContext) (fpd : Bool) (table : ℕ) → Told OutLookup SaysLookup (tableRules r c fpd table)
+  table-told : (c : ScalableContext) (t : PasidTable) → Told OutLookup SaysLookup (tableRules r c t)
   unfolding tableRules
-  table-told c fpd table =
+  table-told c t =
       told-fetch OutLookup SaysLookup _ _ _ _ tt
       (λ e.
-      told-check OutLookup SaysLookup Levels (tableCheck r (c .privileged) fpd e) (λ reason. noPasidEntry reason (fpd || bit e 1)) (λ p. answer (pasidEntry p)) (table-checks (c .privileged) fpd e)
+      told-check OutLookup SaysLookup Levels (tableCheck r (c .privileged) (t .fpd) e) (λ reason. noPasidEntry reason (t .fpd || bit e 1)) (λ p. answer (pasidEntry p)) (table-checks (c .privileged) (t .fpd) e)
       (λ reason h. h) (λ p h. told-answer OutLookup SaysLookup (pasidEntry p) h))
 
   directory-told : (c : ScalableContext) → Told OutLookup SaysLookup (directoryRules r c)
@@ -127,8 +128,8 @@ module _ (r : ScalableRegisters) where
   directory-told c =
       told-fetch OutLookup SaysLookup _ _ _ _ tt
       (λ e.
-      told-check OutLookup SaysLookup _ (directoryCheck (r .base .haw) e) (λ reason. noPasidEntry reason (c .fpd || bit e 1)) (tableRules r c (c .fpd || bit e 1)) (directory-checks e)
-      (λ reason h. h) (λ table h. table-told c (c .fpd || bit e 1) table))
+      told-check OutLookup SaysLookup _ (directoryCheck (r .base .haw) (c .fpd) e) (λ reason. noPasidEntry reason (c .fpd || bit e 1)) (tableRules r c) (directory-checks (c .fpd) e)
+      (λ reason h. h) (λ t h. table-told c t))
 
   context-told : (pasid : Pasid) (source table : ℕ) → Told OutLookup SaysLookup (contextRules r pasid source table)
   unfolding contextRules

@@ -1,4 +1,4 @@
-// The context entry of scalable mode, 32 bytes.
+// The context entry of scalable mode, 32 bytes, which are held as 64 whose upper half is 0.
 ghost use mathlib.Core.Path.{_≡_};
 ghost use Prim.Native.Nat.{_^_, _<_};
 ghost use Rattle.image.specs.Bits.{bits, anySet};

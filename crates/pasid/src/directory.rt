@@ -1,12 +1,23 @@
 // The PASID directory entry, 8 bytes.
 ghost use mathlib.Core.Path.{_≡_};
-ghost use Rattle.pasid.specs.Answers.{addressOf};
+ghost use Rattle.pasid.specs.Answers.{directoryChecked};
 ghost use Rattle.pasid.specs.Directory.{directoryReserved, directoryCheck};
-use crate::entry::TableAddress;
 use crate::reason::ScalableReason;
 use image::field;
 use image::in_place;
 use registers::at_or_above_power;
+
+// The PASID table that the entry leads to, and FPD of the context or of this entry.
+pub struct PasidTable {
+    pub address: u64,
+    pub fpd: bool,
+}
+
+pub enum DirectoryCheck {
+    // Why the request ends here.
+    Stop(ScalableReason),
+    Go(PasidTable),
+}
 
 // Bits 11:2 and 63:HAW.
 fn directory_reserved(haw: u8, e: u64) -> bool
@@ -15,15 +26,18 @@ fn directory_reserved(haw: u8, e: u64) -> bool
     (field(e, 11, 2) != 0) | at_or_above_power(e, haw as u32)
 }
 
-// The PASID table's address.
-pub fn directory_check(haw: u8, e: u64) -> TableAddress
-    ensures { λ r. ⌜ addressOf r ≡ directoryCheck haw e ⌝ }
+// fpd: of the context.
+pub fn directory_check(haw: u8, fpd: bool, e: u64) -> DirectoryCheck
+    ensures { λ r. ⌜ directoryChecked r ≡ directoryCheck haw fpd e ⌝ }
 {
     if field(e, 0, 0) != 1 {
-        return TableAddress::Stop(ScalableReason::DirectoryNotPresent);
+        return DirectoryCheck::Stop(ScalableReason::DirectoryNotPresent);
     }
     if directory_reserved(haw, e) {
-        return TableAddress::Stop(ScalableReason::DirectoryReserved);
+        return DirectoryCheck::Stop(ScalableReason::DirectoryReserved);
     }
-    TableAddress::Go(in_place(e, 63, 12))
+    DirectoryCheck::Go(PasidTable {
+        address: in_place(e, 63, 12),
+        fpd: fpd | (field(e, 1, 1) == 1),
+    })
 }

@@ -1,7 +1,6 @@
 // The tables of scalable mode, up to the PASID table entry: what each entry's check says, the faults with their numbers and records.
 mod context;
 mod directory;
-mod entry;
 mod fault;
 mod reason;
 mod root;
@@ -11,12 +10,14 @@ mod validity;
 pub use context::ContextCheck;
 pub use context::ScalableContext;
 pub use context::context_check;
+pub use directory::DirectoryCheck;
+pub use directory::PasidTable;
 pub use directory::directory_check;
-pub use entry::TableAddress;
 pub use fault::ScalableFault;
 pub use fault::scalable_fault;
 pub use reason::ScalableReason;
 use registers::Registers;
+pub use root::RootCheck;
 pub use root::root_check;
 pub use table::PasidEntry;
 pub use validity::TableCheck;

@@ -18,6 +18,7 @@ use Rattle.pasid.specs.Table.{tableReserved, tableInvalid, pasidEntryOf, tableC
 use Rattle.pasid.specs.declared.Pasid.{Pasid}
 use Rattle.pasid.specs.declared.ScalableRegisters.{ScalableRegisters}
 use Rattle.pasid.specs.declared.context.ScalableContext.{ScalableContext}
+use Rattle.pasid.specs.declared.directory.PasidTable.{PasidTable}
 use Rattle.pasid.specs.declared.table.PasidEntry.{PasidEntry}
 use Rattle.scalable.specs.Lookup.{Lookup, pasidEntry, noPasidEntry, tableRules, directoryRules, contextRules, lookupRules}
 use Rattle.scalable.proofs.Tables.{root-aligned, directory-aligned, usable}
@@ -45,27 +46,27 @@ module _ (r : ScalableRegisters) where
       let is : p ≡ pasidEntryOf privileged fpd e = cc in
       rw is (refl, omega arith, omega arith)
 
-  table-kept : (c : ScalableContext) (fpd : Bool) (table : ℕ) → table % 8 ≡ 0 → Same (tableRules r c fpd table)
+  table-kept : (c : ScalableContext) (t : PasidTable) → t .address % 8 ≡ 0 → Same (tableRules r c t)
   unfolding tableRules
-  table-kept c fpd table aligned =
-      keeps-fetch Raised LookupKept LookupDead pasidTableEntry (table + 64 * bits (c .pasid) 5 0) _ _ _ _ (omega arith) refl
-      (λ e e′ same. rw (← same) (by e (tableCheck r (c .privileged) fpd e) refl))
+  table-kept c t aligned =
+      keeps-fetch Raised LookupKept LookupDead pasidTableEntry (t .address + 64 * bits (c .pasid) 5 0) _ _ _ _ (omega arith) refl
+      (λ e e′ same. rw (← same) (by e (tableCheck r (c .privileged) (t .fpd) e) refl))
     where
-      by : (e : ℕ) (k : Check PasidEntry) → tableCheck r (c .privileged) fpd e ≡ k
-          → Same (onCheck k (λ reason. answer (noPasidEntry reason (fpd || bit e 1))) (λ p. answer (pasidEntry p)))
+      by : (e : ℕ) (k : Check PasidEntry) → tableCheck r (c .privileged) (t .fpd) e ≡ k
+          → Same (onCheck k (λ reason. answer (noPasidEntry reason (t .fpd || bit e 1))) (λ p. answer (pasidEntry p)))
       by e (stop reason) told = keeps-answer Raised LookupKept LookupDead _ _ refl
-      by e (go p) told = keeps-answer Raised LookupKept LookupDead _ _ (found (c .privileged) fpd e p told)
+      by e (go p) told = keeps-answer Raised LookupKept LookupDead _ _ (found (c .privileged) (t .fpd) e p told)
 
   directory-kept : (c : ScalableContext) → c .directory % 8 ≡ 0 → Same (directoryRules r c)
   unfolding directoryRules
   directory-kept c aligned =
       keeps-fetch Raised LookupKept LookupDead pasidDirectoryEntry (c .directory + 8 * bits (c .pasid) 19 6) _ _ _ _ (omega arith) refl
-      (λ e e′ same. rw (← same) (by e (directoryCheck (r .base .haw) e) refl))
+      (λ e e′ same. rw (← same) (by e (directoryCheck (r .base .haw) (c .fpd) e) refl))
     where
-      by : (e : ℕ) (k : Check ℕ) → directoryCheck (r .base .haw) e ≡ k
-          → Same (onCheck k (λ reason. answer (noPasidEntry reason (c .fpd || bit e 1))) (tableRules r c (c .fpd || bit e 1)))
+      by : (e : ℕ) (k : Check PasidTable) → directoryCheck (r .base .haw) (c .fpd) e ≡ k
+          → Same (onCheck k (λ reason. answer (noPasidEntry reason (c .fpd || bit e 1))) (tableRules r c))
       by e (stop reason) told = keeps-answer Raised LookupKept LookupDead _ _ refl
-      by e (go table) told = table-kept c (c .fpd || bit e 1) table (omega (arith, directory-aligned (r .base .haw) e (sym told)))
+      by e (go t) told = table-kept c t (omega (arith, directory-aligned (r .base .haw) (c .fpd) e (sym told)))
 
   module _ (low : r .base .haw ≤ 52) (pasid : Pasid) (source : ℕ) where
     context-kept : (table : ℕ) → table % 8 ≡ 0 → Same (contextRules r pasid source table)

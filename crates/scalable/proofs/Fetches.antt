@@ -1,58 +1,43 @@
--- What rules that begin with a fetch answer, and where they stop, by what the code's fetch and check said.
+-- What the code tells of a stage of the lookup, by what its fetch and its check said.
 use Prim.Native.Nat.{ℕ}
 use mathlib.Core.Path.{_≡_, refl, ap, sym, _∙_}
 use Rattle.image.specs.Check.{Check, stop, go, onCheck}
 use Rattle.image.specs.EntryKind.{EntryKind, wordsOf}
 use Rattle.image.specs.Memory.{Memory, missing, found, entry}
 use Rattle.image.specs.Place.{Place, entryAt, lastTried}
-use Rattle.image.specs.Rules.{Rules, answer, fetch, run}
+use Rattle.image.specs.Rules.{Rules, answer, run}
+use Rattle.image.specs.Stage.{stage}
+use Rattle.image.proofs.Places.{unfetched-at, checked-at}
+use Rattle.image.proofs.Stages.{unfetched, checked}
+use Rattle.scalable.specs.Lookup.{Lookup}
 
-module _ {A : Type 0} (kind : EntryKind) (at : ℕ) (outside : A) (next : ℕ → Rules A) (m : Memory) where
-  pub absent : missing ≡ entry (wordsOf kind) m at → outside ≡ run (fetch kind at outside next) m
-  unfolding run
-  absent h = rw (← h)
+-- an answer and the entry tried last are those of rules
+abbrev pub Tells : Lookup → Place → Rules Lookup → Memory → Type 0
+Tells l place q m = (l ≡ run q m) × ((before : Place) → place ≡ lastTried before q m)
 
-  pub absent-at : (before : Place) → missing ≡ entry (wordsOf kind) m at → entryAt at ≡ lastTried before (fetch kind at outside next) m
-  unfolding lastTried
-  absent-at before h = rw (← h)
+module _ {B : Type 0} (kind : EntryKind) (at : ℕ) (absent : Lookup) (check : ℕ → Check B) (stopped : ℕ → ℕ → Lookup) (next : B → Rules Lookup)
+    (m : Memory) where
+  abbrev this : Rules Lookup
+  this = stage kind at absent check stopped next
 
-  pub fetched : {e : ℕ} → found e ≡ entry (wordsOf kind) m at → run (next e) m ≡ run (fetch kind at outside next) m
-  unfolding run
-  fetched h = rw (← h)
+  pub no-entry : {place : Place} → missing ≡ entry (wordsOf kind) m at → place ≡ entryAt at → Tells absent place this m
+  no-entry none there = (
+    unfetched kind at absent check stopped next m none,
+    λ before. there ∙ unfetched-at kind at absent check stopped next before m none,
+  )
 
-  pub fetched-at : (before : Place) {e : ℕ} → found e ≡ entry (wordsOf kind) m at
-      → lastTried (entryAt at) (next e) m ≡ lastTried before (fetch kind at outside next) m
-  unfolding lastTried
-  fetched-at before h = rw (← h)
+  module _ {e : ℕ} (here : found e ≡ entry (wordsOf kind) m at) where
+    pub stops : {reason : ℕ} {place : Place} → stop reason ≡ check e → place ≡ entryAt at → Tells (stopped e reason) place this m
+    unfolding run lastTried
+    stops told there =
+        let rest = ap (λ k. onCheck k (λ reason. answer (stopped e reason)) next) told in (
+          checked kind at absent check stopped next m here rest,
+          λ before. there ∙ checked-at kind at absent check stopped next before m here rest,
+        )
 
--- what follows a check that stops, and one that goes on
-module _ {A B : Type 0} (stopped : ℕ → A) (next : B → Rules A) (m : Memory) where
-  abbrev after : Check B → Rules A
-  after k = onCheck k (λ reason. answer (stopped reason)) next
-
-  pub stops : {k : Check B} {reason : ℕ} → stop reason ≡ k → stopped reason ≡ run (after k) m
-  unfolding run
-  stops h = ap (λ k. run (after k) m) h
-
-  pub stops-at : (place : Place) {k : Check B} {reason : ℕ} → stop reason ≡ k → place ≡ lastTried place (after k) m
-  unfolding lastTried
-  stops-at place h = ap (λ k. lastTried place (after k) m) h
-
-  pub goes : {k : Check B} {b : B} → go b ≡ k → run (next b) m ≡ run (after k) m
-  goes h = ap (λ k. run (after k) m) h
-
-  pub goes-at : (place : Place) {k : Check B} {b : B} → go b ≡ k → lastTried place (next b) m ≡ lastTried place (after k) m
-  goes-at place h = ap (λ k. lastTried place (after k) m) h
-
--- a check after which only answers follow
-pub only-answers : {A B : Type 0} (stopped : ℕ → A) (gone : B → A) (m : Memory) (k : Check B)
-    → onCheck k stopped gone ≡ run (onCheck k (λ reason. answer (stopped reason)) (λ b. answer (gone b))) m
-unfolding run
-only-answers stopped gone m (stop reason) = refl
-only-answers stopped gone m (go b) = refl
-
-pub only-answers-at : {A B : Type 0} (stopped : ℕ → A) (gone : B → A) (m : Memory) (place : Place) (k : Check B)
-    → place ≡ lastTried place (onCheck k (λ reason. answer (stopped reason)) (λ b. answer (gone b))) m
-unfolding lastTried
-only-answers-at stopped gone m place (stop reason) = refl
-only-answers-at stopped gone m place (go b) = refl
+    pub goes : {b : B} {l : Lookup} {place : Place} → go b ≡ check e → l ≡ run (next b) m → place ≡ lastTried (entryAt at) (next b) m → Tells l place this m
+    goes told says there =
+        let rest = ap (λ k. onCheck k (λ reason. answer (stopped e reason)) next) told in (
+          says ∙ checked kind at absent check stopped next m here rest,
+          λ before. there ∙ checked-at kind at absent check stopped next before m here rest,
+        )

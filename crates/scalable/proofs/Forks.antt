@@ -17,6 +17,7 @@ use Rattle.pasid.specs.Table.{tableCheck}
 use Rattle.pasid.specs.declared.Pasid.{Pasid}
 use Rattle.pasid.specs.declared.ScalableRegisters.{ScalableRegisters}
 use Rattle.pasid.specs.declared.context.ScalableContext.{ScalableContext}
+use Rattle.pasid.specs.declared.directory.PasidTable.{PasidTable}
 use Rattle.pasid.specs.declared.table.PasidEntry.{PasidEntry}
 use Rattle.scalable.specs.Isolation.{accessReason}
 use Rattle.scalable.specs.Lookup.{Lookup, pasidEntry, noPasidEntry, tableRules, directoryRules, contextRules, lookupRules}
@@ -41,22 +42,22 @@ module _ (r : ScalableRegisters) (So : PasidEntry → Type 0)
   abbrev Ends : Lookup → Type 0
   Ends = FoundSo So
 
-  table-forks : (c : ScalableContext) (fpd : Bool) (table : ℕ) → Every Absent Ends 8 (tableRules r c fpd table)
+  table-forks : (c : ScalableContext) (t : PasidTable) → Every Absent Ends 8 (tableRules r c t)
   unfolding tableRules
-  table-forks c fpd table =
-      every-fetch Absent Ends 8 0 pasidTableEntry (table + 64 * bits (c .pasid) 5 0) (noPasidEntry 0x58 fpd) _ refl refl
+  table-forks c t =
+      every-fetch Absent Ends 8 0 pasidTableEntry (t .address + 64 * bits (c .pasid) 5 0) (noPasidEntry 0x58 (t .fpd)) _ refl refl
       (λ e.
-      check-cases (Every Absent Ends 0) (tableCheck r (c .privileged) fpd e) (λ reason. noPasidEntry reason (fpd || bit e 1)) (λ p. answer (pasidEntry p))
-      (λ reason told. every-answer Absent Ends 0 (noPasidEntry reason (fpd || bit e 1)) tt)
-      (λ p told. every-answer Absent Ends 0 (pasidEntry p) (good (c .privileged) fpd e p told)))
+      check-cases (Every Absent Ends 0) (tableCheck r (c .privileged) (t .fpd) e) (λ reason. noPasidEntry reason (t .fpd || bit e 1)) (λ p. answer (pasidEntry p))
+      (λ reason told. every-answer Absent Ends 0 (noPasidEntry reason (t .fpd || bit e 1)) tt)
+      (λ p told. every-answer Absent Ends 0 (pasidEntry p) (good (c .privileged) (t .fpd) e p told)))
 
   directory-forks : (c : ScalableContext) → Every Absent Ends 9 (directoryRules r c)
   unfolding directoryRules
   directory-forks c =
       every-fetch Absent Ends 9 8 pasidDirectoryEntry (c .directory + 8 * bits (c .pasid) 19 6) (noPasidEntry 0x50 (c .fpd)) _ refl refl
       (λ e.
-      check-cases (Every Absent Ends 8) (directoryCheck (r .base .haw) e) (λ reason. noPasidEntry reason (c .fpd || bit e 1)) (tableRules r c (c .fpd || bit e 1))
-      (λ reason told. every-answer Absent Ends 8 (noPasidEntry reason (c .fpd || bit e 1)) tt) (λ table told. table-forks c (c .fpd || bit e 1) table))
+      check-cases (Every Absent Ends 8) (directoryCheck (r .base .haw) (c .fpd) e) (λ reason. noPasidEntry reason (c .fpd || bit e 1)) (tableRules r c)
+      (λ reason told. every-answer Absent Ends 8 (noPasidEntry reason (c .fpd || bit e 1)) tt) (λ t told. table-forks c t))
 
   context-forks : (pasid : Pasid) (source table : ℕ) → Every Absent Ends 13 (contextRules r pasid source table)
   unfolding contextRules

@@ -10,7 +10,7 @@ use borrow.Author.Tests.{leb-false}
 use Rattle.image.specs.Bits.{bits, bit, anySet, inPlace}
 use Rattle.image.specs.Check.{go}
 use Rattle.image.specs.Choice.{if_then_else_}
-use Rattle.image.proofs.Choices.{past, neither}
+use Rattle.image.proofs.Choices.{past, neither, same-go}
 use Rattle.image.proofs.Fields.{fits, in-place-le, above-digit}
 use Rattle.dma.proofs.Address.{above}
 use Rattle.pasid.specs.Context.{contextReserved, beyond, contextInvalid, pasidOf, contextOf, contextCheck, Usable}
@@ -18,24 +18,21 @@ use Rattle.pasid.specs.Directory.{directoryReserved, directoryCheck}
 use Rattle.pasid.specs.Root.{half, rootReserved, rootCheck}
 use Rattle.pasid.specs.declared.Pasid.{Pasid}
 use Rattle.pasid.specs.declared.context.ScalableContext.{ScalableContext}
+use Rattle.pasid.specs.declared.directory.PasidTable.{PasidTable}
 
 pub root-aligned : (haw : ℕ) (upper : Bool) (e : ℕ) {a : ℕ} → go a ≡ rootCheck haw upper e → a % 4096 ≡ 0
 unfolding rootCheck
 root-aligned haw upper e {a} h =
     let h1 = past (not (bit (half upper e) 0)) 0x39 _ a (sym h) in
     let h2 = past (rootReserved haw e) 0x3A _ a (h1 .1) in
-    let leads : go (inPlace (half upper e) 63 12) ≡ go a = h2 .1 in
-    let same : a ≡ inPlace (half upper e) 63 12 = cc in
-    rw same (omega arith)
+    rw (sym (same-go (h2 .1))) (omega arith)
 
-pub directory-aligned : (haw e : ℕ) {a : ℕ} → go a ≡ directoryCheck haw e → a % 4096 ≡ 0
+pub directory-aligned : (haw : ℕ) (fpd : Bool) (e : ℕ) {t : PasidTable} → go t ≡ directoryCheck haw fpd e → t .address % 4096 ≡ 0
 unfolding directoryCheck
-directory-aligned haw e {a} h =
-    let h1 = past (not (bit e 0)) 0x51 _ a (sym h) in
-    let h2 = past (directoryReserved haw e) 0x52 _ a (h1 .1) in
-    let leads : go (inPlace e 63 12) ≡ go a = h2 .1 in
-    let same : a ≡ inPlace e 63 12 = cc in
-    rw same (omega arith)
+directory-aligned haw fpd e {t} h =
+    let h1 = past (not (bit e 0)) 0x51 _ t (sym h) in
+    let h2 = past (directoryReserved haw e) 0x52 _ t (h1 .1) in
+    rw (sym (same-go (h2 .1))) (omega arith)
 
 -- a PASID that the directory holds has 20 bits
 below-range : (e pasid : ℕ) → beyond e pasid ≡ false → pasid < 2 ^ 20

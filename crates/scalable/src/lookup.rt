@@ -3,14 +3,12 @@ ghost use mathlib.Core.Bool.{false};
 ghost use mathlib.Core.Path.{_≡_};
 ghost use lib.ListN.{length};
 ghost use Prim.Native.Nat.{_%_, _≤_};
-ghost use Rattle.image.specs.Answers.{number64};
-ghost use Rattle.image.specs.Place.{Place, entryAt, lastTried};
+ghost use Rattle.image.specs.Place.{Place, lastTried};
 ghost use Rattle.image.specs.Rules.{run};
 ghost use Rattle.image.specs.Windows.{ofWindows, badWindows};
 ghost use Rattle.pasid.specs.Context.{Usable};
 ghost use Rattle.scalable.specs.Answers.{lookupOf, lookupPlace};
-ghost use Rattle.scalable.specs.Lookup.{checkedTable, tableRules, directoryRules, contextRules, lookupRules};
-use image::Entry64;
+ghost use Rattle.scalable.specs.Lookup.{tableRules, directoryRules, contextRules, lookupRules};
 use image::Found8;
 use image::Found16;
 use image::Found64;
@@ -21,12 +19,14 @@ use image::page_entry8;
 use image::page_entry16;
 use image::page_entry32;
 use pasid::ContextCheck;
+use pasid::DirectoryCheck;
 use pasid::Pasid;
 use pasid::PasidEntry;
+use pasid::PasidTable;
+use pasid::RootCheck;
 use pasid::ScalableContext;
 use pasid::ScalableReason;
 use pasid::ScalableRegisters;
-use pasid::TableAddress;
 use pasid::TableCheck;
 use pasid::context_check;
 use pasid::directory_check;
@@ -41,40 +41,25 @@ pub enum PasidLookup {
     Fault(u64, ScalableReason, bool),
 }
 
-// The table entry, which stands at an address; fpd: of the entries before it.
-fn checked_table(
-    registers: ScalableRegisters,
-    privileged: bool,
-    fpd: bool,
-    at: u64,
-    e: Entry64,
-) -> PasidLookup
-    ensures { λ r. ⌜ lookupOf r ≡ checkedTable registers privileged fpd (number64 e) ⌝ }
-    ensures { λ r. ⌜ lookupPlace r ≡ entryAt at ⌝ }
-{
-    match table_check(registers, privileged, fpd, e) {
-        TableCheck::Stop(reason) => PasidLookup::Fault(at, reason, fpd | bit64(e, 1)),
-        TableCheck::Go(entry) => PasidLookup::Found(at, entry),
-    }
-}
-
 fn table_in(
     windows: &[u64],
     image: &[u8],
     registers: ScalableRegisters,
     context: ScalableContext,
-    fpd: bool,
-    table: u64,
+    table: PasidTable,
 ) -> PasidLookup
-    requires { ⌜ (badWindows (now windows) (length (now image)) ≡ false) × (table % 4096 ≡ 0) ⌝ }
-    ensures { λ r. ⌜ lookupOf r ≡ run (tableRules registers context fpd table) (ofWindows (now (windows .entry)) (now (image .entry))) ⌝ }
-    ensures { λ r. ⌜ ((before : Place) → lookupPlace r ≡ lastTried before (tableRules registers context fpd table) (ofWindows (now (windows .entry)) (now (image .entry)))) ⌝ }
+    requires { ⌜ (badWindows (now windows) (length (now image)) ≡ false) × (table .address % 4096 ≡ 0) ⌝ }
+    ensures { λ r. ⌜ lookupOf r ≡ run (tableRules registers context table) (ofWindows (now (windows .entry)) (now (image .entry))) ⌝ }
+    ensures { λ r. ⌜ ((before : Place) → lookupPlace r ≡ lastTried before (tableRules registers context table) (ofWindows (now (windows .entry)) (now (image .entry)))) ⌝ }
 {
-    let at = table + 64 * (context.pasid % 64) as u64;
+    let at = table.address + 64 * (context.pasid % 64) as u64;
     let Found64::Entry(e) = fetch64(windows, image, at) else {
-        return PasidLookup::Fault(at, ScalableReason::TableAccess, fpd);
+        return PasidLookup::Fault(at, ScalableReason::TableAccess, table.fpd);
     };
-    checked_table(registers, context.privileged, fpd, at, e)
+    match table_check(registers, context.privileged, table.fpd, e) {
+        TableCheck::Stop(reason) => PasidLookup::Fault(at, reason, table.fpd | bit64(e, 1)),
+        TableCheck::Go(entry) => PasidLookup::Found(at, entry),
+    }
 }
 
 // The directory may have more than a page.
@@ -95,10 +80,11 @@ fn directory_in(
     let Found8::Entry(e) = page_entry8(windows, image, page, offset) else {
         return PasidLookup::Fault(at, ScalableReason::DirectoryAccess, context.fpd);
     };
-    let fpd = context.fpd | (field(e, 1, 1) == 1);
-    match directory_check(registers.base.haw, e) {
-        TableAddress::Stop(reason) => PasidLookup::Fault(at, reason, fpd),
-        TableAddress::Go(table) => table_in(windows, image, registers, context, fpd, table),
+    match directory_check(registers.base.haw, context.fpd, e) {
+        DirectoryCheck::Stop(reason) => {
+            PasidLookup::Fault(at, reason, context.fpd | (field(e, 1, 1) == 1))
+        }
+        DirectoryCheck::Go(table) => table_in(windows, image, registers, context, table),
     }
 }
 
@@ -144,7 +130,7 @@ pub(crate) fn find_pasid_entry(
     };
     let upper = field(source.id as u64, 7, 7) == 1;
     match root_check(registers.base.haw, upper, e) {
-        TableAddress::Stop(reason) => PasidLookup::Fault(at, reason, false),
-        TableAddress::Go(table) => context_in(windows, image, registers, source, pasid, table),
+        RootCheck::Stop(reason) => PasidLookup::Fault(at, reason, false),
+        RootCheck::Go(table) => context_in(windows, image, registers, source, pasid, table),
     }
 }

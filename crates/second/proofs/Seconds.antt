@@ -10,8 +10,8 @@ use Rattle.image.specs.Choice.{if_then_else_}
 use Rattle.image.specs.Memory.{Memory, Fetched, missing, found, entry, onFetch}
 use Rattle.image.specs.Place.{Place, entryAt, lastTried}
 use Rattle.image.specs.Rules.{run}
+use Rattle.image.proofs.Choices.{neither}
 use Rattle.image.proofs.Fields.{in-place-lt}
-use Rattle.faults.proofs.Recording.{neither}
 use Rattle.registers.specs.declared.Registers.{Registers}
 use Rattle.dma.specs.Page.{leafAt, pageReserved}
 use Rattle.dma.specs.Walk.{Step, done, down, placeIn, stepOver}

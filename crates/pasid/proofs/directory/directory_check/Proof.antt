@@ -21,9 +21,12 @@ returns-2 c = rw (← c .before .before .before .field .ensures, eq-eqb _ _ (c .
 in-place-requires : tie.Need-in-place-requires
 in-place-requires c κs = search needs
 
+field-requires-2 : tie.Need-field-requires-2
+field-requires-2 c κs = search needs
+
 returns-3 : tie.Need-returns-3
 unfolding directoryCheck
-returns-3 c = rw (← c .before .before .before .before .field .ensures, eq-eqb _ _ (c .before .before .before .if1 .left), ← c .before .before .directory-reserved .ensures, c .before .if2 .left, ← c .in-place .ensures)
+returns-3 c = rw (← c .before .before .before .before .before .field .ensures, eq-eqb _ _ (c .before .before .before .before .if1 .left), ← c .before .before .before .directory-reserved .ensures, c .before .before .if2 .left, ← c .before .in-place .ensures, c .field2 .ensures)
 
 pub directory-check-spec : {M : Type 1} → statement M
 directory-check-spec =
@@ -34,4 +37,5 @@ directory-check-spec =
     directory-reserved-requires
     returns-2
     in-place-requires
+    field-requires-2
     returns-3)

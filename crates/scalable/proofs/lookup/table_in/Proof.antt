@@ -1,28 +1,75 @@
-use mathlib.Core.Bool.{_||_, false}
+use Prim.Native.Nat.{ℕ, _+_, _*_, _%_}
 use mathlib.Core.Path.{_≡_, refl, ap, sym, _∙_}
-use Prim.Native.Nat.{ℕ, _+_, _*_, _/_, _%_}
-use native.Mathlib.Omega.{arith}
-use lib.Dec.{eqb}
-use Rattle.image.specs.Windows.{ofWindows}
-use Rattle.image.specs.Memory.{missing, found, entry}
-use Rattle.image.specs.Bits.{bits, bit}
-use Rattle.image.specs.Check.{onCheck, stop, go}
-use Rattle.image.specs.Answers.{number16, number64, fetched8, fetched16, fetched64}
-use Rattle.image.specs.EntryKind.{rootEntry, scalableContextEntry, pasidDirectoryEntry, pasidTableEntry}
+use Rattle.image.specs.Bits.{bits}
+use Rattle.image.specs.Check.{Check}
+use Rattle.image.specs.Answers.{number64, fetched64}
+use Rattle.image.specs.EntryKind.{pasidTableEntry}
+use Rattle.image.specs.Memory.{Memory, found, entry}
 use Rattle.image.specs.Place.{entryAt, lastTried}
-use Rattle.image.specs.Rules.{run, answer}
-use Rattle.registers.specs.Source.{busOf}
-use Rattle.pasid.specs.Answers.{addressOf, contextChecked}
-use Rattle.pasid.specs.Context.{contextCheck}
-use Rattle.pasid.specs.Directory.{directoryCheck}
-use Rattle.pasid.specs.Root.{rootCheck}
+use Rattle.image.specs.Rules.{run}
+use Rattle.image.specs.Windows.{ofWindows}
+use Rattle.pasid.specs.Answers.{tableChecked}
 use Rattle.pasid.specs.Table.{tableCheck}
-use Rattle.scalable.specs.Lookup.{pasidEntry, noPasidEntry, tableRules, directoryRules, contextRules, lookupRules}
-use Rattle.scalable.proofs.Fetches.{absent, absent-at, fetched, fetched-at, stops, stops-at, goes, goes-at, only-answers, only-answers-at}
-use Rattle.scalable.proofs.Tables.{root-aligned, directory-aligned, usable, table-place, directory-place, context-place}
+use Rattle.pasid.specs.declared.table.PasidEntry.{PasidEntry}
+use Rattle.pasid.specs.declared.validity.TableCheck.{TableCheck}
+use Rattle.scalable.specs.Lookup.{tableRules}
+use Rattle.scalable.proofs.Fetches.{no-entry, stops, goes}
+use Rattle.scalable.proofs.Tables.{table-place}
 use borrow.Author.Needs.{needs}
 use Rattle.scalable.proofs.lookup.table_in.Statement.{statement}
 use Rattle.scalable.proofs.lookup.table_in.Tie as tie
+
+module _ (s : tie.Start) where
+  abbrev memory : Memory
+  memory = ofWindows (s .args .windows .now) (s .args .image .now)
+
+  abbrev at : ℕ
+  at = s .args .table .address + 64 * bits (s .args .context .pasid) 5 0
+
+  abbrev check : ℕ → Check PasidEntry
+  check = tableCheck (s .args .registers) (s .args .context .privileged) (s .args .table .fpd)
+
+  -- the entry's place, as the code finds it
+  there : _≡_ {A = ℕ} (s .args .table .address + 64 * (s .args .context .pasid % 64)) at
+  there = table-place (s .args .table .address) (s .args .context .pasid)
+
+abbrev start : tie.After-fetch64 → tie.Start
+start f = f .before .before .before .before .before
+
+fetched : (f : tie.After-fetch64) → fetched64 (f .fetch64 .result) ≡ entry 8 (memory (start f)) (at (start f))
+fetched f = f .fetch64 .ensures .0 ∙ ap (entry 8 (memory (start f))) (there (start f))
+
+-- an entry that was fetched, and its check
+module _ (k : tie.After-table-check) where
+  abbrev begun : tie.Start
+  begun = start (k .before .before .before .before)
+
+  here : found (number64 (k .before .before .e .given .0 .0)) ≡ entry 8 (memory begun) (at begun)
+  here = sym (ap fetched64 (k .before .before .e .given .1)) ∙ fetched (k .before .before .before .before)
+
+  told : {r : TableCheck} → k .table-check .result ≡ r → tableChecked r ≡ check begun (number64 (k .before .before .e .given .0 .0))
+  told is = sym (ap tableChecked is) ∙ k .table-check .ensures
+
+returns : tie.Need-returns
+unfolding tableRules
+returns c =
+    let s = start (c .before .before) in
+    no-entry pasidTableEntry (at s) _ (check s) _ _ (memory s) (sym (ap fetched64 (c .enum-told .given .1)) ∙ fetched (c .before .before)) (ap entryAt (there s))
+
+returns-2 : tie.Need-returns-2
+unfolding tableRules
+returns-2 c =
+    let r = c .before .before .before in
+    let k = r .before .before in
+    let s = begun k in
+    rw (c .before .bit64 .ensures) (stops pasidTableEntry (at s) _ (check s) _ _ (memory s) (here k) (told k (r .reason .given .1)) (ap entryAt (there s)))
+
+returns-3 : tie.Need-returns-3
+unfolding tableRules run lastTried
+returns-3 c =
+    let k = c .before .before .before in
+    let s = begun k in
+    goes pasidTableEntry (at s) _ (check s) _ _ (memory s) (here k) (told k (c .before .entry .given .1)) refl (ap entryAt (there s))
 
 cast-at : tie.Need-cast-at
 cast-at c = search needs
@@ -42,22 +89,17 @@ enum-known-e c = search needs
 enum-told : tie.Need-enum-told
 enum-told c = search needs
 
-returns : tie.Need-returns
-unfolding tableRules
-returns c =
-    let none = sym (ap fetched64 (c .enum-told .given .1)) ∙ c .before .before .fetch64 .ensures .0 ∙ ap (entry 8 (ofWindows (c .before .before .before .before .before .before .args .windows .now) (c .before .before .before .before .before .before .args .image .now))) (table-place (c .before .before .before .before .before .before .args .table) (c .before .before .before .before .before .before .args .context .pasid)) in
-    (absent pasidTableEntry (c .before .before .before .before .before .before .args .table + 64 * bits (c .before .before .before .before .before .before .args .context .pasid) 5 0) (noPasidEntry 0x58 (c .before .before .before .before .before .before .args .fpd)) _ (ofWindows (c .before .before .before .before .before .before .args .windows .now) (c .before .before .before .before .before .before .args .image .now)) none, λ before. ap entryAt (table-place (c .before .before .before .before .before .before .args .table) (c .before .before .before .before .before .before .args .context .pasid)) ∙ absent-at pasidTableEntry (c .before .before .before .before .before .before .args .table + 64 * bits (c .before .before .before .before .before .before .args .context .pasid) 5 0) (noPasidEntry 0x58 (c .before .before .before .before .before .before .args .fpd)) _ (ofWindows (c .before .before .before .before .before .before .args .windows .now) (c .before .before .before .before .before .before .args .image .now)) before none)
+table-check-requires : tie.Need-table-check-requires
+table-check-requires c κs = search needs
 
-checked-table-requires : tie.Need-checked-table-requires
-checked-table-requires c κs = search needs
+enum-known-reason : tie.Need-enum-known-reason
+enum-known-reason c = search needs
 
-returns-2 : tie.Need-returns-2
-unfolding tableRules
-returns-2 c =
-    let here = sym (ap fetched64 (c .before .before .e .given .1)) ∙ c .before .before .before .before .fetch64 .ensures .0 ∙ ap (entry 8 (ofWindows (c .before .before .before .before .before .before .before .before .args .windows .now) (c .before .before .before .before .before .before .before .before .args .image .now))) (table-place (c .before .before .before .before .before .before .before .before .args .table) (c .before .before .before .before .before .before .before .before .args .context .pasid)) in (
-      c .checked-table .ensures .0 ∙ only-answers (λ reason. noPasidEntry reason (c .before .before .before .before .before .before .before .before .args .fpd || bit (number64 (c .before .before .e .given .0 .0)) 1)) pasidEntry (ofWindows (c .before .before .before .before .before .before .before .before .args .windows .now) (c .before .before .before .before .before .before .before .before .args .image .now)) (tableCheck (c .before .before .before .before .before .before .before .before .args .registers) (c .before .before .before .before .before .before .before .before .args .context .privileged) (c .before .before .before .before .before .before .before .before .args .fpd) (number64 (c .before .before .e .given .0 .0))) ∙ fetched pasidTableEntry (c .before .before .before .before .before .before .before .before .args .table + 64 * bits (c .before .before .before .before .before .before .before .before .args .context .pasid) 5 0) (noPasidEntry 0x58 (c .before .before .before .before .before .before .before .before .args .fpd)) _ (ofWindows (c .before .before .before .before .before .before .before .before .args .windows .now) (c .before .before .before .before .before .before .before .before .args .image .now)) here,
-      λ before. c .checked-table .ensures .1 ∙ ap entryAt (table-place (c .before .before .before .before .before .before .before .before .args .table) (c .before .before .before .before .before .before .before .before .args .context .pasid)) ∙ only-answers-at (λ reason. noPasidEntry reason (c .before .before .before .before .before .before .before .before .args .fpd || bit (number64 (c .before .before .e .given .0 .0)) 1)) pasidEntry (ofWindows (c .before .before .before .before .before .before .before .before .args .windows .now) (c .before .before .before .before .before .before .before .before .args .image .now)) (entryAt (c .before .before .before .before .before .before .before .before .args .table + 64 * bits (c .before .before .before .before .before .before .before .before .args .context .pasid) 5 0)) (tableCheck (c .before .before .before .before .before .before .before .before .args .registers) (c .before .before .before .before .before .before .before .before .args .context .privileged) (c .before .before .before .before .before .before .before .before .args .fpd) (number64 (c .before .before .e .given .0 .0))) ∙ fetched-at pasidTableEntry (c .before .before .before .before .before .before .before .before .args .table + 64 * bits (c .before .before .before .before .before .before .before .before .args .context .pasid) 5 0) (noPasidEntry 0x58 (c .before .before .before .before .before .before .before .before .args .fpd)) _ (ofWindows (c .before .before .before .before .before .before .before .before .args .windows .now) (c .before .before .before .before .before .before .before .before .args .image .now)) before here,
-    )
+bit64-requires : tie.Need-bit64-requires
+bit64-requires c κs = search needs
+
+enum-known-entry : tie.Need-enum-known-entry
+enum-known-entry c = search needs
 
 pub table-in-spec : {M : Type 1} → statement M
 table-in-spec =
@@ -70,5 +112,9 @@ table-in-spec =
     enum-known-e
     enum-told
     returns
-    checked-table-requires
-    returns-2)
+    table-check-requires
+    enum-known-reason
+    bit64-requires
+    enum-known-entry
+    returns-2
+    returns-3)
