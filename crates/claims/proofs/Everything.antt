@@ -11,7 +11,7 @@ use Rattle.answered.proofs.Entries.{entries-well, entries-tell}
 use Rattle.replay.proofs.Steps.{replayed-in-steps}
 use Rattle.replay.proofs.Exactly.{replayed-in-order, named-exactly}
 use Rattle.replay.proofs.Own.{none-of-its-own}
-use Rattle.galitzaf.proofs.TracedAnswers.{answers-traced}
+use Rattle.trace_calls.proofs.TracedAnswers.{answers-traced}
 use Rattle.faults.proofs.Recording.{slot-counts}
 use Rattle.faults.proofs.Totals.{one-length, total}
 use Rattle.dma.proofs.Access.{locality}

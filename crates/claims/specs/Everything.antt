@@ -13,7 +13,7 @@ use Rattle.refused.specs.FirstBad.{NoneBad}
 use Rattle.answered.specs.Claims.{EntriesWell, EntriesTell}
 use Rattle.replay.specs.Replayed.{ReplayedInSteps}
 use Rattle.replay.specs.Claims.{ReplayedInOrder, NamedExactly, NoneOfItsOwn}
-use Rattle.galitzaf.specs.Traces.{AnswersTraced}
+use Rattle.trace_calls.specs.Traces.{AnswersTraced}
 use Rattle.faults.specs.Slots.{SlotCounts}
 use Rattle.faults.specs.Total.{OneLength, Total}
 use Rattle.dma.specs.Isolation.{Locality, AlwaysAnEntry, AccessMeansUnfetched, RightsOn, RightsOff, Unshared}

@@ -13,7 +13,7 @@ use Rattle.meter.specs.Refused.{some, badCount, badMeter}
 use Rattle.meter.specs.Row.{tickedAll, tickRow}
 use Rattle.meter.proofs.Rows as rows
 use Rattle.meter.proofs.Rows.{fit, allFit, steps, marks, steps-length, steps-next, marks-next, allFit-next, fits-all, steps-all, marks-all, both-true, even}
-use Rattle.galitzaf.specs.Status.{ok, badMeters, metersRefused}
+use Rattle.packing.specs.Status.{ok, badMeters, metersRefused}
 use Rattle.meter.specs.declared.Gate.the-variants.{Off}
 use Rattle.galitzaf.specs.Meters.{meterOf, rowOf, loadsOf, malformed, told, tickMetersCall}
 

@@ -11,8 +11,8 @@ use Rattle.image.specs.Memory.{wordAt, ofImage, entry, onFetch}
 use Rattle.image.proofs.Words.{word-inside}
 use Rattle.faults.specs.Recorder.{outOfPlace}
 use Rattle.faults.proofs.Recording.{neither}
-use Rattle.galitzaf.specs.Buffer.{byte}
-use Rattle.galitzaf.specs.Answer.{lastKind}
+use Rattle.packing.specs.Buffer.{byte}
+use Rattle.packing.specs.Answer.{lastKind}
 use Rattle.galitzaf.specs.Recording.{unfit, badFault}
 
 sized : (n m : ℕ) (test : Bool) → not (eqb n m) || test ≡ false → n ≡ m

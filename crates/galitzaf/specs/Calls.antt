@@ -1,36 +1,19 @@
 -- What each call answers, and what it leaves in the buffers that are lent to be written. The first line that applies decides.
-use Prim.Native.Nat.{ℕ, _%_}
-use mathlib.Core.Bool.{Bool, not}
+use Prim.Native.Nat.{ℕ}
+use mathlib.Core.Bool.{not}
 use mathlib.Core.List.{List}
 use lib.Dec.{eqb, ltb}
 use lib.ListN.{length}
 use Rattle.image.specs.Choice.{if_then_else_}
 use Rattle.image.specs.Place.{Place}
 use Rattle.dma.specs.Requests.{memoryAnswer, memoryAnswerPlace}
-use Rattle.dma.specs.declared.MemoryRequest.{MemoryRequest}
 use Rattle.interrupts.specs.Interrupts.{InterruptOutcome, interruptAnswer, interruptAnswerPlace}
 use Rattle.interrupts.specs.Post.{interruptWritten}
 use Rattle.interrupts.specs.declared.InterruptRequest.{InterruptRequest}
-use Rattle.galitzaf.specs.Answer.{memoryBytes, interruptBytes}
-use Rattle.galitzaf.specs.Registers.{malformedRegisters, unpacked}
-use Rattle.galitzaf.specs.Status.{ok, badRegisters, badWindowCount, badAnswer, badKind}
-
--- three numbers a window; how many windows there may be, and what they hold, is refusal 1's
-abbrev pub malformedWindows : List ℕ → Bool
-malformedWindows windows = not (eqb (length windows % 3) 0)
-
--- what a call of a request answers, in this order, where its registers, its windows or its buffer for the answer aren't laid out well
-abbrev pub argumentStatus : (registers windows : List ℕ) (answer : ℕ) → ℕ
-argumentStatus registers windows answer =
-    if malformedRegisters registers then badRegisters
-    else if malformedWindows windows then badWindowCount
-    else if not (eqb answer 32) then badAnswer
-    else ok
-
--- write is 1 for a write, 0 for a read
-abbrev pub memoryRequest : (source address write : ℕ) → MemoryRequest
-memoryRequest source address write =
-    record { source = record { id = source }; address = address; write = eqb write 1 }
+use Rattle.packing.specs.Answer.{memoryBytes, interruptBytes}
+use Rattle.packing.specs.Arguments.{malformedWindows, memoryRequest}
+use Rattle.packing.specs.Registers.{malformedRegisters, unpacked}
+use Rattle.packing.specs.Status.{ok, badRegisters, badWindowCount, badAnswer, badKind}
 
 -- the status, and the buffer for the answer
 unfoldable pub memoryCall : (registers windows image : List ℕ) (source address write : ℕ) (answer : List ℕ) → ℕ × List ℕ

@@ -1,11 +1,5 @@
-pub mod Answer
-pub mod Buffer
 pub mod Calls
 pub mod FirstBad
 pub mod Meters
 pub mod Recording
-pub mod Registers
-pub mod Status
 pub mod Takes
-pub mod Traces
-pub mod Translations

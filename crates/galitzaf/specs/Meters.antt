@@ -11,7 +11,7 @@ use Rattle.meter.specs.declared.Meter.{Meter}
 use Rattle.meter.specs.Meter.{nought}
 use Rattle.meter.specs.Refused.{some}
 use Rattle.meter.specs.Row.{tickRow}
-use Rattle.galitzaf.specs.Status.{ok, badMeters, metersRefused}
+use Rattle.packing.specs.Status.{ok, badMeters, metersRefused}
 
 -- kind 0 is off, 1 above the high, 2 outside low and high
 abbrev pub gateOf : ℕ → Float → Float → Gate

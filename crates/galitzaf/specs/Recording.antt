@@ -8,9 +8,9 @@ use Rattle.image.specs.Choice.{if_then_else_, one-if}
 use Rattle.image.specs.Bytes.{spell}
 use Rattle.faults.specs.Recorder.{After, refused, outOfPlace, recording, clearing, clearingOverflow}
 use Rattle.faults.specs.Slots.{slotsIn}
-use Rattle.galitzaf.specs.Answer.{lastKind}
-use Rattle.galitzaf.specs.Buffer.{byte, bytes}
-use Rattle.galitzaf.specs.Status.{badAnswer, badRecorder, noFault}
+use Rattle.packing.specs.Answer.{lastKind}
+use Rattle.packing.specs.Buffer.{byte, bytes}
+use Rattle.packing.specs.Status.{badAnswer, badRecorder, noFault}
 
 -- number 3, checked first by every call: the state isn't 2 bytes, or the records or the next slot are out of place
 unfoldable pub unfit : (slots : ℕ) (recorder : List ℕ) → Bool

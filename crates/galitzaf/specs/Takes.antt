@@ -4,9 +4,9 @@ use mathlib.Core.List.{List}
 use Rattle.image.specs.Choice.{if_then_else_}
 use Rattle.takes.specs.Take as rules
 use Rattle.takes.specs.Take.{TakeOutcome}
-use Rattle.galitzaf.specs.Calls.{malformedWindows}
-use Rattle.galitzaf.specs.Registers.{malformedRegisters, unpacked}
-use Rattle.galitzaf.specs.Status.{badRegisters, badWindowCount, noneStands, taken}
+use Rattle.packing.specs.Arguments.{malformedWindows}
+use Rattle.packing.specs.Registers.{malformedRegisters, unpacked}
+use Rattle.packing.specs.Status.{badRegisters, badWindowCount, noneStands, taken}
 
 -- 200h and the vector that is handed out, 40h where none stands, or the refusal's number
 abbrev pub takeStatus : TakeOutcome → ℕ

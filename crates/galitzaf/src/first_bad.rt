@@ -1,11 +1,11 @@
 // Which register or window refusal 1 is for.
 ghost use mathlib.Core.Path.{_≡_};
 ghost use Rattle.galitzaf.specs.FirstBad.{firstBadCall};
-use crate::status::BAD_REGISTERS;
-use crate::status::BAD_WINDOWS;
-use crate::status::NONE_BAD;
-use crate::unpacking::malformed;
-use crate::unpacking::unpack;
+use packing::BAD_REGISTERS;
+use packing::BAD_WINDOWS;
+use packing::NONE_BAD;
+use packing::malformed;
+use packing::unpack;
 use refused::first_bad;
 
 #[no_mangle]

@@ -1,29 +1,10 @@
 // The C interface that include/galitzaf.h fixes: arguments are unpacked, the unit is asked, and its answer is packed.
-mod answer;
-mod arguments;
-mod buffer;
 mod first_bad;
 mod meters;
 mod recorder;
 mod requests;
-mod status;
 mod taking;
-mod traces;
-mod unpacking;
 
-// For the calls that crates of their own export.
-pub use answer::PASSED;
-pub use answer::Packed;
-pub use answer::flag;
-pub use answer::head;
-pub use answer::pack_blocked;
-pub use answer::pack_fault;
-pub use answer::pack_granted;
-pub use answer::pack_refusal;
-pub use answer::short;
-pub use answer::store;
-pub use answer::store_memory;
-pub use arguments::bad_arguments;
 pub use first_bad::galitzaf_first_bad;
 pub use meters::galitzaf_reset_meters;
 pub use meters::galitzaf_tick_meters;
@@ -32,16 +13,4 @@ pub use recorder::galitzaf_clear_slot;
 pub use recorder::galitzaf_record;
 pub use requests::galitzaf_interrupt_request;
 pub use requests::galitzaf_memory_request;
-pub use status::BAD_ANSWER;
-pub use status::BAD_KIND;
-pub use status::BAD_REGISTERS;
-pub use status::BAD_WINDOWS;
-pub use status::OK;
 pub use taking::galitzaf_take;
-pub use traces::galitzaf_trace_append;
-pub use traces::galitzaf_trace_check;
-pub use traces::galitzaf_trace_close;
-pub use traces::galitzaf_trace_next;
-pub use unpacking::bit;
-pub use unpacking::malformed;
-pub use unpacking::unpack;

@@ -5,15 +5,15 @@ ghost use lib.Dec.{ltb};
 ghost use lib.ListN.{length};
 ghost use Rattle.meter.specs.Refused.{some, badCount, badMeter};
 ghost use Rattle.galitzaf.specs.Meters.{gateOf, meterOf, rowOf, malformed, tickMetersCall, resetMetersCall};
-use crate::status::BAD_METERS;
-use crate::status::METERS_REFUSED;
-use crate::status::OK;
 use meter::Gate;
 use meter::Meter;
 use meter::byte;
 use meter::fits;
 use meter::one_per_meter;
 use meter::tick;
+use packing::BAD_METERS;
+use packing::METERS_REFUSED;
+use packing::OK;
 
 fn gate(kind: u8, low: f64, high: f64) -> Gate
     ensures { λ r. ⌜ r ≡ gateOf kind low high ⌝ }

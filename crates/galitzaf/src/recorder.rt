@@ -2,20 +2,20 @@
 ghost use mathlib.Core.Path.{_≡_};
 ghost use lib.Dec.{eqb};
 ghost use lib.ListN.{length};
-ghost use Rattle.galitzaf.specs.Buffer.{byte};
+ghost use Rattle.packing.specs.Buffer.{byte};
 ghost use Rattle.galitzaf.specs.Recording.{unfit, stateBytes, badFault, clearSlotCall, clearOverflowCall, recordCall};
-use crate::answer::flag;
-use crate::buffer::word;
-use crate::status::BAD_ANSWER;
-use crate::status::BAD_RECORDER;
-use crate::status::NO_FAULT;
-use crate::status::REFUSED_3;
 use faults::FaultRecord;
 use faults::Recorder;
 use faults::cleared;
 use faults::overflow_cleared;
 use faults::recorded;
 use faults::slot_count;
+use packing::BAD_ANSWER;
+use packing::BAD_RECORDER;
+use packing::NO_FAULT;
+use packing::REFUSED_3;
+use packing::flag;
+use packing::word;
 
 // Refusal 3, as far as every call checks it: a state that isn't 2 bytes, or records or a next slot out of place.
 fn is_unfit(slots: usize, recorder: &[u8]) -> bool

@@ -1,13 +1,13 @@
 // A device's requests.
 ghost use mathlib.Core.Path.{_≡_};
 ghost use Rattle.galitzaf.specs.Calls.{memoryCall, interruptCall};
-use crate::answer::pack_interrupt;
-use crate::answer::store;
-use crate::answer::store_memory;
-use crate::arguments::bad_arguments;
-use crate::status::BAD_KIND;
-use crate::status::OK;
-use crate::unpacking::unpack;
+use packing::BAD_KIND;
+use packing::OK;
+use packing::bad_arguments;
+use packing::pack_interrupt;
+use packing::store;
+use packing::store_memory;
+use packing::unpack;
 use registers::SourceId;
 use unit::InterruptRequest;
 use unit::MemoryRequest;

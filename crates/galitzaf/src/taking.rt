@@ -2,12 +2,12 @@
 ghost use mathlib.Core.Path.{_≡_};
 ghost use Rattle.takes.specs.Answers.{takeOutcomeOf};
 ghost use Rattle.galitzaf.specs.Takes.{takeStatus, takeCall};
-use crate::status::BAD_REGISTERS;
-use crate::status::BAD_WINDOWS;
-use crate::status::NONE_STANDS;
-use crate::status::TAKEN;
-use crate::unpacking::malformed;
-use crate::unpacking::unpack;
+use packing::BAD_REGISTERS;
+use packing::BAD_WINDOWS;
+use packing::NONE_STANDS;
+use packing::TAKEN;
+use packing::malformed;
+use packing::unpack;
 use unit::TakeAnswer;
 use unit::take;
 

@@ -6,9 +6,9 @@ use lib.Dec.{eqb}
 use lib.ListN.{length, set}
 use Rattle.image.specs.Choice.{if_then_else_}
 use Rattle.builder.specs.Build.{Built, done, refused, notReady, atItem, Lent, built}
-use Rattle.galitzaf.specs.Calls.{malformedWindows}
-use Rattle.galitzaf.specs.Registers.{malformedRegisters, unpacked}
-use Rattle.galitzaf.specs.Status.{ok, badRegisters, badWindowCount}
+use Rattle.packing.specs.Arguments.{malformedWindows}
+use Rattle.packing.specs.Registers.{malformedRegisters, unpacked}
+use Rattle.packing.specs.Status.{ok, badRegisters, badWindowCount}
 
 abbrev pub badItems : ℕ
 badItems = 0x109

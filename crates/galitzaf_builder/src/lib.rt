@@ -8,10 +8,10 @@ ghost use Rattle.builder.specs.Build.{lent};
 ghost use Rattle.galitzaf_builder.specs.Calls.{told, buildCall};
 use builder::BuildAnswer;
 use builder::build;
-use galitzaf::BAD_REGISTERS;
-use galitzaf::BAD_WINDOWS;
-use galitzaf::malformed;
-use galitzaf::unpack;
+use packing::BAD_REGISTERS;
+use packing::BAD_WINDOWS;
+use packing::malformed;
+use packing::unpack;
 use registers::SourceId;
 
 const OK: u32 = 0x00;

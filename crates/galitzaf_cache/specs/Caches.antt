@@ -7,10 +7,10 @@ use lib.ListN.{length, replicate}
 use Rattle.image.specs.Choice.{if_then_else_}
 use Rattle.places.specs.Layout.{words}
 use Rattle.cache.specs.Numbers.{cachedAnswer, cachedPlace, cachedState, stateWithout}
-use Rattle.galitzaf.specs.Answer.{memoryBytes}
-use Rattle.galitzaf.specs.Calls.{malformedWindows, memoryRequest}
-use Rattle.galitzaf.specs.Registers.{malformedRegisters, unpacked}
-use Rattle.galitzaf.specs.Status.{ok, badRegisters, badWindowCount, badCache, badAnswer, badKind}
+use Rattle.packing.specs.Answer.{memoryBytes}
+use Rattle.packing.specs.Arguments.{malformedWindows, memoryRequest}
+use Rattle.packing.specs.Registers.{malformedRegisters, unpacked}
+use Rattle.packing.specs.Status.{ok, badRegisters, badWindowCount, badCache, badAnswer, badKind}
 
 -- 776 numbers, whatever they are
 abbrev pub malformedCache : List ℕ → Bool

@@ -6,9 +6,9 @@ use Rattle.image.specs.Choice.{if_then_else_}
 use Rattle.mapping.specs.Mapping.{Mapped, mappingAnswer}
 use Rattle.mapping.specs.Rows.{rowsOf, laidOver}
 use Rattle.mapping.specs.Told.{Told, refused, passed, faulted, listed, room, shown, toldOf}
-use Rattle.galitzaf.specs.Calls.{malformedWindows}
-use Rattle.galitzaf.specs.Registers.{malformedRegisters, unpacked}
-use Rattle.galitzaf.specs.Status.{badRegisters, badWindowCount}
+use Rattle.packing.specs.Arguments.{malformedWindows}
+use Rattle.packing.specs.Registers.{malformedRegisters, unpacked}
+use Rattle.packing.specs.Status.{badRegisters, badWindowCount}
 
 -- refusal 1 by its number, 80h plus a reason, 90h passed, 2000h plus the count, 6000h plus it where there are more
 abbrev pub listingStatus : Told → ℕ

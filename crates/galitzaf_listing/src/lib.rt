@@ -3,12 +3,12 @@
 ghost use mathlib.Core.Path.{_≡_};
 ghost use Rattle.mapping.specs.Answers.{toldAs};
 ghost use Rattle.galitzaf_listing.specs.Listing.{listingStatus, Few, listCall};
-use galitzaf::BAD_REGISTERS;
-use galitzaf::BAD_WINDOWS;
-use galitzaf::malformed;
-use galitzaf::unpack;
 use mapping::Listing;
 use mapping::list_spans;
+use packing::BAD_REGISTERS;
+use packing::BAD_WINDOWS;
+use packing::malformed;
+use packing::unpack;
 use registers::SourceId;
 
 // Plus a fault's reason.

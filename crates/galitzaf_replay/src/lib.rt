@@ -1,11 +1,11 @@
 // The replay of traces, for C: a crate of its own, so that its object is one of its own. The compiler inlines a large function only where it
 // has one caller, and replay calls what each request of galitzaf calls.
 ghost use mathlib.Core.Path.{_≡_};
-ghost use Rattle.galitzaf.specs.Traces.{traceReplayCall};
-use galitzaf::BAD_REGISTERS;
-use galitzaf::BAD_WINDOWS;
-use galitzaf::malformed;
-use galitzaf::unpack;
+ghost use Rattle.galitzaf_replay.specs.Replay.{traceReplayCall};
+use packing::BAD_REGISTERS;
+use packing::BAD_WINDOWS;
+use packing::malformed;
+use packing::unpack;
 use trace_calls::replay_entry;
 
 #[no_mangle]

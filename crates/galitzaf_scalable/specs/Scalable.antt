@@ -9,10 +9,10 @@ use Rattle.image.specs.Choice.{if_then_else_}
 use Rattle.pasid.specs.declared.ScalableRegisters.{ScalableRegisters}
 use Rattle.scalable.specs.Requests.{scalableAnswer, scalableAnswerPlace, scalableWritten}
 use Rattle.scalable.specs.declared.ScalableRequest.{ScalableRequest}
-use Rattle.galitzaf.specs.Answer.{memoryBytes}
-use Rattle.galitzaf.specs.Calls.{malformedWindows}
-use Rattle.galitzaf.specs.Registers.{malformedRegisters, unpacked}
-use Rattle.galitzaf.specs.Status.{ok, badRegisters, badWindowCount, badAnswer, badKind}
+use Rattle.packing.specs.Answer.{memoryBytes}
+use Rattle.packing.specs.Arguments.{malformedWindows}
+use Rattle.packing.specs.Registers.{malformedRegisters, unpacked}
+use Rattle.packing.specs.Status.{ok, badRegisters, badWindowCount, badAnswer, badKind}
 
 -- bits 9:0 are capabilities, all others have to be zero
 abbrev pub unknownCapability : (capabilities : ℕ) → Bool

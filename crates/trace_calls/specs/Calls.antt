@@ -18,12 +18,10 @@ use Rattle.trace.specs.declared.writer.Writer.{Writer}
 use Rattle.answered.specs.Answered.{plain}
 use Rattle.replay.specs.Replayed as replay
 use Rattle.replay.specs.Replayed.{Replayed, replayAt}
+use Rattle.packing.specs.Status.{ok, badAnswer}
 use Rattle.trace_calls.specs.Packed.{packedIn}
 
--- done, with nothing to take; the buffer holds a block, to be taken before the next call
-abbrev pub ok : ℕ
-ok = 0x00
-
+-- ok is done, with nothing to take; here the buffer holds a block, to be taken before the next call
 abbrev pub blockFull : ℕ
 blockFull = 0x50
 
@@ -44,11 +42,7 @@ answerSame = 0x54
 abbrev pub answerDiffers : ℕ
 answerDiffers = 0x55
 
--- not 32 bytes, or no answer to a request of this kind
-abbrev pub badAnswer : ℕ
-badAnswer = 0x102
-
--- a writer or a place that isn't two numbers in range, or a block that isn't 512 bytes
+-- badAnswer is an answer that isn't 32 bytes, or none to a request of this kind; this is a writer or a place that isn't two numbers in range, or a block that isn't 512 bytes
 abbrev pub badTrace : ℕ
 badTrace = 0x107
 

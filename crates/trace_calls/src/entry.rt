@@ -2,22 +2,10 @@
 ghost use mathlib.Core.Path.{_≡_};
 ghost use Prim.Native.Nat.{_<_, min};
 ghost use Rattle.image.specs.Bits.{bits};
-ghost use Rattle.image.specs.Memory.{entry, ofImage, onFetch};
 ghost use Rattle.answered.specs.Answered.{widthOf};
 ghost use Rattle.trace_calls.specs.Packed.{with, faultPacked, remappedPacked, postedPacked, pagePacked, passedPacked, entryPacked, packedIn};
-use image::Found8;
-use image::fetch8;
+use packing::word;
 use trace::Traced;
-
-// A word of a buffer; 0 where it doesn't lie whole in it.
-fn word(buffer: &[u8], at: u64) -> u64
-    ensures { λ r. ⌜ r ≡ onFetch (entry 1 (ofImage (now (buffer .entry))) at) 0 (λ w. w) ⌝ }
-{
-    match fetch8(buffer, at) {
-        Found8::Entry(word) => word,
-        Found8::Missing(_) => 0,
-    }
-}
 
 // Bytes 0 to 3, and bytes 7:4.
 fn zero(head: u64) -> u64

@@ -5,14 +5,14 @@ ghost use mathlib.Core.List.{[], _∷_};
 ghost use lib.ListN.{length};
 ghost use Rattle.traced.specs.Entry.{entryBytes};
 ghost use Rattle.trace_calls.specs.Calls.{badCursor, cursorIn, placeNumbers, checkCall, nextCall, replayCall};
-use crate::BAD_ANSWER;
 use crate::BAD_TRACE;
 use crate::DAMAGED;
 use crate::DIFFERS;
 use crate::END;
 use crate::ENTRY;
-use crate::OK;
 use crate::SAME;
+use packing::BAD_ANSWER;
+use packing::OK;
 use registers::Registers;
 use replay::Replayed;
 use replay::replay;
@@ -58,7 +58,8 @@ fn write_entry(entry: &mut [u8], e: Traced)
 }
 
 // The block at a place of a trace.
-pub fn check(bytes: &[u8], place: u64) -> u32
+#[no_mangle]
+pub extern "C" fn galitzaf_trace_check(bytes: &[u8], place: u64) -> u32
     ensures { λ r. ⌜ r ≡ checkCall (now (bytes .entry)) place ⌝ }
 {
     if is_damaged(bytes, place) {
@@ -67,7 +68,8 @@ pub fn check(bytes: &[u8], place: u64) -> u32
     OK
 }
 
-pub fn next_entry(bytes: &[u8], cursor: &mut [u64], entry: &mut [u8]) -> u32
+#[no_mangle]
+pub extern "C" fn galitzaf_trace_next(bytes: &[u8], cursor: &mut [u64], entry: &mut [u8]) -> u32
     ensures { λ r. ⌜ (r, now (cursor .exit), now (entry .exit)) ≡ nextCall (now (bytes .entry)) (now (cursor .entry)) (now (entry .entry)) ⌝ }
 {
     if is_bad(cursor) {

@@ -5,12 +5,12 @@ ghost use mathlib.Core.Bool.{false};
 ghost use lib.ListN.{length};
 ghost use Rattle.trace.specs.Answers.{wroteOf};
 ghost use Rattle.trace_calls.specs.Calls.{badWriter, writerIn, numbersOf, statusOf, writerAfter, appendCall, closeCall};
-use crate::BAD_ANSWER;
 use crate::BAD_TRACE;
 use crate::BLOCK;
-use crate::OK;
 use crate::entry::with_answer;
 use answered::asked;
+use packing::BAD_ANSWER;
+use packing::OK;
 use trace::Writer;
 use trace::Wrote;
 use trace::append;
@@ -62,7 +62,8 @@ fn take_over(writer: &mut [u64], wrote: Wrote, refused: u32) -> u32
 }
 
 // A request with its answer's 32 bytes, behind the entries that the block holds.
-pub fn append_answer(
+#[no_mangle]
+pub extern "C" fn galitzaf_trace_append(
     writer: &mut [u64],
     block: &mut [u8],
     kind: u8,
@@ -85,7 +86,8 @@ pub fn append_answer(
     take_over(writer, append(w, block, e), BAD_ANSWER)
 }
 
-pub fn close_trace(writer: &mut [u64], block: &mut [u8]) -> u32
+#[no_mangle]
+pub extern "C" fn galitzaf_trace_close(writer: &mut [u64], block: &mut [u8]) -> u32
     ensures { λ r. ⌜ (r, now (writer .exit), now (block .exit)) ≡ closeCall (now (writer .entry)) (now (block .entry)) ⌝ }
 {
     if is_bad(writer, block.len()) {

@@ -1,7 +1,7 @@
 -- Each way out is a line of the definition.
 use mathlib.Core.Path.{sym, _∙_}
 use borrow.Author.Tests.{eq-eqb, ne-eqb}
-use Rattle.galitzaf.specs.Traces.{traceReplayCall}
+use Rattle.galitzaf_replay.specs.Replay.{traceReplayCall}
 use borrow.Author.Needs.{needs}
 use Rattle.galitzaf_replay.proofs.galitzaf_trace_replay.Statement.{statement}
 use Rattle.galitzaf_replay.proofs.galitzaf_trace_replay.Tie as tie

@@ -1,7 +1,7 @@
 use mathlib.Core.Path.{ap, sym, _∙_}
 use Rattle.scalable.specs.Answers.{outcomeOf, entryOf}
 use Rattle.scalable.specs.declared.ScalableAnswer.{ScalableAnswer}
-use Rattle.galitzaf.specs.Answer.{memoryBytes}
+use Rattle.packing.specs.Answer.{memoryBytes}
 use borrow.Author.Needs.{needs}
 use Rattle.galitzaf_scalable.proofs.pack_scalable.Statement.{statement}
 use Rattle.galitzaf_scalable.proofs.pack_scalable.Tie as tie

@@ -2,8 +2,8 @@
 use Prim.Native.Nat.{ℕ}
 use borrow.Author.Needs.{needs}
 use borrow.Author.Tests.{eq-eqb}
-use Rattle.galitzaf.specs.Translations.{translationCall}
-use Rattle.galitzaf.proofs.ArgumentLines.{Decided, decided}
+use Rattle.packing.specs.Translations.{translationCall}
+use Rattle.packing.proofs.ArgumentLines.{Decided, decided}
 use Rattle.galitzaf_translation.proofs.galitzaf_translation_request.Statement.{statement}
 use Rattle.galitzaf_translation.proofs.galitzaf_translation_request.Tie as tie
 

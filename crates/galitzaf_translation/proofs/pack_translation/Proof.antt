@@ -1,8 +1,8 @@
 use mathlib.Core.Path.{ap, sym, _∙_}
 use Rattle.translation.specs.Answers.{outcomeOf, entryOf}
 use Rattle.translation.specs.declared.TranslationAnswer.{TranslationAnswer}
-use Rattle.galitzaf.specs.Translations.{translationBytes}
-use Rattle.galitzaf.proofs.FourWords.{low-alone}
+use Rattle.packing.specs.Translations.{translationBytes}
+use Rattle.packing.proofs.FourWords.{low-alone}
 use borrow.Author.Needs.{needs}
 use Rattle.galitzaf_translation.proofs.pack_translation.Statement.{statement}
 use Rattle.galitzaf_translation.proofs.pack_translation.Tie as tie

@@ -3,7 +3,7 @@ use Prim.Native.Nat.{ℕ}
 use borrow.Author.Needs.{needs}
 use borrow.Author.Tests.{eq-eqb, lt-ltb, le-ltb}
 use Rattle.galitzaf.specs.Calls.{memoryCall}
-use Rattle.galitzaf.proofs.ArgumentLines.{Decided, decided}
+use Rattle.packing.proofs.ArgumentLines.{Decided, decided}
 use Rattle.galitzaf.proofs.requests.galitzaf_memory_request.Statement.{statement}
 use Rattle.galitzaf.proofs.requests.galitzaf_memory_request.Tie as tie
 

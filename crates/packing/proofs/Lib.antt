@@ -1,0 +1,3 @@
+pub mod ArgumentLines
+pub mod FourWords
+pub mod Registers

@@ -1,0 +1,37 @@
+// What the calls of the C interface have in common, as include/galitzaf.h fixes it: statuses, the registers' bytes, and the bytes of answers.
+mod answer;
+mod arguments;
+mod buffer;
+mod status;
+mod unpacking;
+
+pub use answer::PASSED;
+pub use answer::Packed;
+pub use answer::flag;
+pub use answer::head;
+pub use answer::pack_blocked;
+pub use answer::pack_fault;
+pub use answer::pack_granted;
+pub use answer::pack_interrupt;
+pub use answer::pack_refusal;
+pub use answer::short;
+pub use answer::store;
+pub use answer::store_memory;
+pub use arguments::bad_arguments;
+pub use buffer::word;
+pub use status::BAD_ANSWER;
+pub use status::BAD_KIND;
+pub use status::BAD_METERS;
+pub use status::BAD_RECORDER;
+pub use status::BAD_REGISTERS;
+pub use status::BAD_WINDOWS;
+pub use status::METERS_REFUSED;
+pub use status::NO_FAULT;
+pub use status::NONE_BAD;
+pub use status::NONE_STANDS;
+pub use status::OK;
+pub use status::REFUSED_3;
+pub use status::TAKEN;
+pub use unpacking::bit;
+pub use unpacking::malformed;
+pub use unpacking::unpack;
