@@ -17,7 +17,8 @@ use Rattle.dma.proofs.Forks.{Fork, Ends, memory-forks}
 use Rattle.dma.proofs.Rights.{rights-on, rights-off}
 use Rattle.translation.specs.Requests.{requestRules}
 use Rattle.translation.proofs.Local.{translation-locality}
-use Rattle.interrupts.specs.Claims.{answerOver, namedWords}
+use Rattle.interrupts.specs.Claims as claims
+use Rattle.interrupts.specs.Claims.{namedWords}
 use Rattle.interrupts.proofs.Isolation.{isolated, same-bits}
 use Rattle.takes.specs.Take.{takeRules}
 use Rattle.unit.specs.Isolation.{MemoryAlike, TranslationsAlike, InterruptsAlike, RightsKeep, RightsDeny, MoreKeeps, Isolation, MoreMemory, FlatImages}
@@ -84,6 +85,6 @@ flat-images image h =
       good = good;
       memory = λ registers request. rw good (ap (answerOver registers request) same);
       translations = λ registers request. rw good (ap (run (requestRules registers request)) same);
-      interrupts = λ registers request. rw good (ap (answerOver registers request) same);
+      interrupts = λ registers request. rw good (ap (claims.answerOver registers request) same);
       takes = λ registers descriptor. rw good (ap (run (takeRules registers descriptor)) same);
     }

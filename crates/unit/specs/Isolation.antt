@@ -19,7 +19,8 @@ use Rattle.dma.specs.declared.MemoryRequest.{MemoryRequest}
 use Rattle.translation.specs.Claims as translation
 use Rattle.translation.specs.Requests.{TranslationOutcome, requestRules, translationAnswer, translationAnswerPlace}
 use Rattle.translation.specs.declared.TranslationRequest.{TranslationRequest}
-use Rattle.interrupts.specs.Claims.{answerOver, namedWords, AccessFault, bitAt, sets}
+use Rattle.interrupts.specs.Claims as interrupts
+use Rattle.interrupts.specs.Claims.{namedWords, AccessFault, bitAt, sets}
 use Rattle.interrupts.specs.Interrupts.{InterruptOutcome, interruptAnswer, interruptAnswerPlace}
 use Rattle.interrupts.specs.Post.{interruptWritten}
 use Rattle.interrupts.specs.declared.InterruptRequest.{InterruptRequest}
@@ -131,7 +132,7 @@ pub record FlatImage (image : List ℕ) : Type 0 where
   pub translations : (registers : Registers) (request : TranslationRequest)
       → translationAnswer registers request (flat (length image)) image ≡ run (requestRules registers request) (ofImage image)
   pub interrupts : (registers : Registers) (request : InterruptRequest)
-      → interruptAnswer registers request (flat (length image)) image ≡ answerOver registers request (ofImage image)
+      → interruptAnswer registers request (flat (length image)) image ≡ interrupts.answerOver registers request (ofImage image)
   pub takes : (registers : Registers) (descriptor : ℕ)
       → takeAnswer registers descriptor (flat (length image)) image ≡ run (takeRules registers descriptor) (ofImage image)
 
