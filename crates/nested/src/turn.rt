@@ -16,7 +16,7 @@ use crate::stage::Stage;
 use crate::stage::Walk;
 use crate::way::Way;
 use crate::way::locate;
-use second::host_address;
+use dma::host_address;
 
 pub enum Turn {
     On(Stage),

@@ -15,13 +15,13 @@ ghost use Rattle.second.specs.Second.{Reachable};
 use crate::Pages;
 use crate::stage::Stage;
 use crate::stage::Walk;
+use dma::entry_offset;
+use dma::host_address;
 use dma::overflows;
 use pasid::PasidEntry;
 use pasid::ScalableReason;
-use registers::Page4K;
 use second::Walked;
 use second::Wanted;
-use second::host_address;
 use second::second_walk;
 
 pub enum Way {
@@ -40,7 +40,7 @@ fn place_of(address: u64, level: u32, at: u64) -> u64
     if level == 0 {
         return at;
     }
-    at + 8 * ((address >> (Page4K::SHIFT + 9 * (level - 1))) % 512)
+    at + entry_offset(address, level - 1)
 }
 
 // The page is always found through the second level, an entry in a nested translation.

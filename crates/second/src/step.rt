@@ -13,6 +13,8 @@ ghost use Rattle.dma.specs.Walk.{placeIn};
 ghost use Rattle.pasid.specs.Reason.{numberOf};
 ghost use Rattle.second.specs.Answers.{handedBy, stepOf, StepNames, StepReachable, StepGrown};
 ghost use Rattle.second.specs.Second.{flagClear, flagsNotSnooped, secondFlags, secondStep, secondOver};
+use dma::Fetch;
+use dma::fetch_entry;
 use dma::is_leaf;
 use dma::page_reserved;
 use flags::push;
@@ -20,11 +22,9 @@ use image::Found8;
 use image::Span;
 use image::field;
 use image::in_place;
-use image::page_entry8_by;
 use pasid::PasidEntry;
 use pasid::ScalableReason;
 use pasid::ScalableRegisters;
-use registers::Page4K;
 
 // What an entry is handed by those above it: whether there are none, their joined rights, R bit 0 and W bit 1, and how many flags are collected.
 pub struct Above {
@@ -193,9 +193,8 @@ pub(crate) fn second_entry(
     ensures { λ r. ⌜ StepNames r (entryAt (placeIn address table below)) ⌝ }
     ensures { λ r. ⌜ StepReachable r × StepGrown r (above .count) ⌝ }
 {
-    let offset = 8 * ((address >> (Page4K::SHIFT + 9 * below)) % 512);
-    let at = table + offset;
-    let Found8::Entry(e) = page_entry8_by(space.first, windows, image, table, offset) else {
+    let Fetch { at, found } = fetch_entry(space.first, windows, image, address, below, table);
+    let Found8::Entry(e) = found else {
         return SecondStep::Fault(unfetchable(above.top), space.entry.fpd, at);
     };
     second_step(space, wanted, above, below + 1, at, e, flags)
