@@ -37,7 +37,7 @@ use Rattle.translation.specs.Claims as translation
 use Rattle.translation.specs.Completion.{typeRules}
 use Rattle.translation.specs.Requests as translations
 use Rattle.translation.specs.declared.TranslationRequest.{TranslationRequest}
-use Rattle.interrupts.specs.Claims.{answerOver, namedWords, AccessFault}
+use Rattle.interrupts.specs.Claims.{answerOver as interruptAnswerOver, namedWords, AccessFault}
 use Rattle.interrupts.specs.Descriptor.{notification, descriptorCheck}
 use Rattle.interrupts.specs.Interrupts.{posted, interruptAnswer, descriptorRules, indexRules, requestRules, interruptRules}
 use Rattle.interrupts.specs.Request.{requestCheck}
@@ -380,11 +380,11 @@ interrupt-alike : SameWords bench (take 0x6030 bench) (0x6020 ∷ 0x6028 ∷ [])
 unfolding endWithin
 interrupt-alike = part-words bench 0x6030 (rw bench-length (lit≤ tt)) (0x6020 ∷ 0x6028 ∷ []) refl
 
-interrupt-answered : AccessFault (answerOver benchRegisters remaps (ofImage bench)) → ⊥
+interrupt-answered : AccessFault (interruptAnswerOver benchRegisters remaps (ofImage bench)) → ⊥
 unfolding bench layout onward inWords bytesOf littleEndian bits wordAt ofImage entry run mapRules admission registersBad indexRules requestRules interruptRules reservedIrte irteCheck requestCheck sourceAllowed
 interrupt-answered fault = fault
 
-post-answered : answerOver benchRegisters posts (ofImage (take 0x6440 bench)) ≡ posted 0x6400 0x31 (notification 0xF2 7)
+post-answered : interruptAnswerOver benchRegisters posts (ofImage (take 0x6440 bench)) ≡ posted 0x6400 0x31 (notification 0xF2 7)
 unfolding bench layout onward inWords bytesOf littleEndian bits wordAt ofImage entry run mapRules admission registersBad descriptorRules indexRules requestRules interruptRules reservedIrte irteCheck requestCheck sourceAllowed descriptorCheck
 post-answered = refl
 
