@@ -62,9 +62,9 @@ module _ (windows bytes : List ℕ) (good : badWindows windows (length bytes) �
           rw (apart e f (λ same. let z : _≡_ {A = ℕ} 0 1 = cc in omega arith)) (sym (or-false _))
       by (here p l) (here j r) e f = at-place e f (eqb j p) refl
 
-either : (b s e rest : Bool) → ((b || s && e) || s && rest) ≡ (b || s && (e || rest))
-either b true e rest = or-assoc b e rest
-either b false e rest = or-false (b || false)
+or-and-or : (b s e rest : Bool) → ((b || s && e) || s && rest) ≡ (b || s && (e || rest))
+or-and-or b true e rest = or-assoc b e rest
+or-and-or b false e rest = or-false (b || false)
 
 pub sets-flags : SetsFlags
 unfolding setFlags among
@@ -77,7 +77,7 @@ sets-flags windows (f ∷ rest) bytes good n =
     let still : badWindows windows (length (setFlag windows f bytes)) ≡ false = rw (length-setFlag windows bytes f) good in
     sets-flags windows rest (setFlag windows f bytes) still n
     ∙ ap (λ (t : Bool). t || isShown windows (n / 8) && among n rest) (set-bit windows bytes good f n)
-    ∙ either (bitAt windows bytes n) (isShown windows (n / 8)) (eqb n f) (among n rest)
+    ∙ or-and-or (bitAt windows bytes n) (isShown windows (n / 8)) (eqb n f) (among n rest)
 
 unshown : (windows bytes : List ℕ) (n place : ℕ) → ((at : ℕ) → Shows windows at place → ⊥) → getD (setFlag windows n bytes) place 0 ≡ getD bytes place 0
 unfolding setFlag

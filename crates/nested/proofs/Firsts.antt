@@ -16,6 +16,7 @@ use Rattle.pasid.specs.declared.ScalableRegisters.{ScalableRegisters}
 use Rattle.pasid.specs.declared.table.PasidEntry.{PasidEntry}
 use Rattle.flags.specs.Flags.{flag}
 use Rattle.first.specs.First.{FirstStep, down as downTo, page, fault as stop, onFirst, firstFlags, firstReserved, flagClear, notSnooped, userDenied, writeDenied, firstFrame, firstStep}
+use Rattle.second.proofs.Seconds.{otherwise}
 use Rattle.nested.specs.Pages.{Pages, reached, fault, FirstHanded, firstHanded, entryFlags, noFirstEntry, locate, walkStep, firstRules}
 use Rattle.nested.specs.Way.{Located, located, lost}
 use Rattle.image.specs.EntryKind.{firstLevelEntry}
@@ -74,11 +75,9 @@ module _ (r : ScalableRegisters) (p : PasidEntry) (address : ℕ) (write : Bool)
       → done (fault reason fpd) ≡ walkStep r p address write level place s e
   fault-told h = told h
 
--- a step that leads down is past each test that would end the walk
-past : (b : Bool) (x rest : FirstStep) {table : ℕ} → (downTo table ≡ x → ⊥) → downTo table ≡ (if b then x else rest)
-    → (b ≡ false) × (downTo table ≡ rest)
-past true x rest other h = absurd (other h)
-past false x rest other h = (refl, h)
+-- a step that leads down stops nothing
+not-stopped : {table reason : ℕ} {fpd : Bool} → downTo table ≡ stop reason fpd → ⊥
+not-stopped h = let z : _≡_ {A = ℕ} 0 1 = cc in omega arith
 
 -- it is the step of an entry that is no page's
 leads : (r : ScalableRegisters) (p : PasidEntry) (write writable : Bool) (level e : ℕ) {table : ℕ}
@@ -86,12 +85,12 @@ leads : (r : ScalableRegisters) (p : PasidEntry) (write writable : Bool) (level 
 unfolding firstStep
 leads r p write writable level e {table} h =
     let clear = flagClear p write (leafAt level e) e in
-    let h1 = past (not (bit e 0)) (stop 0x71 (p .fpd)) _ (λ x. let z : _≡_ {A = ℕ} 0 1 = cc in omega arith) h in
-    let h2 = past (firstReserved r (p .nxe) level e) (stop 0x72 (p .fpd)) _ (λ x. let z : _≡_ {A = ℕ} 0 1 = cc in omega arith) (h1 .1) in
-    let h3 = past (notSnooped r p clear) (stop 0x7C (p .fpd)) _ (λ x. let z : _≡_ {A = ℕ} 0 1 = cc in omega arith) (h2 .1) in
-    let h4 = past (userDenied p e) (stop 0x81 (p .fpd)) _ (λ x. let z : _≡_ {A = ℕ} 0 1 = cc in omega arith) (h3 .1) in
-    let h5 = past (writeDenied p write writable clear e) (stop 0x85 (p .fpd)) _ (λ x. let z : _≡_ {A = ℕ} 0 1 = cc in omega arith) (h4 .1) in
-    past (leafAt level e) (page (firstFrame level e) level) _ (λ x. let z : _≡_ {A = ℕ} 0 1 = cc in omega arith) (h5 .1) .0
+    let h1 = otherwise (not (bit e 0)) not-stopped h in
+    let h2 = otherwise (firstReserved r (p .nxe) level e) not-stopped (h1 .1) in
+    let h3 = otherwise (notSnooped r p clear) not-stopped (h2 .1) in
+    let h4 = otherwise (userDenied p e) not-stopped (h3 .1) in
+    let h5 = otherwise (writeDenied p write writable clear e) not-stopped (h4 .1) in
+    otherwise (leafAt level e) (λ x. let z : _≡_ {A = ℕ} 0 1 = cc in omega arith) (h5 .1) .0
 
 -- and an entry of level 1 is a page's
 pub above-one : (r : ScalableRegisters) (p : PasidEntry) (write writable : Bool) (level e : ℕ) {table : ℕ} → 0 < level

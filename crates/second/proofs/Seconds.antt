@@ -23,23 +23,26 @@ use Rattle.pasid.specs.declared.table.PasidEntry.{PasidEntry}
 use Rattle.second.specs.Second.{Walked, page, fault, SecondHanded, readable, writable, handedOn, flagsNotSnooped, secondFlags, noSecondEntry, secondStep, secondOver, secondRules}
 use Rattle.second.specs.declared.step.Wanted.{Wanted}
 
--- a step that leads down is past each test that would end the walk
-past : (b : Bool) (a : Walked) (rest : Step SecondHanded Walked) {next : ℕ} {t : SecondHanded} → down next t ≡ (if b then done a else rest)
-    → (b ≡ false) × (down next t ≡ rest)
-past true a rest h = let z : _≡_ {A = ℕ} 0 1 = cc in absurd (omega arith)
-past false a rest h = (refl, h)
+-- a value that isn't the first of a choice is the second, and the test fails
+pub otherwise : {A : Type 0} (t : Bool) {a b x : A} → (x ≡ a → ⊥) → x ≡ (if t then a else b) → (t ≡ false) × (x ≡ b)
+otherwise true other h = absurd (other h)
+otherwise false other h = (refl, h)
+
+-- a step that leads down ends nothing
+not-done : {next : ℕ} {t : SecondHanded} {a : Walked} → down next t ≡ done a → ⊥
+not-done h = let z : _≡_ {A = ℕ} 0 1 = cc in omega arith
 
 module _ (r : ScalableRegisters) (p : PasidEntry) (wanted : Wanted) where
   -- it leads to the entry's frame, and the entry is no page's
   pub leads : (level place : ℕ) (above : SecondHanded) (e : ℕ) {next : ℕ} {t : SecondHanded} → down next t ≡ secondStep r p wanted level place above e
       → (next ≡ inPlace e 51 12) × (leafAt level e ≡ false)
   leads level place above e {next} {t} h =
-      let h1 = past (not (readable above e || writable above e)) (fault 0x79 (p .fpd)) _ h in
-      let h2 = past (pageReserved (r .base) level e) (fault 0x7A (p .fpd)) _ (h1 .1) in
-      let h3 = past (flagsNotSnooped r p (wanted .write) level e) (fault 0x7C (p .fpd)) _ (h2 .1) in
-      let h4 = past (wanted .write && not (bit e 1)) (fault 0x85 (p .fpd)) _ (h3 .1) in
-      let h5 = past (wanted .read && not (bit e 0)) (fault 0x86 (p .fpd)) _ (h4 .1) in
-      let h6 = past (leafAt level e) (page (inPlace e 51 12) level (writable above e) (above .flags ++ secondFlags p (wanted .write) place e)) _ (h5 .1) in
+      let h1 = otherwise (not (readable above e || writable above e)) not-done h in
+      let h2 = otherwise (pageReserved (r .base) level e) not-done (h1 .1) in
+      let h3 = otherwise (flagsNotSnooped r p (wanted .write) level e) not-done (h2 .1) in
+      let h4 = otherwise (wanted .write && not (bit e 1)) not-done (h3 .1) in
+      let h5 = otherwise (wanted .read && not (bit e 0)) not-done (h4 .1) in
+      let h6 = otherwise (leafAt level e) not-done (h5 .1) in
       let same : down next t ≡ down (inPlace e 51 12) (handedOn above e (secondFlags p false place e)) = h6 .1 in
       (cc, h6 .0)
 
