@@ -2,19 +2,10 @@
 ghost use mathlib.Core.Path.{_≡_};
 ghost use lib.ListN.{take};
 ghost use Rattle.image.specs.Windows.{badWindows};
-ghost use Rattle.registers.specs.Registers.{badTable};
 ghost use Rattle.refused.specs.FirstBad.{firstBad, firstBadRegister, firstBadWindow};
 use image::bad_windows;
-use registers::Page4K;
 use registers::Registers;
-use registers::at_or_above_power;
-
-// A table address that isn't a multiple of 4096 below 2^HAW.
-fn bad_table(haw: u8, at: u64) -> bool
-    ensures { λ r. ⌜ r ≡ badTable haw at ⌝ }
-{
-    (Page4K::offset(at) != 0) | at_or_above_power(at, haw as u32)
-}
+use registers::bad_table;
 
 // The first register outside its list: HAW 1, MGAW 2, page table levels 3, root table 4, interrupt remapping table 5, S 6; 0 where all
 // are in theirs.

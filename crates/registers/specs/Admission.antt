@@ -1,5 +1,4 @@
--- Document 01, "When the unit says no by house number": refusals 1 and 2 in their order, then the switch. One definition for
--- every kind of request.
+-- Document 01, refusals: 1 and 2 in their order, then the switch. One definition for every kind of request.
 use Prim.Native.Nat.{ℕ}
 use mathlib.Core.Bool.{Bool, true, false, _&&_}
 use lib.Dec.{leb}

@@ -1,4 +1,4 @@
--- Document 01, "What the cabinet's unit does": which values the registers may hold. Any other is refusal 1.
+-- Document 01, registers: which values the registers may hold. Any other is refusal 1.
 use Prim.Native.Nat.{ℕ, _%_, _^_}
 use mathlib.Core.Bool.{Bool, not, _||_}
 use lib.Dec.{leb, ltb, eqb}

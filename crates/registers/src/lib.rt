@@ -63,7 +63,7 @@ fn out_of_range(x: u8, low: u8, high: u8) -> bool
 }
 
 // A table address is a multiple of 4096 below 2^HAW.
-fn bad_table(haw: u8, at: u64) -> bool
+pub fn bad_table(haw: u8, at: u64) -> bool
     ensures { λ r. ⌜ r ≡ badTable haw at ⌝ }
 {
     (at % Page4K::SPAN != 0) | at_or_above_power(at, haw as u32)
