@@ -1,6 +1,7 @@
 pub mod Admissions
 pub mod EntryBits
 pub mod Exact
+pub mod Forks
 pub mod Hosts
 pub mod Injective
 pub mod Isolation
