@@ -1,5 +1,5 @@
--- Document 01, "Bells: interrupts": a request from the registers to its answer, as one rules tree. Its named words are those of
--- the entry, then those of the descriptor, each only where it was fetched.
+-- Document 01, interrupts: a request from the registers to its answer, as one rules tree. Its named words are those of the entry, then
+-- those of the descriptor, each only where it was fetched.
 use Prim.Native.Nat.{ℕ, _+_, _*_, _^_}
 use mathlib.Core.Bool.{Bool, false, not}
 use mathlib.Core.List.{List}

@@ -1,4 +1,4 @@
--- Document 01, "Bells: interrupts": the two formats of a request, and the index of a remappable one.
+-- Document 01, interrupts: the two formats of a request, and the index of a remappable one.
 use Prim.Native.Nat.{ℕ, _+_, _*_, _^_}
 use mathlib.Core.Bool.{not, _||_}
 use Rattle.image.specs.Bits.{bits, bit, anySet}
@@ -11,13 +11,13 @@ abbrev pub handleOf : (address : ℕ) → ℕ
 handleOf address = bits address 19 5 + bits address 2 2 * 2 ^ 15
 
 pub data Format : Type 0 where
-  -- the old format, which is passed unchanged
+  -- the compatibility format, which is passed unchanged
   compatibility : Format
   -- a whole number up to 131,070
   remappable : (index : ℕ) → Format
 
--- bit 4 tells the formats apart: the old one is 25h with EIME or without CFIS. Bit 3 is SHV: without it data is ignored, with it any
--- bit set in data 31:16 is 20h
+-- bit 4 tells the formats apart: the compatibility format is 25h with EIME or without CFIS. Bit 3 is SHV: without it data is ignored, with
+-- it any bit set in data 31:16 is 20h
 unfoldable pub requestCheck : Registers → (address message : ℕ) → Check Format
 requestCheck registers address message =
     if not (bit address 4) then

@@ -33,6 +33,7 @@ pub enum InterruptAnswer {
     Posted(Posted),
     // With the entry concerned.
     Blocked(Fault, EntryAddress),
+    // By number: 1 bad registers or windows, 2 an address outside the interrupt range.
     Refused(u8),
 }
 

@@ -7,6 +7,7 @@ ghost use Rattle.image.specs.Place.{entryAt};
 ghost use Rattle.interrupts.specs.Answers.{dueOf, descriptorChecked, descriptorPlace};
 use image::Entry64;
 use image::any_set64;
+use image::bit64;
 use image::bits64;
 
 pub enum Notification {
@@ -49,7 +50,7 @@ fn notification_destination(eime: bool, d: Entry64) -> u32
 fn notification_due(urgent: bool, d: Entry64) -> bool
     ensures { λ r. ⌜ r ≡ notificationDue urgent (number64 d) ⌝ }
 {
-    (bits64(d, 256, 256) != 1) & (urgent | (bits64(d, 257, 257) != 1))
+    !bit64(d, 256) & (urgent | !bit64(d, 257))
 }
 
 fn notification_of(eime: bool, urgent: bool, d: Entry64) -> Notification

@@ -8,7 +8,7 @@ use image::field;
 use registers::Registers;
 
 pub enum RequestCheck {
-    // The old format, allowed: passed unchanged.
+    // The compatibility format, allowed: passed unchanged.
     Compatibility,
     // The index, a whole number up to 131,070: it doesn't wrap at 16 bits.
     Remappable(u32),
