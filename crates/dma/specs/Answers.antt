@@ -8,8 +8,8 @@ use Rattle.faults.specs.Reason.{numberOf}
 use Rattle.dma.specs.Lookup.{Lookup, context, noContext}
 use Rattle.dma.specs.Translation.{Translation, through, leaf, fault}
 use Rattle.dma.specs.Walk.{Step, done, down}
-use Rattle.dma.specs.declared.entry.Check.{Check as CheckCode}
-use Rattle.dma.specs.declared.entry.Check.the-variants as check
+use Rattle.dma.specs.declared.root.RootCheck.{RootCheck}
+use Rattle.dma.specs.declared.root.RootCheck.the-variants as root
 use Rattle.dma.specs.declared.context.Lookup.{Lookup as LookupCode}
 use Rattle.dma.specs.declared.context.Lookup.the-variants as lookup
 use Rattle.dma.specs.declared.translation.Translation.{Translation as TranslationCode}
@@ -21,9 +21,9 @@ use Rattle.dma.specs.Requests.{MemoryOutcome, granted, blocked, refused}
 use Rattle.dma.specs.declared.MemoryAnswer.{MemoryAnswer}
 use Rattle.dma.specs.declared.MemoryAnswer.the-variants.{Granted, Blocked, Refused}
 
-abbrev pub checkOf : CheckCode → Check ℕ
-checkOf (check.Stop reason at) = stop (numberOf reason)
-checkOf (check.Go address) = go address
+abbrev pub checkOf : RootCheck → Check ℕ
+checkOf (root.Stop reason at) = stop (numberOf reason)
+checkOf (root.Go address) = go address
 
 abbrev pub lookupOf : LookupCode → Lookup
 lookupOf (lookup.Found c at) = context c
@@ -56,14 +56,14 @@ lookupPlace (lookup.Found c at) = entryAt at
 lookupPlace (lookup.Fault reason fpd at) = entryAt at
 
 -- the address that a check carries
-abbrev pub checkPlace : CheckCode → Place
-checkPlace (check.Stop reason at) = entryAt at
-checkPlace (check.Go address) = entryAt address
+abbrev pub checkPlace : RootCheck → Place
+checkPlace (root.Stop reason at) = entryAt at
+checkPlace (root.Go address) = entryAt address
 
 -- the entry that a fault names; where there is no fault, the place handed in
-abbrev pub stopPlace : CheckCode → Place → Place
-stopPlace (check.Stop reason at) place = entryAt at
-stopPlace (check.Go address) place = place
+abbrev pub stopPlace : RootCheck → Place → Place
+stopPlace (root.Stop reason at) place = entryAt at
+stopPlace (root.Go address) place = place
 
 abbrev pub stepPlace : StepCode → Place → Place
 stepPlace (step.Down table) place = place
@@ -76,7 +76,7 @@ faultPlace (translation.Leaf frame level) place = place
 faultPlace (translation.Fault reason fpd at) place = entryAt at
 
 -- a fault names this entry, if it is one: for the code's contracts
-abbrev pub CheckNames : CheckCode → Place → Type 0
+abbrev pub CheckNames : RootCheck → Place → Type 0
 CheckNames r place = stopPlace r place ≡ place
 
 abbrev pub StepNames : StepCode → Place → Type 0

@@ -4,19 +4,10 @@ ghost use Prim.Native.Nat.{_<_};
 ghost use Rattle.image.specs.Bits.{bit, anySet, inPlace};
 ghost use Rattle.image.specs.Answers.{number16};
 ghost use Rattle.dma.specs.Walk.{offsetIn};
-use faults::Reason;
 use image::Entry16;
 use image::bit16;
 use image::in_place;
 use registers::Page4K;
-
-// What an entry's check says.
-pub(crate) enum Check {
-    // Why the request ends here, and the entry's host address.
-    Stop(Reason, u64),
-    // The address of the table, or at last the page, that the entry leads to.
-    Go(u64),
-}
 
 pub(crate) fn present(e: Entry16) -> bool
     ensures { λ r. ⌜ r ≡ bit (number16 e) 0 ⌝ }

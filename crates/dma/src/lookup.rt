@@ -12,7 +12,7 @@ ghost use Rattle.dma.specs.Answers.{checkOf, checkPlace, lookupOf, looku
 ghost use Rattle.dma.specs.Lookup.{context, noContext, stoppedLookup, contextRules, lookupRules};
 use crate::context::Lookup;
 use crate::context::context_check;
-use crate::entry::Check;
+use crate::root::RootCheck;
 use crate::root::root_check;
 use faults::Reason;
 use image::Found16;
@@ -22,13 +22,13 @@ use registers::Registers;
 use registers::SourceId;
 
 // A root entry's check that stopped, told as a lookup: a root entry has no FPD. The other arm is never taken.
-fn stopped(check: Check) -> Lookup
+fn stopped(check: RootCheck) -> Lookup
     ensures { λ r. ⌜ lookupOf r ≡ stoppedLookup (checkOf check) ⌝ }
     ensures { λ r. ⌜ lookupPlace r ≡ checkPlace check ⌝ }
 {
     match check {
-        Check::Stop(reason, at) => Lookup::Fault(reason, false, at),
-        Check::Go(table) => Lookup::Fault(Reason::RootAccess, false, table),
+        RootCheck::Stop(reason, at) => Lookup::Fault(reason, false, at),
+        RootCheck::Go(table) => Lookup::Fault(Reason::RootAccess, false, table),
     }
 }
 
@@ -72,7 +72,7 @@ pub fn find_context(
         return Lookup::Fault(Reason::RootAccess, false, at);
     };
     let check = root_check(registers.haw, at, e);
-    let Check::Go(table) = check else {
+    let RootCheck::Go(table) = check else {
         return stopped(check);
     };
     context_in(first, windows, image, registers, source, table)

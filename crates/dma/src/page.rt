@@ -94,7 +94,7 @@ fn denial(write: bool) -> Reason
     }
 }
 
-// The frame, or the next table's address.
+// Where nothing stops it, Down carries the next table or a page's frame; page_step tells them apart.
 fn page_check(registers: Registers, write: bool, fpd: bool, level: u32, at: u64, e: u64) -> Step
     ensures { λ r. ⌜ stepOf r ≡ checked fpd (pageCheck registers write level e) ⌝ }
     ensures { λ r. ⌜ StepNames r (entryAt at) ⌝ }
@@ -159,12 +159,20 @@ pub(crate) fn page_step(
     Step::Down(frame)
 }
 
-// The frame plus the address's low 12, 21 or 30 bits: a shift by the level, where a choice among the page sizes costs branches.
+// A page's bytes, by the level of its leaf: a shift by the level, where a choice among the page sizes costs branches.
+fn span_at(level: u32) -> u64
+    requires { ⌜ (0 < level) × (level ≤ 3) ⌝ }
+    ensures { λ r. ⌜ r ≡ spanAt level ⌝ }
+{
+    1u64 << (Page4K::SHIFT + 9 * (level - 1))
+}
+
+// The frame plus the address's low 12, 21 or 30 bits.
 pub fn host_address(level: u32, frame: u64, address: u64) -> u64
     requires { ⌜ Reachable (leaf frame level) ⌝ }
     ensures { λ r. ⌜ r ≡ hostAddress level frame address ⌝ }
 {
-    frame + address % (1u64 << (Page4K::SHIFT + 9 * (level - 1)))
+    frame + address % span_at(level)
 }
 
 // Some byte of the page lies in the interrupt range. A page has at most 1 GiB, so most frames are told by themselves.
@@ -178,5 +186,5 @@ pub fn meets_interrupt_range(level: u32, frame: u64) -> bool
     if 0xFEEF_FFFF < frame {
         return false;
     }
-    0xFEE0_0000 < frame + (1u64 << (Page4K::SHIFT + 9 * (level - 1)))
+    0xFEE0_0000 < frame + span_at(level)
 }

@@ -4,13 +4,20 @@ ghost use Rattle.image.specs.Answers.{number16};
 ghost use Rattle.dma.specs.Root.{rootReserved, rootCheck};
 ghost use Rattle.image.specs.Place.{entryAt};
 ghost use Rattle.dma.specs.Answers.{checkOf, CheckNames};
-use crate::entry::Check;
 use crate::entry::present;
 use crate::entry::table_address;
 use faults::Reason;
 use image::Entry16;
 use image::any_set16;
 use registers::at_or_above_power;
+
+// What a root entry's check says.
+pub(crate) enum RootCheck {
+    // Why the request ends here, and the entry's host address.
+    Stop(Reason, u64),
+    // The address of the context table.
+    Go(u64),
+}
 
 // Bits 11:1, 127:64 and 63:HAW.
 fn root_reserved(haw: u8, e: Entry16) -> bool
@@ -20,15 +27,15 @@ fn root_reserved(haw: u8, e: Entry16) -> bool
 }
 
 // The context table's address.
-pub(crate) fn root_check(haw: u8, at: u64, e: Entry16) -> Check
+pub(crate) fn root_check(haw: u8, at: u64, e: Entry16) -> RootCheck
     ensures { λ r. ⌜ checkOf r ≡ rootCheck haw (number16 e) ⌝ }
     ensures { λ r. ⌜ CheckNames r (entryAt at) ⌝ }
 {
     if !present(e) {
-        return Check::Stop(Reason::RootNotPresent, at);
+        return RootCheck::Stop(Reason::RootNotPresent, at);
     }
     if root_reserved(haw, e) {
-        return Check::Stop(Reason::RootReserved, at);
+        return RootCheck::Stop(Reason::RootReserved, at);
     }
-    Check::Go(table_address(e))
+    RootCheck::Go(table_address(e))
 }

@@ -14,7 +14,6 @@ use crate::MemoryRequest;
 use crate::context::Context;
 use crate::context::Lookup;
 use crate::lookup::find_context;
-use crate::page::Walk;
 use crate::walk::walk;
 use faults::Reason;
 use image::Span;
@@ -68,12 +67,15 @@ pub fn translate_in(
     if context.translation_type == 2 {
         return Translation::Through;
     }
-    let given = Walk {
+    walk(
         first,
-        address: request.address,
-        fpd: context.fpd,
-    };
-    walk(windows, image, registers, given, request.write, context)
+        windows,
+        image,
+        registers,
+        request.address,
+        request.write,
+        context,
+    )
 }
 
 // A lookup that found no context, told as a translation. The other arm is never taken.

@@ -15,20 +15,27 @@ use crate::page::Walk;
 use crate::page::page_step;
 use crate::translation::Translation;
 use faults::Reason;
+use image::Span;
 use registers::Registers;
 
 pub(crate) fn walk(
+    first: Span,
     windows: &[u64],
     image: &[u8],
     registers: Registers,
-    given: Walk,
+    address: u64,
     write: bool,
     context: Context,
 ) -> Translation
-    requires { ⌜ Opened (given .first) (now windows) (length (now image)) × Usable context ⌝ }
-    ensures { λ r. ⌜ translationOf r ≡ run (pageRules registers (given .address) write (given .fpd) (context .levels) (context .top)) (ofWindows (now (windows .entry)) (now (image .entry))) ⌝ }
-    ensures { λ r. ⌜ ((before : Place) → Names r (lastTried before (pageRules registers (given .address) write (given .fpd) (context .levels) (context .top)) (ofWindows (now (windows .entry)) (now (image .entry))))) ⌝ }
+    requires { ⌜ Opened first (now windows) (length (now image)) × Usable context ⌝ }
+    ensures { λ r. ⌜ translationOf r ≡ run (pageRules registers address write (context .fpd) (context .levels) (context .top)) (ofWindows (now (windows .entry)) (now (image .entry))) ⌝ }
+    ensures { λ r. ⌜ ((before : Place) → Names r (lastTried before (pageRules registers address write (context .fpd) (context .levels) (context .top)) (ofWindows (now (windows .entry)) (now (image .entry))))) ⌝ }
 {
+    let given = Walk {
+        first,
+        address,
+        fpd: context.fpd,
+    };
     let mut level = context.levels;
     let mut at = context.top;
     while 0 < level {

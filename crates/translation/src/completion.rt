@@ -15,7 +15,6 @@ use crate::TranslationRequest;
 use crate::walk::walk;
 use dma::Context;
 use dma::Lookup;
-use dma::Walk;
 use dma::find_context;
 use dma::overflows;
 use faults::Reason;
@@ -50,12 +49,7 @@ fn complete_in(
     if overflows(registers, context.levels, address) {
         return Completion::Empty;
     }
-    let given = Walk {
-        first,
-        address,
-        fpd: context.fpd,
-    };
-    walk(windows, image, registers, given, context)
+    walk(first, windows, image, registers, address, context)
 }
 
 // A lookup that found no context, told as a completion. The other arm is never taken.

@@ -17,19 +17,26 @@ use crate::step::entry_step;
 use dma::Context;
 use dma::Walk;
 use faults::Reason;
+use image::Span;
 use registers::Registers;
 
 pub(crate) fn walk(
+    first: Span,
     windows: &[u64],
     image: &[u8],
     registers: Registers,
-    given: Walk,
+    address: u64,
     context: Context,
 ) -> Completion
-    requires { ⌜ Opened (given .first) (now windows) (length (now image)) × Usable context ⌝ }
-    ensures { λ r. ⌜ completionOf r ≡ run (joinedRules registers (given .address) (given .fpd) (context .levels) (context .top) both) (ofWindows (now (windows .entry)) (now (image .entry))) ⌝ }
-    ensures { λ r. ⌜ ((before : Place) → Names r (lastTried before (joinedRules registers (given .address) (given .fpd) (context .levels) (context .top) both) (ofWindows (now (windows .entry)) (now (image .entry))))) ⌝ }
+    requires { ⌜ Opened first (now windows) (length (now image)) × Usable context ⌝ }
+    ensures { λ r. ⌜ completionOf r ≡ run (joinedRules registers address (context .fpd) (context .levels) (context .top) both) (ofWindows (now (windows .entry)) (now (image .entry))) ⌝ }
+    ensures { λ r. ⌜ ((before : Place) → Names r (lastTried before (joinedRules registers address (context .fpd) (context .levels) (context .top) both) (ofWindows (now (windows .entry)) (now (image .entry))))) ⌝ }
 {
+    let given = Walk {
+        first,
+        address,
+        fpd: context.fpd,
+    };
     let mut level = context.levels;
     let mut at = context.top;
     let mut read = true;

@@ -1,51 +1,21 @@
 use Prim.Native.Nat.{_+_, _*_, _-_}
 use native.Mathlib.Omega.{arith}
 use lib.Pow.{pow-pos}
-use Rattle.image.proofs.Fields.{shifted-one}
 use Rattle.dma.proofs.Steps.{offset-of, offset-lt, span-le}
 use borrow.Author.Needs.{needs}
 use Rattle.dma.proofs.page.host_address.Statement.{statement}
 use Rattle.dma.proofs.page.host_address.Tie as tie
 
-sub-result : tie.Need-sub-result
-sub-result c = search needs
-
-mul-result : tie.Need-mul-result
-mul-result c = search needs
+rem-result : tie.Need-rem-result
+rem-result c = rw (c .span-at .ensures) (pow-pos (12 + 9 * (c .before .args .level - 1)))
 
 add-result : tie.Need-add-result
-add-result c = search needs
-
-cast-result : tie.Need-cast-result
-cast-result c = search needs
-
-shl-result : tie.Need-shl-result
-shl-result c = search needs
-
-rem-result : tie.Need-rem-result
-rem-result c =
-    let bits = 12 + 9 * (c .args .level - 1) in
-    rw (shifted-one bits (omega arith)) (pow-pos bits)
-
-add-result-2 : tie.Need-add-result-2
-add-result-2 c =
-    let a = c .args in
-    rw (shifted-one (12 + 9 * (a .level - 1)) (omega arith), offset-of (a .address) (a .level)) (omega (arith, offset-lt (a .address) (a .level), span-le (a .level) (c .pre .2)))
+add-result c =
+    let a = c .before .args in
+    rw (c .span-at .ensures, offset-of (a .address) (a .level)) (omega (arith, offset-lt (a .address) (a .level), span-le (a .level) (c .before .pre .2)))
 
 returns : tie.Need-returns
-returns c =
-    let a = c .args in
-    rw (shifted-one (12 + 9 * (a .level - 1)) (omega arith), offset-of (a .address) (a .level))
+returns c = let a = c .before .args in rw (c .span-at .ensures, offset-of (a .address) (a .level))
 
 pub host-address-spec : {M : Type 1} → statement M
-host-address-spec =
-    tie.close
-    (tie.spec
-    sub-result
-    mul-result
-    add-result
-    cast-result
-    shl-result
-    rem-result
-    add-result-2
-    returns)
+host-address-spec = tie.close (tie.spec (λ c κs. search needs) rem-result add-result returns)

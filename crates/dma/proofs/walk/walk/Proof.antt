@@ -16,7 +16,7 @@ use Rattle.dma.proofs.walk.walk.Statement.{statement}
 use Rattle.dma.proofs.walk.walk.Tie as tie
 
 abbrev Inv-loop : tie.InvT-loop
-Inv-loop windows image registers given write level₀ at₀ level at =
+Inv-loop windows image registers address write given level₀ at₀ level at =
     Opened (given .first) windows (length image)
     × (0 < level)
     × (level ≤ 5)
@@ -28,13 +28,13 @@ Inv-loop windows image registers given write level₀ at₀ level at =
     ≡ lastTried before′ (pageRules registers (given .address) write (given .fpd) level₀ at₀) (ofWindows windows image))
 
 abbrev μ-loop : tie.MeasureT-loop
-μ-loop windows image registers given write level₀ at₀ level at = level
+μ-loop windows image registers address write given level₀ at₀ level at = level
 
 loop-holds : tie.Need-loop-holds Inv-loop μ-loop
 loop-holds c =
     let a = c .before .before .args in
     let pre = c .before .before .pre in
-    (pre .0, pre .1 .0, pre .1 .1, pre .1 .2, refl, anew (a .registers) (a .given .address) (a .write) (a .given .fpd) (ofWindows (a .windows .now) (a .image .now)) (a .context .levels) (a .context .top) (pre .1 .0))
+    (pre .0, pre .1 .0, pre .1 .1, pre .1 .2, refl, anew (a .registers) (a .address) (a .write) (a .context .fpd) (ofWindows (a .windows .now) (a .image .now)) (a .context .levels) (a .context .top) (pre .1 .0))
 
 sub-page-step : tie.Need-sub-page-step Inv-loop μ-loop
 sub-page-step c = search needs
@@ -50,7 +50,7 @@ returns c =
     let a = c .before .before .before .before .before .before .before .before .args in
     let l = c .before .before .before .before .before .loop in
     let led = sym (ap stepOf (c .before .step .given .1)) ∙ c .before .before .before .page-step .ensures .0 in
-    (ended (a .registers) (a .given .address) (a .write) (a .given .fpd) (ofWindows (a .windows .now) (a .image .now)) (l .level) (l .at) (l .inv .1) led ∙ l .inv .4, λ before. refl)
+    (ended (a .registers) (a .address) (a .write) (a .context .fpd) (ofWindows (a .windows .now) (a .image .now)) (l .level) (l .at) (l .inv .1) led ∙ l .inv .4, λ before. refl)
 
 enum-known-step-2 : tie.Need-enum-known-step-2 Inv-loop μ-loop
 enum-known-step-2 c = search needs
@@ -60,11 +60,11 @@ returns-2 c =
     let a = c .before .before .before .before .before .before .before .before .args in
     let l = c .before .before .before .before .before .loop in
     let led = sym (ap stepOf (c .before .step2 .given .1)) ∙ c .before .before .before .page-step .ensures .0 in
-    let there = sym (ap (λ s. stepPlace s (entryAt (placeIn (a .given .address) (l .at) (l .level - 1)))) (c .before .step2 .given .1)) ∙ c .before .before .before .page-step .ensures .1 in (
-      ended (a .registers) (a .given .address) (a .write) (a .given .fpd) (ofWindows (a .windows .now) (a .image .now)) (l .level) (l .at) (l .inv .1) led ∙ l .inv .4,
+    let there = sym (ap (λ s. stepPlace s (entryAt (placeIn (a .address) (l .at) (l .level - 1)))) (c .before .step2 .given .1)) ∙ c .before .before .before .page-step .ensures .1 in (
+      ended (a .registers) (a .address) (a .write) (a .context .fpd) (ofWindows (a .windows .now) (a .image .now)) (l .level) (l .at) (l .inv .1) led ∙ l .inv .4,
       λ before.
           there
-          ∙ sym (ended-at (a .registers) (a .given .address) (a .write) (a .given .fpd) (ofWindows (a .windows .now) (a .image .now)) (l .level) (l .at) (l .inv .1) before led)
+          ∙ sym (ended-at (a .registers) (a .address) (a .write) (a .context .fpd) (ofWindows (a .windows .now) (a .image .now)) (l .level) (l .at) (l .inv .1) before led)
           ∙ l .inv .5 before before,
     )
 
@@ -82,15 +82,15 @@ loop-again c =
     let a = c .before .before .before .before .before .before .before .before .args in
     let l = c .before .before .before .before .before .loop in
     let led = sym (ap stepOf (c .before .step3 .given .1)) ∙ c .before .before .before .page-step .ensures .0 in
-    let next = down-to (a .registers) (a .given .address) (a .write) (a .given .fpd) (ofWindows (a .windows .now) (a .image .now)) (l .level - 1) (l .at) led in (
+    let next = down-to (a .registers) (a .address) (a .write) (a .context .fpd) (ofWindows (a .windows .now) (a .image .now)) (l .level - 1) (l .at) led in (
       l .inv .0,
       next .1,
       omega (arith, l .inv .2),
       next .0,
-      onward (a .registers) (a .given .address) (a .write) (a .given .fpd) (ofWindows (a .windows .now) (a .image .now)) (l .level) (l .at) (l .inv .1) led ∙ l .inv .4,
+      onward (a .registers) (a .address) (a .write) (a .context .fpd) (ofWindows (a .windows .now) (a .image .now)) (l .level) (l .at) (l .inv .1) led ∙ l .inv .4,
       λ before before′.
-          anew (a .registers) (a .given .address) (a .write) (a .given .fpd) (ofWindows (a .windows .now) (a .image .now)) (l .level - 1) _ (next .1) before _
-          ∙ sym (onward-at (a .registers) (a .given .address) (a .write) (a .given .fpd) (ofWindows (a .windows .now) (a .image .now)) (l .level) (l .at) (l .inv .1) before led)
+          anew (a .registers) (a .address) (a .write) (a .context .fpd) (ofWindows (a .windows .now) (a .image .now)) (l .level - 1) _ (next .1) before _
+          ∙ sym (onward-at (a .registers) (a .address) (a .write) (a .context .fpd) (ofWindows (a .windows .now) (a .image .now)) (l .level) (l .at) (l .inv .1) before led)
           ∙ l .inv .5 before before′,
     )
 

@@ -17,7 +17,7 @@ use Rattle.translation.proofs.walk.walk.Statement.{statement}
 use Rattle.translation.proofs.walk.walk.Tie as tie
 
 abbrev Inv-loop : tie.InvT-loop
-Inv-loop windows image registers given level₀ at₀ read₀ write₀ level at read write =
+Inv-loop windows image registers address given level₀ at₀ read₀ write₀ level at read write =
     Opened (given .first) windows (length image)
     × (0 < level)
     × (level ≤ 5)
@@ -29,13 +29,13 @@ Inv-loop windows image registers given level₀ at₀ read₀ write₀ level at 
     ≡ lastTried before′ (joinedRules registers (given .address) (given .fpd) level₀ at₀ both) (ofWindows windows image))
 
 abbrev μ-loop : tie.MeasureT-loop
-μ-loop windows image registers given level₀ at₀ read₀ write₀ level at read write = level
+μ-loop windows image registers address given level₀ at₀ read₀ write₀ level at read write = level
 
 loop-holds : tie.Need-loop-holds Inv-loop μ-loop
 loop-holds c =
     let a = c .before .before .args in
     let pre = c .before .before .pre in
-    (pre .0, pre .1 .0, pre .1 .1, pre .1 .2, refl, anew (a .registers) (a .given .address) (a .given .fpd) (ofWindows (a .windows .now) (a .image .now)) (a .context .levels) (a .context .top) both (pre .1 .0))
+    (pre .0, pre .1 .0, pre .1 .1, pre .1 .2, refl, anew (a .registers) (a .address) (a .context .fpd) (ofWindows (a .windows .now) (a .image .now)) (a .context .levels) (a .context .top) both (pre .1 .0))
 
 sub-entry-step : tie.Need-sub-entry-step Inv-loop μ-loop
 sub-entry-step c = search needs
@@ -51,7 +51,7 @@ returns c =
     let a = c .before .before .before .before .before .before .before .before .args in
     let l = c .before .before .before .before .before .loop in
     let told = sym (ap stepOf (c .before .step .given .1)) ∙ c .before .before .before .entry-step .ensures .0 in
-    (ended (a .registers) (a .given .address) (a .given .fpd) (ofWindows (a .windows .now) (a .image .now)) (l .level) (l .at) (record { read = l .read; write = l .write }) (l .inv .1) told ∙ l .inv .4, λ before. refl)
+    (ended (a .registers) (a .address) (a .context .fpd) (ofWindows (a .windows .now) (a .image .now)) (l .level) (l .at) (record { read = l .read; write = l .write }) (l .inv .1) told ∙ l .inv .4, λ before. refl)
 
 enum-told : tie.Need-enum-told Inv-loop μ-loop
 enum-told c = search needs
@@ -61,7 +61,7 @@ returns-2 c =
     let a = c .before .before .before .before .before .before .before .args in
     let l = c .before .before .before .before .loop in
     let told = sym (ap stepOf (c .enum-told .given .1)) ∙ c .before .before .entry-step .ensures .0 in
-    (ended (a .registers) (a .given .address) (a .given .fpd) (ofWindows (a .windows .now) (a .image .now)) (l .level) (l .at) (record { read = l .read; write = l .write }) (l .inv .1) told ∙ l .inv .4, λ before. refl)
+    (ended (a .registers) (a .address) (a .context .fpd) (ofWindows (a .windows .now) (a .image .now)) (l .level) (l .at) (record { read = l .read; write = l .write }) (l .inv .1) told ∙ l .inv .4, λ before. refl)
 
 enum-known-step-2 : tie.Need-enum-known-step-2 Inv-loop μ-loop
 enum-known-step-2 c = search needs
@@ -71,9 +71,9 @@ returns-3 c =
     let a = c .before .before .before .before .before .before .before .before .args in
     let l = c .before .before .before .before .before .loop in
     let told = sym (ap stepOf (c .before .step2 .given .1)) ∙ c .before .before .before .entry-step .ensures .0 in
-    let there = sym (ap (λ s. stepPlace s (entryAt (placeIn (a .given .address) (l .at) (l .level - 1)))) (c .before .step2 .given .1)) ∙ c .before .before .before .entry-step .ensures .1 in (
-      ended (a .registers) (a .given .address) (a .given .fpd) (ofWindows (a .windows .now) (a .image .now)) (l .level) (l .at) (record { read = l .read; write = l .write }) (l .inv .1) told ∙ l .inv .4,
-      λ before. there ∙ sym (ended-at (a .registers) (a .given .address) (a .given .fpd) (ofWindows (a .windows .now) (a .image .now)) (l .level) (l .at) (record { read = l .read; write = l .write }) (l .inv .1) before told) ∙ l .inv .5 before before,
+    let there = sym (ap (λ s. stepPlace s (entryAt (placeIn (a .address) (l .at) (l .level - 1)))) (c .before .step2 .given .1)) ∙ c .before .before .before .entry-step .ensures .1 in (
+      ended (a .registers) (a .address) (a .context .fpd) (ofWindows (a .windows .now) (a .image .now)) (l .level) (l .at) (record { read = l .read; write = l .write }) (l .inv .1) told ∙ l .inv .4,
+      λ before. there ∙ sym (ended-at (a .registers) (a .address) (a .context .fpd) (ofWindows (a .windows .now) (a .image .now)) (l .level) (l .at) (record { read = l .read; write = l .write }) (l .inv .1) before told) ∙ l .inv .5 before before,
     )
 
 enum-known-step-3 : tie.Need-enum-known-step-3 Inv-loop μ-loop
@@ -90,15 +90,15 @@ loop-again c =
     let a = c .before .before .before .before .before .before .before .before .args in
     let l = c .before .before .before .before .before .loop in
     let told = sym (ap stepOf (c .before .step3 .given .1)) ∙ c .before .before .before .entry-step .ensures .0 in
-    let next = down-to (a .registers) (a .given .address) (a .given .fpd) (ofWindows (a .windows .now) (a .image .now)) (l .level - 1) (l .at) (record { read = l .read; write = l .write }) told in (
+    let next = down-to (a .registers) (a .address) (a .context .fpd) (ofWindows (a .windows .now) (a .image .now)) (l .level - 1) (l .at) (record { read = l .read; write = l .write }) told in (
       l .inv .0,
       next .1,
       omega (arith, l .inv .2),
       next .0,
-      led (a .registers) (a .given .address) (a .given .fpd) (ofWindows (a .windows .now) (a .image .now)) (l .level) (l .at) (record { read = l .read; write = l .write }) (l .inv .1) told ∙ l .inv .4,
+      led (a .registers) (a .address) (a .context .fpd) (ofWindows (a .windows .now) (a .image .now)) (l .level) (l .at) (record { read = l .read; write = l .write }) (l .inv .1) told ∙ l .inv .4,
       λ before before′.
-          anew (a .registers) (a .given .address) (a .given .fpd) (ofWindows (a .windows .now) (a .image .now)) (l .level - 1) _ _ (next .1) before _
-          ∙ sym (led-at (a .registers) (a .given .address) (a .given .fpd) (ofWindows (a .windows .now) (a .image .now)) (l .level) (l .at) (record { read = l .read; write = l .write }) (l .inv .1) before told)
+          anew (a .registers) (a .address) (a .context .fpd) (ofWindows (a .windows .now) (a .image .now)) (l .level - 1) _ _ (next .1) before _
+          ∙ sym (led-at (a .registers) (a .address) (a .context .fpd) (ofWindows (a .windows .now) (a .image .now)) (l .level) (l .at) (record { read = l .read; write = l .write }) (l .inv .1) before told)
           ∙ l .inv .5 before before′,
     )
 
