@@ -10,12 +10,12 @@ use faults::cleared;
 use faults::overflow_cleared;
 use faults::recorded;
 use faults::slot_count;
+use image::word_or_zero;
 use packing::BAD_ANSWER;
 use packing::BAD_RECORDER;
 use packing::NO_FAULT;
 use packing::REFUSED_3;
 use packing::flag;
-use packing::word;
 
 // Refusal 3, as far as every call checks it: a state that isn't 2 bytes, or records or a next slot out of place.
 fn is_unfit(slots: usize, recorder: &[u8]) -> bool
@@ -104,8 +104,8 @@ pub extern "C" fn galitzaf_record(answer: &[u8], records: &mut [u8], recorder: &
     if answer[0] != 1 {
         return NO_FAULT;
     }
-    let low = word(answer, 8);
-    let high = word(answer, 16);
+    let low = word_or_zero(answer, 8);
+    let high = word_or_zero(answer, 16);
     let fault = FaultRecord {
         recordable: answer[2] == 1,
         low,

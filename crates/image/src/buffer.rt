@@ -4,7 +4,7 @@ ghost use mathlib.Core.List.{_++_};
 ghost use Prim.Native.Nat.{_+_, _≤_};
 ghost use lib.ListN.{length, take, drop};
 ghost use Rattle.image.specs.Bytes.{bytesOf};
-ghost use Rattle.image.specs.Memory.{wordAt, ofImage, entry, withWord};
+ghost use Rattle.image.specs.Memory.{wordAt, ofImage, entry, onFetch, withWord};
 ghost use Rattle.image.specs.Answers.{fetched8, missed8};
 use crate::Found8;
 
@@ -47,6 +47,16 @@ pub fn fetch8(image: &[u8], at: u64) -> Found8
     ensures { λ r. ⌜ missed8 r at ≡ at ⌝ }
 {
     fetch8_of(image, at, at)
+}
+
+// The word of a buffer at a place; 0 where it doesn't lie whole in it.
+pub fn word_or_zero(buffer: &[u8], at: u64) -> u64
+    ensures { λ r. ⌜ r ≡ onFetch (entry 1 (ofImage (now (buffer .entry))) at) 0 (λ w. w) ⌝ }
+{
+    match fetch8(buffer, at) {
+        Found8::Entry(word) => word,
+        Found8::Missing(_) => 0,
+    }
 }
 
 // A word into the 8 bytes from an index, lowest byte first.

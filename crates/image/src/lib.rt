@@ -10,6 +10,7 @@ mod windows;
 
 pub use buffer::fetch8;
 pub use buffer::store8;
+pub use buffer::word_or_zero;
 pub use entries::Held;
 pub use entries::fetch16;
 pub use entries::fetch64;

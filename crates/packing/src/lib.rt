@@ -1,7 +1,6 @@
 // What the calls of the C interface have in common, as include/galitzaf.h fixes it: statuses, the registers' bytes, and the bytes of answers.
 mod answer;
 mod arguments;
-mod buffer;
 mod status;
 mod unpacking;
 
@@ -18,7 +17,6 @@ pub use answer::short;
 pub use answer::store;
 pub use answer::store_memory;
 pub use arguments::bad_arguments;
-pub use buffer::word;
 pub use status::BAD_ANSWER;
 pub use status::BAD_KIND;
 pub use status::BAD_METERS;

@@ -3,8 +3,8 @@ ghost use mathlib.Core.Path.{_≡_};
 ghost use mathlib.Core.Bool.{false};
 ghost use Rattle.image.specs.Bits.{bit};
 ghost use Rattle.packing.specs.Registers.{malformedRegisters, unpacked};
-use crate::buffer::word;
 use image::field;
+use image::word_or_zero;
 use registers::Registers;
 
 pub fn bit(word: u64, place: u32) -> bool
@@ -19,7 +19,7 @@ pub fn malformed(registers: &[u8]) -> bool
     if registers.len() != 24 {
         return true;
     }
-    let head = word(registers, 0);
+    let head = word_or_zero(registers, 0);
     if field(head, 23, 22) != 0 {
         return true;
     }
@@ -33,7 +33,7 @@ pub fn unpack(registers: &[u8]) -> Registers
     requires { ⌜ malformedRegisters (now registers) ≡ false ⌝ }
     ensures { λ r. ⌜ r ≡ unpacked (now (registers .entry)) ⌝ }
 {
-    let head = word(registers, 0);
+    let head = word_or_zero(registers, 0);
     Registers {
         haw: field(head, 7, 0) as u8,
         mgaw: field(head, 15, 8) as u8,
@@ -43,8 +43,8 @@ pub fn unpack(registers: &[u8]) -> Registers
         pages_2m: bit(head, 19),
         pages_1g: bit(head, 20),
         posting: bit(head, 21),
-        root_table: word(registers, 8),
-        interrupt_table: word(registers, 16),
+        root_table: word_or_zero(registers, 8),
+        interrupt_table: word_or_zero(registers, 16),
         s: field(head, 39, 32) as u8,
         te: bit(head, 24),
         ire: bit(head, 25),

@@ -5,19 +5,15 @@ ghost use lib.ListN.{length};
 ghost use Rattle.dma.specs.Walk.{placeIn};
 ghost use Rattle.tables.specs.Tables.{heldEntry, present, mapsPage, tableOf, emptyTable, wordsZeroed};
 use dma::entry_offset;
-use image::Found8;
-use image::fetch8;
 use image::field;
 use image::in_place;
 use image::store8;
+use image::word_or_zero;
 
 pub fn entry_of(bytes: &[u8], at: u64) -> u64
     ensures { λ r. ⌜ r ≡ heldEntry (now (bytes .entry)) at ⌝ }
 {
-    match fetch8(bytes, at) {
-        Found8::Entry(e) => e,
-        Found8::Missing(_) => 0,
-    }
+    word_or_zero(bytes, at)
 }
 
 // Bits 1:0 are not both clear.

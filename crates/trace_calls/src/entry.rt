@@ -4,7 +4,7 @@ ghost use Prim.Native.Nat.{_<_, min};
 ghost use Rattle.image.specs.Bits.{bits};
 ghost use Rattle.answered.specs.Answered.{widthOf};
 ghost use Rattle.trace_calls.specs.Packed.{with, faultPacked, remappedPacked, postedPacked, pagePacked, passedPacked, entryPacked, packedIn};
-use packing::word;
+use image::word_or_zero;
 use trace::Traced;
 
 // Bytes 0 to 3, and bytes 7:4.
@@ -159,9 +159,9 @@ pub(crate) fn with_answer(e: Traced, answer: &[u8]) -> Traced
 {
     of_words(
         e,
-        word(answer, 0),
-        word(answer, 8),
-        word(answer, 16),
-        word(answer, 24),
+        word_or_zero(answer, 0),
+        word_or_zero(answer, 8),
+        word_or_zero(answer, 16),
+        word_or_zero(answer, 24),
     )
 }

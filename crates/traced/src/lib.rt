@@ -5,7 +5,6 @@ ghost use Prim.Native.Nat.{_+_, _≤_};
 ghost use lib.ListN.{length, take, drop};
 ghost use Rattle.image.specs.Bytes.{bytesOf};
 ghost use Rattle.image.specs.Choice.{if_then_else_};
-ghost use Rattle.image.specs.Memory.{onFetch, entry, ofImage};
 ghost use lib.Dec.{leb};
 ghost use Rattle.traced.specs.Decoded.{decoded};
 ghost use Rattle.traced.specs.Answers.{decodedOf};
@@ -14,10 +13,9 @@ ghost use Rattle.traced.specs.Well.{wellTraced};
 
 mod well;
 
-use image::Found8;
-use image::fetch8;
 use image::field;
 use image::store8;
+use image::word_or_zero;
 pub use well::is_well;
 
 // What each number says is told with the test that an entry is laid out well. A field that a kind and an answer
@@ -90,24 +88,14 @@ pub fn encode(buffer: &mut [u8], at: u64, e: Traced)
     store8(buffer, at + 24, value(e));
 }
 
-// A word of a buffer; 0 where it doesn't lie whole in it.
-fn word(bytes: &[u8], at: u64) -> u64
-    ensures { λ r. ⌜ r ≡ onFetch (entry 1 (ofImage (now (bytes .entry))) at) 0 (λ w. w) ⌝ }
-{
-    match fetch8(bytes, at) {
-        Found8::Entry(word) => word,
-        Found8::Missing(_) => 0,
-    }
-}
-
 fn fields(bytes: &[u8], at: u64) -> Traced
     requires { ⌜ at + 32 ≤ length (now bytes) ⌝ }
     ensures { λ r. ⌜ r ≡ tracedIn (take 32 (drop at (now (bytes .entry)))) ⌝ }
 {
-    let head = word(bytes, at);
-    let address = word(bytes, at + 8);
-    let message = word(bytes, at + 16);
-    let value = word(bytes, at + 24);
+    let head = word_or_zero(bytes, at);
+    let address = word_or_zero(bytes, at + 8);
+    let message = word_or_zero(bytes, at + 16);
+    let value = word_or_zero(bytes, at + 24);
     Traced {
         kind: field(head, 7, 0) as u8,
         answer: field(head, 15, 8) as u8,

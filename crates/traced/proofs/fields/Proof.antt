@@ -19,10 +19,10 @@ returns c =
       c .before .before .field7 .ensures,
       c .before .field8 .ensures,
       c .field9 .ensures,
-      w .word4 .ensures,
-      w .before .word3 .ensures,
-      w .before .before .word2 .ensures,
-      w .before .before .before .word .ensures,
+      w .word-or-zero4 .ensures,
+      w .before .word-or-zero3 .ensures,
+      w .before .before .word-or-zero2 .ensures,
+      w .before .before .before .word-or-zero .ensures,
     )
     (read-fields (now (a .bytes)) (a .at) (w .before .before .before .before .before .pre))
 

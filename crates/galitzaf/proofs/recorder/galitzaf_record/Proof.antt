@@ -88,8 +88,8 @@ returns-5 c =
       eq-eqb _ _ (fourth .if4 .left),
       ← word-of answer (sound second) 8 (lit≤ tt),
       ← word-of answer (sound second) 16 (lit≤ tt),
-      ← words .before .word .ensures,
-      ← words .word2 .ensures,
+      ← words .before .word-or-zero .ensures,
+      ← words .word-or-zero2 .ensures,
       ← read .read-state .ensures .0,
       ← read .read-state .ensures .1,
     )

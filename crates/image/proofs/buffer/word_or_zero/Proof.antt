@@ -1,10 +1,10 @@
 use mathlib.Core.Path.{ap, sym, _∙_}
 use Prim.Native.Nat.{ℕ}
 use Rattle.image.specs.Answers.{fetched8}
 use Rattle.image.specs.Memory.{Fetched, onFetch}
 use borrow.Author.Needs.{needs}
-use Rattle.packing.proofs.buffer.word.Statement.{statement}
-use Rattle.packing.proofs.buffer.word.Tie as tie
+use Rattle.image.proofs.buffer.word_or_zero.Statement.{statement}
+use Rattle.image.proofs.buffer.word_or_zero.Tie as tie
 
 fetch8-requires : tie.Need-fetch8-requires
 fetch8-requires c κs = search needs
@@ -21,5 +21,5 @@ returns c = ap (λ (f : Fetched). onFetch f 0 (λ (w : ℕ). w)) (sym (ap fetche
 returns-2 : tie.Need-returns-2
 returns-2 c = ap (λ (f : Fetched). onFetch f 0 (λ (w : ℕ). w)) (sym (ap fetched8 (c .enum-told .given .1)) ∙ c .before .before .fetch8 .ensures .0)
 
-pub word-spec : {M : Type 1} → statement M
-word-spec = tie.close (tie.spec fetch8-requires enum-known-word enum-told returns returns-2)
+pub word-or-zero-spec : {M : Type 1} → statement M
+word-or-zero-spec = tie.close (tie.spec fetch8-requires enum-known-word enum-told returns returns-2)
