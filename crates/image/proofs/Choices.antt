@@ -17,6 +17,11 @@ pub chosen : {A : Type 0} (P : A → Type 0) (t : Bool) {a b : A} → (t ≡ tru
 chosen P true x y = x refl
 chosen P false x y = y refl
 
+-- a value that isn't the first of a choice is the second, and the test fails
+pub otherwise : {A : Type 0} (t : Bool) {a b x : A} → (x ≡ a → ⊥) → x ≡ (if t then a else b) → (t ≡ false) × (x ≡ b)
+otherwise true other h = absurd (other h)
+otherwise false other h = (refl, h)
+
 -- tests joined: both hold, or neither does
 pub both : (a b : Bool) → (a && b) ≡ true → (a ≡ true) × (b ≡ true)
 both true b h = (refl, h)

@@ -6,9 +6,11 @@ use mathlib.Core.Path.{_≡_, refl, ap, sym, _∙_, subst}
 use native.Mathlib.Omega.{arith}
 use Rattle.image.specs.Bits.{bit}
 use Rattle.image.specs.Choice.{if_then_else_}
+use Rattle.image.specs.EntryKind.{firstLevelEntry}
 use Rattle.image.specs.Memory.{Memory}
 use Rattle.image.specs.Place.{Place, entryAt, lastTried}
 use Rattle.image.specs.Rules.{Rules, run}
+use Rattle.image.proofs.Choices.{otherwise}
 use Rattle.dma.specs.Page.{hostAddress, leafAt}
 use Rattle.dma.specs.Walk.{Step, done, down, placeIn}
 use Rattle.dma.proofs.Stepped.{more-levels}
@@ -16,10 +18,8 @@ use Rattle.pasid.specs.declared.ScalableRegisters.{ScalableRegisters}
 use Rattle.pasid.specs.declared.table.PasidEntry.{PasidEntry}
 use Rattle.flags.specs.Flags.{flag}
 use Rattle.first.specs.First.{FirstStep, down as downTo, page, fault as stop, onFirst, firstFlags, firstReserved, flagClear, notSnooped, userDenied, writeDenied, firstFrame, firstStep}
-use Rattle.second.proofs.Seconds.{otherwise}
 use Rattle.nested.specs.Pages.{Pages, reached, fault, FirstHanded, firstHanded, entryFlags, noFirstEntry, locate, walkStep, firstRules}
 use Rattle.nested.specs.Way.{Located, located, lost}
-use Rattle.image.specs.EntryKind.{firstLevelEntry}
 use Rattle.nested.specs.Answers.{LevelGrows}
 use Rattle.nested.specs.Stages.{entryOver}
 use Rattle.nested.specs.declared.level.Level.{Level}

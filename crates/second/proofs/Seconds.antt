@@ -10,7 +10,7 @@ use Rattle.image.specs.Choice.{if_then_else_}
 use Rattle.image.specs.Memory.{Memory, Fetched, missing, found, entry, onFetch}
 use Rattle.image.specs.Place.{Place, entryAt, lastTried}
 use Rattle.image.specs.Rules.{run}
-use Rattle.image.proofs.Choices.{neither}
+use Rattle.image.proofs.Choices.{otherwise, neither}
 use Rattle.image.proofs.Fields.{in-place-lt}
 use Rattle.registers.specs.declared.Registers.{Registers}
 use Rattle.dma.specs.Page.{leafAt, pageReserved}
@@ -22,11 +22,6 @@ use Rattle.pasid.specs.declared.ScalableRegisters.{ScalableRegisters}
 use Rattle.pasid.specs.declared.table.PasidEntry.{PasidEntry}
 use Rattle.second.specs.Second.{Walked, page, fault, SecondHanded, readable, writable, handedOn, flagsNotSnooped, secondFlags, noSecondEntry, secondStep, secondOver, secondRules}
 use Rattle.second.specs.declared.step.Wanted.{Wanted}
-
--- a value that isn't the first of a choice is the second, and the test fails
-pub otherwise : {A : Type 0} (t : Bool) {a b x : A} → (x ≡ a → ⊥) → x ≡ (if t then a else b) → (t ≡ false) × (x ≡ b)
-otherwise true other h = absurd (other h)
-otherwise false other h = (refl, h)
 
 -- a step that leads down ends nothing
 not-done : {next : ℕ} {t : SecondHanded} {a : Walked} → down next t ≡ done a → ⊥
