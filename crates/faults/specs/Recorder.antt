@@ -1,4 +1,4 @@
--- Document 01, "The fault slip and its recorder", over the number of slots: what each call answers and leaves.
+-- Document 01, the recorder, over the number of slots: what each call answers and leaves.
 use Prim.Native.Nat.{ℕ, _+_, _%_}
 use mathlib.Core.Bool.{Bool, true, false, not, _||_}
 use mathlib.Core.List.{List}

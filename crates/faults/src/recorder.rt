@@ -1,11 +1,10 @@
 // The recorder: records in a lent buffer, whose length gives the number of slots, and its small state.
 ghost use mathlib.Core.Path.{_≡_};
-ghost use Prim.Native.Nat.{_%_, _+_, _^_, _<_, _≤_};
-ghost use mathlib.Core.List.{[], _∷_};
+ghost use Prim.Native.Nat.{ℕ, _%_, _+_, _^_, _<_, _≤_};
+ghost use mathlib.Core.List.{List, [], _∷_};
 ghost use Rattle.image.specs.Bytes.{spell};
-ghost use Rattle.faults.specs.Answers.{afterOf, answerOf};
-ghost use Rattle.faults.specs.Answers.{faultOf};
-ghost use Rattle.faults.specs.Recorder.{recording, clearing, clearingOverflow};
+ghost use Rattle.faults.specs.Answers.{afterOf, answerOf, faultOf};
+ghost use Rattle.faults.specs.Recorder.{leaves, recording, clearing, clearingOverflow};
 ghost use Rattle.faults.specs.Slots.{slotsOf, slotsIn};
 use crate::fault::Fault;
 use crate::slots::clear_record;
@@ -74,6 +73,17 @@ pub struct RecorderStep {
     pub recorder: Recorder,
 }
 
+impl RecorderStep {
+    fn new(answer: RecorderAnswer, next: u8, overflow: bool) -> RecorderStep
+        ensures { λ r. ⌜ ((buffer : List ℕ) → afterOf r buffer ≡ leaves (answerOf answer) buffer next overflow) ⌝ }
+    {
+        RecorderStep {
+            answer,
+            recorder: Recorder { next, overflow },
+        }
+    }
+}
+
 // The slots of a buffer by its length: none where it isn't one of these.
 pub fn slot_count(len: usize) -> usize
     ensures { λ r. ⌜ r ≡ slotsOf len ⌝ }
@@ -118,40 +128,19 @@ pub fn after_words(
     let next = recorder.next;
     let overflow = recorder.overflow;
     if slots <= next as usize {
-        return RecorderStep {
-            answer: RecorderAnswer::Refused,
-            recorder,
-        };
+        return RecorderStep::new(RecorderAnswer::Refused, next, overflow);
     }
     if !recordable {
-        return RecorderStep {
-            answer: RecorderAnswer::NotRecordable,
-            recorder,
-        };
+        return RecorderStep::new(RecorderAnswer::NotRecordable, next, overflow);
     }
     if overflow {
-        return RecorderStep {
-            answer: RecorderAnswer::Dropped,
-            recorder,
-        };
+        return RecorderStep::new(RecorderAnswer::Dropped, next, overflow);
     }
     if is_standing(buffer, next as usize) {
-        return RecorderStep {
-            answer: RecorderAnswer::Overflowed,
-            recorder: Recorder {
-                next,
-                overflow: true,
-            },
-        };
+        return RecorderStep::new(RecorderAnswer::Overflowed, next, true);
     }
     write_record(buffer, next as usize, low, with_bit_127(high));
-    RecorderStep {
-        answer: RecorderAnswer::Written,
-        recorder: Recorder {
-            next: slot_after(next, slots),
-            overflow,
-        },
-    }
+    RecorderStep::new(RecorderAnswer::Written, slot_after(next, slots), overflow)
 }
 
 // The recorder after a fault was handed to it.
@@ -167,22 +156,17 @@ pub fn after_clear(buffer: &mut [u8], recorder: Recorder, slot: u8) -> RecorderS
 {
     let slots = slot_count(buffer.len());
     if (slots <= recorder.next as usize) | (slots <= slot as usize) {
-        return RecorderStep {
-            answer: RecorderAnswer::Refused,
-            recorder,
-        };
+        return RecorderStep::new(RecorderAnswer::Refused, recorder.next, recorder.overflow);
     }
     if is_standing(buffer, slot as usize) {
         clear_record(buffer, slot as usize);
-        return RecorderStep {
-            answer: RecorderAnswer::SlotCleared,
-            recorder,
-        };
+        return RecorderStep::new(
+            RecorderAnswer::SlotCleared,
+            recorder.next,
+            recorder.overflow,
+        );
     }
-    RecorderStep {
-        answer: RecorderAnswer::SlotClear,
-        recorder,
-    }
+    RecorderStep::new(RecorderAnswer::SlotClear, recorder.next, recorder.overflow)
 }
 
 // The recorder after its overflow flag was cleared.
@@ -191,23 +175,14 @@ pub fn after_clear_overflow(buffer: &[u8], recorder: Recorder) -> RecorderStep
 {
     let slots = slot_count(buffer.len());
     if slots <= recorder.next as usize {
-        return RecorderStep {
-            answer: RecorderAnswer::Refused,
-            recorder,
-        };
+        return RecorderStep::new(RecorderAnswer::Refused, recorder.next, recorder.overflow);
     }
     if recorder.overflow {
-        RecorderStep {
-            answer: RecorderAnswer::OverflowCleared,
-            recorder: Recorder {
-                next: recorder.next,
-                overflow: false,
-            },
-        }
-    } else {
-        RecorderStep {
-            answer: RecorderAnswer::OverflowClear,
-            recorder,
-        }
+        return RecorderStep::new(RecorderAnswer::OverflowCleared, recorder.next, false);
     }
+    RecorderStep::new(
+        RecorderAnswer::OverflowClear,
+        recorder.next,
+        recorder.overflow,
+    )
 }

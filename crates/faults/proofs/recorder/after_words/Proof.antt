@@ -1,5 +1,6 @@
 -- Each way out is a case of the definition. Past the refusal the next slot lies in the buffer.
 use Prim.Native.Nat.{_+_, _*_, _≤_}
+use mathlib.Core.Path.{_∙_}
 use native.Mathlib.Omega.{arith}
 use borrow.Author.Needs.{needs}
 use borrow.Author.Tests.{le-leb, lt-leb}
@@ -14,20 +15,33 @@ use Rattle.faults.proofs.recorder.after_words.Tie as tie
 returns : tie.Need-returns
 unfolding recording
 returns c =
-    let n = c .before in
-    rw (← n .slot-count .ensures, le-leb (n .slot-count .result) (n .before .before .args .recorder .next) (omega (arith, c .if1 .taken)))
+    let n = c .before .before in
+    c .new .ensures _ ∙ rw (
+      ← n .slot-count .ensures,
+      le-leb (n .slot-count .result) (n .before .before .args .recorder .next) (omega (arith, c .before .if1 .taken)),
+    )
 
 returns-2 : tie.Need-returns-2
 unfolding recording
 returns-2 c =
-    let kept = c .before in
-    rw (← kept .before .slot-count .ensures, lt-leb (kept .before .slot-count .result) _ (kept .if1 .left), c .if2 .taken)
+    let kept = c .before .before in
+    c .new2 .ensures _ ∙ rw (
+      ← kept .before .slot-count .ensures,
+      lt-leb (kept .before .slot-count .result) _ (kept .if1 .left),
+      c .before .if2 .taken,
+    )
 
 returns-3 : tie.Need-returns-3
 unfolding recording
 returns-3 c =
-    let kept = c .before .before in
-    rw (← kept .before .slot-count .ensures, lt-leb _ _ (kept .if1 .left), c .before .if2 .left, c .if3 .taken)
+    let second = c .before .before in
+    let kept = second .before in
+    c .new3 .ensures _ ∙ rw (
+      ← kept .before .slot-count .ensures,
+      lt-leb _ _ (kept .if1 .left),
+      second .if2 .left,
+      c .before .if3 .taken,
+    )
 
 reached : (c : tie.Else1)
     → let a = c .before .before .before .args in 16 * (a .recorder .next) + 16 ≤ length (now (a .buffer))
@@ -41,15 +55,16 @@ is-standing-requires c κs = reached (c .before .before .before)
 returns-4 : tie.Need-returns-4
 unfolding recording
 returns-4 c =
-    let third = c .before .before .before in
+    let stood = c .before in
+    let third = stood .before .before .before in
     let kept = third .before .before in
-    rw (
+    c .new4 .ensures _ ∙ rw (
       ← kept .before .slot-count .ensures,
       lt-leb _ _ (kept .if1 .left),
       third .before .if2 .left,
       third .if3 .left,
-      ← c .before .is-standing .ensures,
-      c .if4 .taken,
+      ← stood .before .is-standing .ensures,
+      stood .if4 .taken,
     )
 
 write-record-requires : tie.Need-write-record-requires
@@ -64,12 +79,13 @@ slot-after-requires c κs =
 returns-5 : tie.Need-returns-5
 unfolding recording
 returns-5 c =
-    let wrote = c .before .before .before in
+    let advanced = c .before in
+    let wrote = advanced .before .before .before in
     let fourth = wrote .before .before .before in
     let third = fourth .before .before .before in
     let kept = third .before .before in
     let s = kept .before .before .before in
-    rw (
+    c .new5 .ensures _ ∙ rw (
       ← kept .before .slot-count .ensures,
       lt-leb _ _ (kept .if1 .left),
       third .before .if2 .left,
@@ -79,12 +95,13 @@ returns-5 c =
       ← marked (s .args .low) (s .args .high) (s .fits .low .fits),
       ← wrote .before .with-bit-127 .ensures,
       wrote .write-record .ensures,
-      c .slot-after .ensures,
+      advanced .slot-after .ensures,
     )
 
 pub after-words-spec : {M : Type 1} → statement M
 after-words-spec =
     tie.close
     (tie.spec
-    (λ c κs. search needs) (λ c. search needs) returns returns-2 returns-3 (λ c. search needs) is-standing-requires (λ c. search needs)
-    returns-4 (λ c. search needs) (λ c κs. search needs) write-record-requires slot-after-requires (λ c. search needs) returns-5)
+    (λ c κs. search needs) (λ c. search needs) (λ c κs. search needs) returns (λ c κs. search needs) returns-2 (λ c κs. search needs) returns-3
+    (λ c. search needs) is-standing-requires (λ c κs. search needs) (λ c. search needs) returns-4 (λ c. search needs) (λ c κs. search needs) write-record-requires
+    slot-after-requires (λ c κs. search needs) (λ c. search needs) returns-5)
