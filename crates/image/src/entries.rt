@@ -202,6 +202,7 @@ pub fn page_entry16(windows: &[u64], image: &[u8], table: u64, offset: u64) -> F
 pub fn page_entry32(windows: &[u64], image: &[u8], table: u64, offset: u64) -> Found64
     requires { ⌜ (badWindows (now windows) (length (now image)) ≡ false) × (table % 4096 ≡ 0) × (offset < 4096) × (offset % 32 ≡ 0) ⌝ }
     ensures { λ r. ⌜ fetched64 r ≡ entry 4 (ofWindows (now (windows .entry)) (now (image .entry))) (table + offset) ⌝ }
+    ensures { λ r. ⌜ missed64 r (table + offset) ≡ table + offset ⌝ }
 {
     let Found16::Entry(low) = page_entry16(windows, image, table, offset) else {
         return Found64::Missing(table + offset);

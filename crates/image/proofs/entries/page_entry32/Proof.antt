@@ -22,7 +22,7 @@ add-t8 : tie.Need-add-t8
 add-t8 c = search needs
 
 returns : tie.Need-returns
-returns c = none-low (ofWindows (c .before .before .before .before .before .args .windows .now) (c .before .before .before .before .before .args .image .now)) (c .before .before .before .before .before .args .table + c .before .before .before .before .before .args .offset) (sym (ap fetched16 (c .enum-told .given .1)) ∙ c .before .before .page-entry16 .ensures .0)
+returns c = (none-low (ofWindows (c .before .before .before .before .before .args .windows .now) (c .before .before .before .before .before .args .image .now)) (c .before .before .before .before .before .args .table + c .before .before .before .before .before .args .offset) (sym (ap fetched16 (c .enum-told .given .1)) ∙ c .before .before .page-entry16 .ensures .0), refl)
 
 add-page-entry16 : tie.Need-add-page-entry16
 add-page-entry16 c = search needs
@@ -41,18 +41,22 @@ add-t11 c = search needs
 
 returns-2 : tie.Need-returns-2
 returns-2 c =
-    let same : c .before .before .before .before .before .before .before .before .before .args .table + (c .before .before .before .before .before .before .before .before .before .args .offset + 16) ≡ c .before .before .before .before .before .before .before .before .before .args .table + c .before .before .before .before .before .before .before .before .before .args .offset + 16 = omega arith in
-    none-high (ofWindows (c .before .before .before .before .before .before .before .before .before .args .windows .now) (c .before .before .before .before .before .before .before .before .before .args .image .now)) (c .before .before .before .before .before .before .before .before .before .args .table + c .before .before .before .before .before .before .before .before .before .args .offset) (sym (ap fetched16 (c .before .before .before .before .low .given .1)) ∙ c .before .before .before .before .before .before .page-entry16 .ensures .0)
-    (sym (ap fetched16 (c .enum-told2 .given .1)) ∙ c .before .before .page-entry162 .ensures .0 ∙ ap (entry 2 (ofWindows (c .before .before .before .before .before .before .before .before .before .args .windows .now) (c .before .before .before .before .before .before .before .before .before .args .image .now))) same)
+    let same : c .before .before .before .before .before .before .before .before .before .args .table + (c .before .before .before .before .before .before .before .before .before .args .offset + 16) ≡ c .before .before .before .before .before .before .before .before .before .args .table + c .before .before .before .before .before .before .before .before .before .args .offset + 16 = omega arith in (
+      none-high (ofWindows (c .before .before .before .before .before .before .before .before .before .args .windows .now) (c .before .before .before .before .before .before .before .before .before .args .image .now)) (c .before .before .before .before .before .before .before .before .before .args .table + c .before .before .before .before .before .before .before .before .before .args .offset) (sym (ap fetched16 (c .before .before .before .before .low .given .1)) ∙ c .before .before .before .before .before .before .page-entry16 .ensures .0)
+          (sym (ap fetched16 (c .enum-told2 .given .1)) ∙ c .before .before .page-entry162 .ensures .0 ∙ ap (entry 2 (ofWindows (c .before .before .before .before .before .before .before .before .before .args .windows .now) (c .before .before .before .before .before .before .before .before .before .args .image .now))) same),
+      refl,
+    )
 
 returns-3 : tie.Need-returns-3
 returns-3 c =
     let same : c .before .before .before .before .before .before .before .before .before .before .args .table + (c .before .before .before .before .before .before .before .before .before .before .args .offset + 16) ≡ c .before .before .before .before .before .before .before .before .before .before .args .table + c .before .before .before .before .before .before .before .before .before .before .args .offset + 16 = omega arith in
     let l = c .before .before .before .before .before .low .given .0 .0 in
-    let h = c .before .high .given .0 .0 in
-    both (ofWindows (c .before .before .before .before .before .before .before .before .before .before .args .windows .now) (c .before .before .before .before .before .before .before .before .before .before .args .image .now)) (c .before .before .before .before .before .before .before .before .before .before .args .table + c .before .before .before .before .before .before .before .before .before .before .args .offset) (l .low) (l .high) (h .low) (h .high)
-    (sym (ap fetched16 (c .before .before .before .before .before .low .given .1)) ∙ c .before .before .before .before .before .before .before .page-entry16 .ensures .0)
-    (sym (ap fetched16 (c .before .high .given .1)) ∙ c .before .before .before .page-entry162 .ensures .0 ∙ ap (entry 2 (ofWindows (c .before .before .before .before .before .before .before .before .before .before .args .windows .now) (c .before .before .before .before .before .before .before .before .before .before .args .image .now))) same)
+    let h = c .before .high .given .0 .0 in (
+      both (ofWindows (c .before .before .before .before .before .before .before .before .before .before .args .windows .now) (c .before .before .before .before .before .before .before .before .before .before .args .image .now)) (c .before .before .before .before .before .before .before .before .before .before .args .table + c .before .before .before .before .before .before .before .before .before .before .args .offset) (l .low) (l .high) (h .low) (h .high)
+          (sym (ap fetched16 (c .before .before .before .before .before .low .given .1)) ∙ c .before .before .before .before .before .before .before .page-entry16 .ensures .0)
+          (sym (ap fetched16 (c .before .high .given .1)) ∙ c .before .before .before .page-entry162 .ensures .0 ∙ ap (entry 2 (ofWindows (c .before .before .before .before .before .before .before .before .before .before .args .windows .now) (c .before .before .before .before .before .before .before .before .before .before .args .image .now))) same),
+      refl,
+    )
 
 pub page-entry32-spec : {M : Type 1} → statement M
 page-entry32-spec =

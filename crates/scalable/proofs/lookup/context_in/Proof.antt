@@ -36,7 +36,7 @@ abbrev start : tie.After-page-entry32 → tie.Start
 start f = f .before .before .before .before
 
 fetched : (f : tie.After-page-entry32) → fetched64 (f .page-entry32 .result) ≡ entry 4 (memory (start f)) (at (start f))
-fetched f = f .page-entry32 .ensures ∙ ap (entry 4 (memory (start f))) (there (start f))
+fetched f = f .page-entry32 .ensures .0 ∙ ap (entry 4 (memory (start f))) (there (start f))
 
 -- an entry that was fetched, and its check
 module _ (k : tie.After-context-check) where
