@@ -8,10 +8,10 @@ use native.Mathlib.Omega.{arith}
 use native.Mathlib.Decide.{ℕ-discrete}
 use Rattle.image.specs.EntryKind.{EntryKind}
 use Rattle.image.specs.Memory.{Memory, Fetched, missing, found}
-use Rattle.image.specs.Rules.{Rules, answer, run, named, Outside, SameIn}
+use Rattle.image.specs.Rules.{Rules, answer, run, named, SameIn}
 use Rattle.image.proofs.Forks.{Every, every-answer, every-more, every-outside}
 use Rattle.image.proofs.Local.{local}
-use Rattle.image.proofs.Trees.{met}
+use Rattle.image.proofs.Trees.{Outside, met}
 use Rattle.registers.specs.Registers.{registersBad}
 use Rattle.registers.specs.Admission.{Admitted, refusal, pass, takenUp, admission}
 use Rattle.registers.specs.declared.Registers.{Registers}

@@ -10,7 +10,6 @@ use borrow.Author.Tests.{le-leb, lt-leb, leb-true}
 use lib.Dec.{leb, lit≤}
 use lib.ListN.{length, getD, set, take, drop, take-append-drop, length-set, length-take, length-drop, List·getD-append}
 use lib.Seq.{getD-set-same, getD-set-other, take-append-le, drop-append-le}
-use Rattle.image.specs.Alike.{SameWord, SameWords}
 use Rattle.image.specs.Bits.{bits}
 use Rattle.image.specs.Bytes.{littleEndian, bytesOf}
 use Rattle.image.specs.Choice.{if_then_else_}
@@ -19,7 +18,7 @@ use Rattle.image.specs.Rules.{run, mapRules, named, entriesOf, wordsFrom}
 use Rattle.image.specs.Windows.{Window, windowsOf, holdsAll, Spot, nowhere, here, onSpot, spotIn, entryIn, ofWindows, badWithAny, badList, badWindows, flat}
 use Rattle.image.proofs.FlatWindow.{flat-is, flat-fine}
 use Rattle.image.proofs.GoodWindows.{holding, past-it}
-use Rattle.image.proofs.Longer.{longer}
+use Rattle.image.proofs.Longer.{SameWord, SameWords, longer}
 use Rattle.registers.specs.Admission.{admission}
 use Rattle.registers.specs.Registers.{registersBad}
 use Rattle.registers.specs.declared.Registers.{Registers}

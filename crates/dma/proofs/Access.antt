@@ -5,11 +5,11 @@ use mathlib.Core.Bool.{Bool, true, false}
 use mathlib.Core.Path.{_≡_, ap, ap₂, sym, _∙_}
 use native.Mathlib.Omega.{arith}
 use Rattle.image.specs.Place.{noEntry}
-use Rattle.image.specs.Rules.{run, Outside}
+use Rattle.image.specs.Rules.{run}
 use Rattle.image.proofs.Forks.{every-outside}
 use Rattle.image.proofs.Local.{local}
 use Rattle.image.proofs.Places.{local-place}
-use Rattle.image.proofs.Trees.{met as complete}
+use Rattle.image.proofs.Trees.{Outside, met as complete}
 use Rattle.registers.specs.declared.Registers.{Registers}
 use Rattle.dma.specs.Isolation.{accessFault, answerOver, Locality}
 use Rattle.dma.specs.Requests.{memoryRules, concerned}

@@ -10,7 +10,8 @@ use lib.ListN.{length, length-append}
 use Rattle.image.specs.Choice.{if_then_else_}
 use Rattle.image.specs.EntryKind.{EntryKind, wordsOf}
 use Rattle.image.specs.Memory.{Memory, Fetched, missing, found, entry, onFetch}
-use Rattle.image.specs.Rules.{Rules, answer, fetch, run, named, entriesOf, Outside, mapRules, wordsFrom}
+use Rattle.image.specs.Rules.{Rules, answer, fetch, run, named, entriesOf, mapRules, wordsFrom}
+use Rattle.image.proofs.Trees.{Outside}
 
 -- every fork is so, by its entry's kind and place and by what it answers where the entry can't be fetched; every other answer is so; and
 -- no way through the rules reads more than so many words

@@ -4,7 +4,6 @@ pub mod Fields
 pub mod FlatWindow
 pub mod Forks
 pub mod Halves
-pub mod Isolated
 pub mod Local
 pub mod Longer
 pub mod Pages

@@ -4,7 +4,8 @@ use mathlib.Core.Path.{_≡_, refl, ap, sym, _∙_, subst}
 use mathlib.Core.List.{List, [], _∷_, _++_}
 use Rattle.image.specs.EntryKind.{EntryKind, wordsOf}
 use Rattle.image.specs.Memory.{Memory, Fetched, missing, found, entry, onFetch}
-use Rattle.image.specs.Rules.{Rules, answer, fetch, run, named, Complete, wordsFrom, SameIn}
+use Rattle.image.specs.Rules.{Rules, answer, fetch, run, named, wordsFrom, SameIn}
+use Rattle.image.proofs.Trees.{Complete}
 
 pub alike-left : (xs ys : List ℕ) (m m′ : Memory) → SameIn (xs ++ ys) m m′ → SameIn xs m m′
 unfolding SameIn

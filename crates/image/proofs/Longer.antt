@@ -5,7 +5,7 @@ use mathlib.Core.List.{List, [], _∷_, _++_}
 use native.Mathlib.Omega.{arith}
 use lib.ListN.{length, take, drop, length-append, length-drop}
 use lib.Seq.{take-append-le, drop-append-le}
-use Rattle.image.specs.Alike.{SameWord, SameWords, Extends}
+use Rattle.image.specs.Alike.{Extends}
 use Rattle.image.specs.EntryKind.{EntryKind, wordsOf}
 use Rattle.image.specs.Memory.{Memory, Fetched, missing, found, join, onFetch, ofImage, entry}
 use Rattle.image.specs.Rules.{Rules, answer, fetch, wordsFrom, named, SameIn}
@@ -39,6 +39,17 @@ module _ (m m′ : Memory) (extends : Extends m m′) where
           → SameIn (onFetch f [] (λ e. wordsFrom (wordsOf kind) at ++ named (next e) m)) m m′
       by missing told ih = tt
       by (found e) told ih = entry-kept (wordsOf kind) at (named (next e) m) (aligned kind at outside (is .1)) told (ih e)
+
+-- Two images that are alike in a word: it lies whole in both with the same bytes. Whatever else they hold, and how long they are, is free.
+pub record SameWord (image image′ : List ℕ) (at : ℕ) : Type 0 where
+  pub whole : at + 8 ≤ length image
+  pub whole′ : at + 8 ≤ length image′
+  pub bytes : take 8 (drop at image) ≡ take 8 (drop at image′)
+
+-- alike in each of these words
+unfoldable pub SameWords : List ℕ → List ℕ → List ℕ → Type 0
+SameWords image image′ [] = Unit {0}
+SameWords image image′ (at ∷ rest) = SameWord image image′ at × SameWords image image′ rest
 
 module _ (image more : List ℕ) where
   word-kept : (at : ℕ) → at + 8 ≤ length image → SameWord image (image ++ more) at

@@ -2,21 +2,19 @@
 use Prim.Native.Nat.{ℕ}
 use mathlib.Core.Path.{_≡_, refl, ap, sym, _∙_}
 use mathlib.Core.List.{List, [], _∷_, _++_}
-use Rattle.image.specs.Alike.{SameWords}
 use Rattle.image.specs.Check.{Check, stop, go, onCheck}
 use Rattle.image.specs.Answers.{placeOf}
 use Rattle.image.specs.EntryKind.{EntryKind, wordsOf}
 use Rattle.image.specs.Memory.{Memory, Fetched, missing, found, ofImage, entry, onFetch}
 use Rattle.image.specs.Place.{Place, noEntry, entryAt, lastTried, stoppedAt}
-use Rattle.image.specs.Rules.{Rules, answer, fetch, run, named, Complete, Outside, mapRules, wordsFrom, SameIn}
+use Rattle.image.specs.Rules.{Rules, answer, fetch, run, named, mapRules, wordsFrom, SameIn}
 use Rattle.image.specs.Stage.{stage}
 use Rattle.image.specs.declared.EntryAddress.{EntryAddress}
 use Rattle.image.specs.declared.EntryAddress.the-variants as address
 use native.Mathlib.Omega.{arith}
-use Rattle.image.proofs.Isolated.{alike}
 use Rattle.image.proofs.Local.{alike-left, alike-right, entry-alike}
 use Rattle.image.proofs.Stages.{after}
-use Rattle.image.proofs.Trees.{met}
+use Rattle.image.proofs.Trees.{Complete}
 
 -- telling each answer otherwise doesn't move it
 pub tried-map : {A B : Type 0} (f : A → B) (before : Place) (q : Rules A) (m : Memory) → lastTried before (mapRules f q) m ≡ lastTried before q m

@@ -6,7 +6,18 @@ use mathlib.Core.List.{List, [], _∷_, _++_}
 use Rattle.image.specs.Choice.{if_then_else_}
 use Rattle.image.specs.EntryKind.{EntryKind, wordsOf}
 use Rattle.image.specs.Memory.{Memory, Fetched, missing, found, entry, onFetch}
-use Rattle.image.specs.Rules.{Rules, answer, fetch, run, named, entriesOf, Complete, Outside, mapRules, wordsFrom}
+use Rattle.image.specs.Rules.{Rules, answer, fetch, run, named, entriesOf, mapRules, wordsFrom}
+
+module _ {A : Type 0} where
+  -- every entry that the rules read over a memory could be fetched
+  unfoldable pub Complete : Rules A → Memory → Type 0
+  Complete (answer a) m = Unit {0}
+  Complete (fetch kind at outside next) m = onFetch (entry (wordsOf kind) m at) ⊥ (λ e. Complete (next e) m)
+
+  -- every answer of the rules to an entry that couldn't be fetched is of this kind
+  unfoldable pub Outside : (A → Type 0) → Rules A → Type 0
+  Outside Kind (answer a) = Unit {0}
+  Outside Kind (fetch kind at outside next) = Kind outside × ((e : ℕ) → Outside Kind (next e))
 
 -- telling each answer otherwise changes the answer alone
 module _ {A B : Type 0} (f : A → B) where

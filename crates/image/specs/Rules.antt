@@ -38,16 +38,6 @@ module _ {A : Type 0} where
       onFetch (entry (wordsOf kind) m at) []
       (λ e. (if chosen kind then at ∷ [] else []) ++ entriesOf chosen (next e) m)
 
-  -- every entry that the rules read over a memory could be fetched
-  unfoldable pub Complete : Rules A → Memory → Type 0
-  Complete (answer a) m = Unit {0}
-  Complete (fetch kind at outside next) m = onFetch (entry (wordsOf kind) m at) ⊥ (λ e. Complete (next e) m)
-
-  -- every answer of the rules to an entry that couldn't be fetched is of this kind
-  unfoldable pub Outside : (A → Type 0) → Rules A → Type 0
-  Outside Kind (answer a) = Unit {0}
-  Outside Kind (fetch kind at outside next) = Kind outside × ((e : ℕ) → Outside Kind (next e))
-
 -- the same rules with each answer told otherwise
 unfoldable pub mapRules : {A B : Type 0} → (A → B) → Rules A → Rules B
 mapRules f (answer a) = answer (f a)

@@ -2,12 +2,11 @@
 use mathlib.Core.Bool.{_||_}
 use mathlib.Core.Path.{_≡_, ap, ap₂, sym, _∙_}
 use Rattle.image.specs.Place.{noEntry}
-use Rattle.image.specs.Rules.{Outside}
 use Rattle.image.specs.Windows.{ofWindows}
 use Rattle.image.proofs.Forks.{every-outside}
 use Rattle.image.proofs.Local.{local}
 use Rattle.image.proofs.Places.{local-place}
-use Rattle.image.proofs.Trees.{met}
+use Rattle.image.proofs.Trees.{Outside, met}
 use Rattle.registers.specs.declared.Registers.{Registers}
 use Rattle.interrupts.specs.Claims.{bitAt, sets, AccessFault, Isolated, SameBits}
 use Rattle.interrupts.specs.Interrupts.{InterruptOutcome, interruptRules, concerned, interruptAnswer}

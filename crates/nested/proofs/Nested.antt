@@ -12,9 +12,9 @@ use Rattle.image.specs.Choice.{if_then_else_}
 use Rattle.image.specs.EntryKind.{firstLevelEntry}
 use Rattle.image.specs.Memory.{Memory}
 use Rattle.image.specs.Place.{Place, lastTried}
-use Rattle.image.specs.Rules.{Rules, answer, run, mapRules, Outside}
+use Rattle.image.specs.Rules.{Rules, answer, run, mapRules}
 use Rattle.image.proofs.Places.{tried-map}
-use Rattle.image.proofs.Trees.{run-map, outside-map, outside-if}
+use Rattle.image.proofs.Trees.{Outside, run-map, outside-map, outside-if}
 use Rattle.dma.specs.Page.{hostAddress}
 use Rattle.dma.specs.Translation.{overflows}
 use Rattle.pasid.specs.declared.ScalableRegisters.{ScalableRegisters}

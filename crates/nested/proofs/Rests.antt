@@ -9,10 +9,10 @@ use lib.Dec.{eqb}
 use Rattle.image.specs.Choice.{if_then_else_}
 use Rattle.image.specs.Memory.{Memory}
 use Rattle.image.specs.Place.{Place, lastTried}
-use Rattle.image.specs.Rules.{Rules, answer, run, mapRules, Outside}
+use Rattle.image.specs.Rules.{Rules, answer, run, mapRules}
 use Rattle.image.proofs.Choices.{above-zero}
 use Rattle.image.proofs.Places.{tried-map}
-use Rattle.image.proofs.Trees.{run-map}
+use Rattle.image.proofs.Trees.{Outside, run-map}
 use Rattle.dma.specs.Walk.{Step, done, down, onStep, placeIn}
 use Rattle.pasid.specs.declared.ScalableRegisters.{ScalableRegisters}
 use Rattle.pasid.specs.declared.table.PasidEntry.{PasidEntry}

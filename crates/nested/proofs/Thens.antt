@@ -4,7 +4,8 @@ use mathlib.Core.Path.{_≡_, refl, ap, sym, _∙_}
 use Rattle.image.specs.EntryKind.{wordsOf}
 use Rattle.image.specs.Memory.{Memory, Fetched, missing, found, entry, onFetch}
 use Rattle.image.specs.Place.{Place, entryAt, lastTried}
-use Rattle.image.specs.Rules.{Rules, answer, fetch, run, Outside}
+use Rattle.image.specs.Rules.{Rules, answer, fetch, run}
+use Rattle.image.proofs.Trees.{Outside}
 use Rattle.nested.specs.Then.{thenRules}
 
 module _ {A B : Type 0} (ended : A → B) (next : A → Rules B) where

@@ -5,7 +5,8 @@ use native.Mathlib.Omega.{arith}
 use Rattle.image.specs.EntryKind.{EntryKind, pageEntry, wordsOf}
 use Rattle.image.specs.Memory.{Memory, Fetched, missing, found, entry, onFetch}
 use Rattle.image.specs.Place.{Place, entryAt, lastTried}
-use Rattle.image.specs.Rules.{Rules, answer, fetch, run, Outside}
+use Rattle.image.specs.Rules.{Rules, answer, fetch, run}
+use Rattle.image.proofs.Trees.{Outside}
 use Rattle.dma.specs.Walk.{Step, done, down, onStep, placeIn, walkRules}
 use Rattle.nested.specs.Then.{thenRules}
 use Rattle.nested.specs.Way.{Located, located, lost, onLocated, entryRules, ended, wayRules}

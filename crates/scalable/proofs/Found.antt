@@ -10,7 +10,8 @@ use Rattle.image.specs.Check.{go}
 use Rattle.image.specs.Choice.{if_then_else_}
 use Rattle.image.specs.Memory.{Memory}
 use Rattle.image.specs.Place.{Place, lastTried}
-use Rattle.image.specs.Rules.{run, Outside}
+use Rattle.image.specs.Rules.{run}
+use Rattle.image.proofs.Trees.{Outside}
 use Rattle.image.proofs.Choices.{past, neither}
 use Rattle.image.proofs.Forks.{every-outside, every-run}
 use Rattle.dma.specs.Context.{widthSupported}

@@ -5,11 +5,11 @@ use mathlib.Core.List.{[]}
 use mathlib.Core.Path.{_≡_, refl, ap₂, sym, _∙_, subst}
 use native.Mathlib.Omega.{arith}
 use Rattle.image.specs.Place.{noEntry, stoppedAt}
-use Rattle.image.specs.Rules.{Rules, run, named, mapRules, Outside}
+use Rattle.image.specs.Rules.{Rules, run, named, mapRules}
 use Rattle.image.proofs.Forks.{every-outside, every-named, every-entry}
 use Rattle.image.proofs.Local.{local}
 use Rattle.image.proofs.Places.{local-place, Some, some-fetch, tried-map}
-use Rattle.image.proofs.Trees.{met}
+use Rattle.image.proofs.Trees.{Outside, met}
 use Rattle.image.proofs.Unfetched.{every-inside, ends-unfetched}
 use Rattle.registers.specs.Admission.{Admitted, refusal, pass, takenUp, admission, onAdmission, inInterruptRange}
 use Rattle.registers.specs.declared.Registers.{Registers}
