@@ -28,25 +28,17 @@ pub fn word(image: &[u8], at: usize) -> u64
     little_endian(image, at)
 }
 
-// The entry at an offset of a part of the image, whose host address is at.
-pub fn fetch8_of(part: &[u8], offset: u64, at: u64) -> Found8
-    ensures { λ r. ⌜ fetched8 r ≡ entry 1 (ofImage (now (part .entry))) offset ⌝ }
-    ensures { λ r. ⌜ missed8 r at ≡ at ⌝ }
-{
-    if part.len() < 8 {
-        return Found8::Missing(at);
-    }
-    if ((part.len() - 8) as u64) < offset {
-        return Found8::Missing(at);
-    }
-    Found8::Entry(word(part, offset as usize))
-}
-
 pub fn fetch8(image: &[u8], at: u64) -> Found8
     ensures { λ r. ⌜ fetched8 r ≡ entry 1 (ofImage (now (image .entry))) at ⌝ }
     ensures { λ r. ⌜ missed8 r at ≡ at ⌝ }
 {
-    fetch8_of(image, at, at)
+    if image.len() < 8 {
+        return Found8::Missing(at);
+    }
+    if ((image.len() - 8) as u64) < at {
+        return Found8::Missing(at);
+    }
+    Found8::Entry(word(image, at as usize))
 }
 
 // The word of a buffer at a place; 0 where it doesn't lie whole in it.

@@ -106,7 +106,8 @@ pub fn find_window(windows: &[u64], run: usize, at: u64) -> Held
     window_of(first_span(windows), windows, run, at)
 }
 
-fn place_in(span: Span, at: u64) -> usize
+// The place in the run of a byte that the window holds.
+pub fn place_in(span: Span, at: u64) -> usize
     requires { ⌜ (holdsAll (windowBy span) 1 at ≡ true) × (windowBy span .place + windowBy span .size < 2 ^ 64) ⌝ }
     ensures { λ r. ⌜ r ≡ windowBy span .place + (at - windowBy span .start) ⌝ }
 {

@@ -21,6 +21,7 @@ pub use entries::page_entry8_by;
 pub use entries::page_entry16;
 pub use entries::page_entry16_by;
 pub use entries::page_entry32;
+pub use entries::place_in;
 pub use entries::place64;
 pub use entries::table_page;
 pub use entry_fields::any_set16;

@@ -48,7 +48,7 @@ fn bad_last(windows: &[u64], i: usize, run: usize) -> bool
     if bad_part(windows, i, run) {
         return true;
     }
-    18446744073709551615 - windows[i] < windows[i + 2] - 1
+    0xFFFF_FFFF_FFFF_FFFF - windows[i] < windows[i + 2] - 1
 }
 
 // A window's part of the run ends before another's begins. This one is for windows whose parts are known to end.

@@ -1,6 +1,6 @@
 use Prim.Native.Nat.{ℕ, _+_, _-_, _*_, _/_, _%_, _^_, _<_}
 use mathlib.Core.List.{List}
-use mathlib.Core.Path.{_≡_, refl, ap, sym, _∙_, subst}
+use mathlib.Core.Path.{_≡_, ap, sym, _∙_, subst}
 use native.Mathlib.Omega.{arith}
 use lib.Bits.{bitOr}
 use lib.ListN.{length, getD, set}
@@ -8,7 +8,7 @@ use Rattle.image.specs.Spans.{windowBy, Holds}
 use Rattle.image.specs.Answers.{HeldBy}
 use Rattle.image.specs.Windows.{windowsOf}
 use Rattle.image.specs.declared.entries.Held.{Held}
-use Rattle.image.proofs.GoodWindows.{good-window, held, one-sum}
+use Rattle.image.proofs.GoodWindows.{good-window, held}
 use Rattle.flags.proofs.Turns.{set-there, not-set}
 use borrow.Author.Needs.{needs}
 use Rattle.flags.proofs.set_flag.Statement.{statement}
@@ -22,22 +22,24 @@ holds c =
     subst (λ (r : Held). HeldBy r (windowsOf (a .windows .now)) (length (a .image .now)) (a .flag / 8)) (c .before .span .given .1)
     (c .before .before .before .window-of .ensures)
 
+place-in-requires : tie.Need-place-in-requires
+place-in-requires c κs =
+    let h = holds c in
+    let g = good-window (windowBy (c .before .span .given .0 .0)) (length (c .before .before .before .before .before .before .args .image .now)) (h .good) in
+    (h .byte, omega (arith, g .inRun))
+
 -- the byte's place in the run
-module _ (c : tie.After-wrapping-add-u64) where
+module _ (c : tie.After-place-in) where
   abbrev k : tie.After-known-told
   k = c .before
 
   abbrev s : tie.Start
   s = k .before .before .before .before .before .before
 
-  there : c .wrapping-add-u64 .result ≡ windowBy (k .before .span .given .0 .0) .place + (s .args .flag / 8 - windowBy (k .before .span .given .0 .0) .start)
-  there =
-      let h = holds k in
-      let g = good-window (windowBy (k .before .span .given .0 .0)) (length (s .args .image .now)) (h .good) in
-      one-sum (windowBy (k .before .span .given .0 .0)) (s .args .flag / 8) (omega arith) (omega arith) (omega (arith, g .inRun)) (h .byte) refl (omega arith)
-      (c .wrapping-add-u64 .ensures)
+  there : c .place-in .result ≡ windowBy (k .before .span .given .0 .0) .place + (s .args .flag / 8 - windowBy (k .before .span .given .0 .0) .start)
+  there = c .place-in .ensures
 
-  inside : c .wrapping-add-u64 .result < length (s .args .image .now)
+  inside : c .place-in .result < length (s .args .image .now)
   inside =
       let h = holds k in
       let w = windowBy (k .before .span .given .0 .0) in
@@ -70,7 +72,7 @@ set-flag-spec =
     (tie.spec
     (λ c κs. search needs)
     (λ c. search needs)
-    (λ c κs. search needs)
+    place-in-requires
     slice-read-image
     (λ c. search needs)
     (λ c. search needs)
