@@ -19,6 +19,7 @@ use crate::entry::entry_offset;
 use faults::Reason;
 use image::Found8;
 use image::Span;
+use image::bit;
 use image::field;
 use image::in_place;
 use image::page_entry8_by;
@@ -54,7 +55,7 @@ pub(crate) enum Step {
 pub fn is_leaf(level: u32, e: u64) -> bool
     ensures { λ r. ⌜ r ≡ leafAt level e ⌝ }
 {
-    (level == 1) | (field(e, 7, 7) == 1)
+    (level == 1) | bit(e, 7)
 }
 
 // Bits 51:HAW; bit 7 where the level has no large pages; and of a large page 20:12 or 29:12.
@@ -79,9 +80,9 @@ fn own_right(write: bool, e: u64) -> bool
     ensures { λ r. ⌜ r ≡ ownRight write e ⌝ }
 {
     if write {
-        return field(e, 1, 1) == 1;
+        return bit(e, 1);
     }
-    field(e, 0, 0) == 1
+    bit(e, 0)
 }
 
 fn denial(write: bool) -> Reason

@@ -1,6 +1,7 @@
 // A first-level entry: its reserved bits, its flags, its rights.
 ghost use mathlib.Core.Path.{_≡_};
 ghost use Rattle.first.specs.First.{firstReserved, flagClear, userDenied, writeDenied};
+use image::bit;
 use image::field;
 use pasid::PasidEntry;
 use pasid::ScalableRegisters;
@@ -28,9 +29,9 @@ pub(crate) fn first_reserved(registers: ScalableRegisters, nxe: bool, level: u32
 pub fn flag_clear(entry: PasidEntry, write: bool, leaf: bool, e: u64) -> bool
     ensures { λ r. ⌜ r ≡ flagClear entry write leaf e ⌝ }
 {
-    let accessed = field(e, 5, 5) == 1;
-    let dirty = field(e, 6, 6) == 1;
-    let extended = field(e, 10, 10) == 1;
+    let accessed = bit(e, 5);
+    let dirty = bit(e, 6);
+    let extended = bit(e, 10);
     !accessed | (leaf & write & !dirty) | (entry.eafe & !extended)
 }
 
@@ -38,7 +39,7 @@ pub fn flag_clear(entry: PasidEntry, write: bool, leaf: bool, e: u64) -> bool
 pub(crate) fn user_denied(entry: PasidEntry, e: u64) -> bool
     ensures { λ r. ⌜ r ≡ userDenied entry e ⌝ }
 {
-    let user = field(e, 2, 2) == 1;
+    let user = bit(e, 2);
     !entry.privileged & !user
 }
 
@@ -52,6 +53,6 @@ pub(crate) fn write_denied(
 ) -> bool
     ensures { λ r. ⌜ r ≡ writeDenied entry write «way_writable» clear e ⌝ }
 {
-    let writable = field(e, 1, 1) == 1;
+    let writable = bit(e, 1);
     (write & (!entry.privileged | entry.wpe) & !writable) | (clear & !way_writable)
 }

@@ -1,7 +1,7 @@
 // Guest memory as entries of 8, 16, 32 and 64 bytes: fetched through windows on the one lent run, a table's page handed on as a part of
 // it, and no page copied. Their fields, and words of plain buffers.
 ghost use mathlib.Core.Path.{_≡_};
-ghost use Rattle.image.specs.Bits.{bits, inPlace};
+ghost use Rattle.image.specs.Bits.{bits, bit, inPlace};
 
 mod buffer;
 mod entries;
@@ -93,6 +93,13 @@ pub fn field(word: u64, high: u32, low: u32) -> u64
         return shifted;
     }
     shifted % (1u64 << (high - low + 1))
+}
+
+// One bit of a word, by its number.
+pub fn bit(word: u64, place: u32) -> bool
+    ensures { λ r. ⌜ r ≡ bit word place ⌝ }
+{
+    field(word, place, place) == 1
 }
 
 // The field in its place, every other bit 0.

@@ -30,6 +30,5 @@ pub use status::NONE_STANDS;
 pub use status::OK;
 pub use status::REFUSED_3;
 pub use status::TAKEN;
-pub use unpacking::bit;
 pub use unpacking::malformed;
 pub use unpacking::unpack;

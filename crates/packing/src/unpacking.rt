@@ -1,17 +1,11 @@
 // The registers' 24 bytes.
 ghost use mathlib.Core.Path.{_≡_};
 ghost use mathlib.Core.Bool.{false};
-ghost use Rattle.image.specs.Bits.{bit};
 ghost use Rattle.packing.specs.Registers.{malformedRegisters, unpacked};
+use image::bit;
 use image::field;
 use image::word_or_zero;
 use registers::Registers;
-
-pub fn bit(word: u64, place: u32) -> bool
-    ensures { λ r. ⌜ r ≡ bit word place ⌝ }
-{
-    field(word, place, place) == 1
-}
 
 pub fn malformed(registers: &[u8]) -> bool
     ensures { λ r. ⌜ r ≡ malformedRegisters (now (registers .entry)) ⌝ }

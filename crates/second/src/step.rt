@@ -20,6 +20,7 @@ use dma::page_reserved;
 use flags::push;
 use image::Found8;
 use image::Span;
+use image::bit;
 use image::field;
 use image::in_place;
 use pasid::PasidEntry;
@@ -60,8 +61,8 @@ pub enum SecondStep {
 fn flag_clear(dirty: bool, e: u64) -> bool
     ensures { λ r. ⌜ r ≡ flagClear dirty e ⌝ }
 {
-    let accessed = field(e, 8, 8) == 1;
-    let written = field(e, 9, 9) == 1;
+    let accessed = bit(e, 8);
+    let written = bit(e, 9);
     !accessed | (dirty & !written)
 }
 
@@ -109,7 +110,7 @@ fn lacks(wanted: Wanted, e: u64) -> bool
 fn denied(wanted: Wanted, e: u64) -> ScalableReason
     ensures { λ r. ⌜ numberOf r ≡ (if wanted .write && not (bit e 1) then 0x85 else 0x86) ⌝ }
 {
-    let writable = field(e, 1, 1) == 1;
+    let writable = bit(e, 1);
     if wanted.write & !writable {
         return ScalableReason::WriteDenied;
     }

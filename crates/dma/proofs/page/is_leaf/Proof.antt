@@ -3,11 +3,11 @@ use borrow.Author.Needs.{needs}
 use Rattle.dma.proofs.page.is_leaf.Statement.{statement}
 use Rattle.dma.proofs.page.is_leaf.Tie as tie
 
-field-requires : tie.Need-field-requires
-field-requires c κs = search needs
+bit-requires : tie.Need-bit-requires
+bit-requires c κs = search needs
 
 returns : tie.Need-returns
-returns c = rw (c .field .ensures)
+returns c = rw (c .bit .ensures)
 
 pub is-leaf-spec : {M : Type 1} → statement M
-is-leaf-spec = tie.close (tie.spec field-requires returns)
+is-leaf-spec = tie.close (tie.spec bit-requires returns)

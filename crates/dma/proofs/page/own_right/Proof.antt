@@ -3,17 +3,17 @@ use borrow.Author.Needs.{needs}
 use Rattle.dma.proofs.page.own_right.Statement.{statement}
 use Rattle.dma.proofs.page.own_right.Tie as tie
 
-field-requires : tie.Need-field-requires
-field-requires c κs = search needs
+bit-requires : tie.Need-bit-requires
+bit-requires c κs = search needs
 
 returns : tie.Need-returns
-returns c = rw (c .before .if1 .taken, c .field .ensures)
+returns c = rw (c .before .if1 .taken, c .bit .ensures)
 
-field-requires-2 : tie.Need-field-requires-2
-field-requires-2 c κs = search needs
+bit-requires-2 : tie.Need-bit-requires-2
+bit-requires-2 c κs = search needs
 
 returns-2 : tie.Need-returns-2
-returns-2 c = rw (c .before .if1 .left, c .field2 .ensures)
+returns-2 c = rw (c .before .if1 .left, c .bit2 .ensures)
 
 pub own-right-spec : {M : Type 1} → statement M
-own-right-spec = tie.close (tie.spec field-requires returns field-requires-2 returns-2)
+own-right-spec = tie.close (tie.spec bit-requires returns bit-requires-2 returns-2)

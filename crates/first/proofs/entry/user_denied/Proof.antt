@@ -2,11 +2,11 @@ use borrow.Author.Needs.{needs}
 use Rattle.first.proofs.entry.user_denied.Statement.{statement}
 use Rattle.first.proofs.entry.user_denied.Tie as tie
 
-field-requires : tie.Need-field-requires
-field-requires c κs = search needs
+bit-requires : tie.Need-bit-requires
+bit-requires c κs = search needs
 
 returns : tie.Need-returns
-returns c = rw (c .before .field .ensures)
+returns c = rw (c .before .bit .ensures)
 
 pub user-denied-spec : {M : Type 1} → statement M
-user-denied-spec = tie.close (tie.spec field-requires returns)
+user-denied-spec = tie.close (tie.spec bit-requires returns)

@@ -1,6 +1,6 @@
 use borrow.Author.Needs.{needs}
-use Rattle.packing.proofs.unpacking.bit.Statement.{statement}
-use Rattle.packing.proofs.unpacking.bit.Tie as tie
+use Rattle.image.proofs.bit.Statement.{statement}
+use Rattle.image.proofs.bit.Tie as tie
 
 field-requires : tie.Need-field-requires
 field-requires c κs = search needs
