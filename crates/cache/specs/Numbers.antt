@@ -8,7 +8,7 @@ use Rattle.image.specs.Choice.{if_then_else_}
 use Rattle.image.specs.Memory.{Memory}
 use Rattle.image.specs.Place.{Place, noEntry, stoppedAt}
 use Rattle.image.specs.Rules.{Rules, answer, run, mapRules}
-use Rattle.image.specs.Windows.{ofWindows, badWindows}
+use Rattle.image.specs.Windows.{overWindows}
 use Rattle.registers.specs.Admission.{onAdmission}
 use Rattle.registers.specs.declared.Registers.{Registers}
 use Rattle.dma.specs.Requests.{MemoryOutcome, granted, refused, memoryOutcome, concerned}
@@ -62,15 +62,14 @@ module _ (registers : Registers) (state : List ℕ) (request : MemoryRequest) wh
 
   -- over lent memory: bad windows are refusal 1
   abbrev pub cachedAnswer : (windows bytes : List ℕ) → MemoryOutcome
-  cachedAnswer windows bytes = if badWindows windows (length bytes) then refused 1 else run stateRules (ofWindows windows bytes)
+  cachedAnswer windows bytes = overWindows (refused 1) (run stateRules) windows bytes
 
   abbrev pub cachedPlace : (windows bytes : List ℕ) → Place
   cachedPlace windows bytes =
-      if badWindows windows (length bytes) then noEntry
-      else concerned (run stateRules (ofWindows windows bytes)) (stoppedAt stateRules (ofWindows windows bytes))
+      overWindows noEntry (λ m. concerned (run stateRules m) (stoppedAt stateRules m)) windows bytes
 
   abbrev pub cachedState : (windows bytes : List ℕ) → List ℕ
-  cachedState windows bytes = if badWindows windows (length bytes) then state else stateAfter (ofWindows windows bytes)
+  cachedState windows bytes = overWindows state stateAfter windows bytes
 
 -- an invalidation by domain: a state of another length stays as it is
 unfoldable pub stateWithout : (state : List ℕ) (domain : ℕ) → List ℕ

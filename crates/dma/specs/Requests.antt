@@ -1,13 +1,12 @@
 -- A memory request, from registers to answer, as one rules tree.
 use Prim.Native.Nat.{ℕ}
 use mathlib.Core.List.{List}
-use lib.ListN.{length}
 use Rattle.image.specs.Choice.{if_then_else_}
 use Rattle.image.specs.EntryKind.{isPage, isRootOrContext}
 use Rattle.image.specs.Memory.{Memory}
 use Rattle.image.specs.Place.{Place, noEntry, stoppedAt}
 use Rattle.image.specs.Rules.{Rules, run, mapRules, entriesOf}
-use Rattle.image.specs.Windows.{ofWindows, badWindows}
+use Rattle.image.specs.Windows.{overWindows}
 use Rattle.registers.specs.Admission.{admission, onAdmission, inInterruptRange}
 use Rattle.registers.specs.declared.Registers.{Registers}
 use Rattle.faults.specs.Record.{FaultAnswer, memoryFault}
@@ -58,10 +57,9 @@ memoryPlace registers request m = concerned (run (memoryRules registers request)
 -- Over lent memory, windows on a run of bytes (document 02, ask 9): windows that are bad are refusal 1, like bad registers
 abbrev pub memoryAnswer : Registers → MemoryRequest → (windows bytes : List ℕ) → MemoryOutcome
 memoryAnswer registers request windows bytes =
-    if badWindows windows (length bytes) then refused 1
-    else run (memoryRules registers request) (ofWindows windows bytes)
+    overWindows (refused 1) (run (memoryRules registers request)) windows bytes
 
 -- the entry concerned in it
 abbrev pub memoryAnswerPlace : Registers → MemoryRequest → (windows bytes : List ℕ) → Place
 memoryAnswerPlace registers request windows bytes =
-    if badWindows windows (length bytes) then noEntry else memoryPlace registers request (ofWindows windows bytes)
+    overWindows noEntry (memoryPlace registers request) windows bytes

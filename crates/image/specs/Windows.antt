@@ -100,6 +100,10 @@ badNumbers numbers = ltb 12 numbers || not (eqb (numbers % 3) 0)
 unfoldable pub badWindows : (numbers : List ℕ) (run : ℕ) → Bool
 badWindows numbers run = badNumbers (length numbers) || badList (windowsOf numbers) run
 
+-- an answer over lent memory: one for windows that are refused, and else what is told over the memory that they show
+abbrev pub overWindows : {A : Type 0} → (bad : A) → (Memory → A) → (windows bytes : List ℕ) → A
+overWindows bad over windows bytes = if badWindows windows (length bytes) then bad else over (ofWindows windows bytes)
+
 -- the flat image: one window from 0 that shows the whole run, none where the run is empty
 unfoldable pub flat : (run : ℕ) → List ℕ
 flat zero = []

@@ -4,7 +4,6 @@ use Prim.Native.Nat.{ℕ, _+_, _*_, _^_}
 use mathlib.Core.Bool.{Bool, false, not}
 use mathlib.Core.List.{List}
 use lib.Dec.{leb}
-use lib.ListN.{length}
 use Rattle.image.specs.Check.{onCheck}
 use Rattle.image.specs.Choice.{if_then_else_}
 use Rattle.image.specs.EntryKind.{remappingEntry, postedDescriptor}
@@ -12,7 +11,7 @@ use Rattle.image.specs.Memory.{Memory}
 use Rattle.image.specs.Place.{Place, noEntry, stoppedAt}
 use Rattle.image.specs.Rules.{Rules, answer, run, mapRules}
 use Rattle.image.specs.Stage.{stage}
-use Rattle.image.specs.Windows.{badWindows, ofWindows}
+use Rattle.image.specs.Windows.{overWindows}
 use Rattle.registers.specs.Admission.{admission, onAdmission, inInterruptRange}
 use Rattle.registers.specs.declared.Registers.{Registers}
 use Rattle.faults.specs.Record.{FaultAnswer, interruptFault}
@@ -89,9 +88,9 @@ interruptPlace registers request m = concerned (run (interruptRules registers re
 -- that the windows show of the run.
 abbrev pub interruptAnswer : Registers → InterruptRequest → (windows bytes : List ℕ) → InterruptOutcome
 interruptAnswer registers request windows bytes =
-    if badWindows windows (length bytes) then refused 1 else run (interruptRules registers request) (ofWindows windows bytes)
+    overWindows (refused 1) (run (interruptRules registers request)) windows bytes
 
 -- the entry concerned in it
 abbrev pub interruptAnswerPlace : Registers → InterruptRequest → (windows bytes : List ℕ) → Place
 interruptAnswerPlace registers request windows bytes =
-    if badWindows windows (length bytes) then noEntry else interruptPlace registers request (ofWindows windows bytes)
+    overWindows noEntry (interruptPlace registers request) windows bytes

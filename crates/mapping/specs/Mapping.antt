@@ -3,11 +3,10 @@ use Prim.Native.Nat.{ℕ, _+_, _*_, _^_, min}
 use mathlib.Core.Bool.{Bool, false, not, _||_}
 use mathlib.Core.List.{List, [], _∷_}
 use lib.Dec.{eqb}
-use lib.ListN.{length}
 use Rattle.image.specs.Choice.{if_then_else_}
 use Rattle.image.specs.Memory.{Memory}
 use Rattle.image.specs.Rules.{Rules, answer, run}
-use Rattle.image.specs.Windows.{ofWindows, badWindows}
+use Rattle.image.specs.Windows.{ofWindows, overWindows}
 use Rattle.registers.specs.Admission.{admission, onAdmission}
 use Rattle.registers.specs.declared.Registers.{Registers}
 use Rattle.dma.specs.Lookup.{rootRules}
@@ -59,5 +58,4 @@ regionsOver tables windows bytes address =
 -- over lent memory, windows on a run of bytes: windows that are bad are refusal 1, like bad registers
 abbrev pub mappingAnswer : Registers → (source : ℕ) (windows bytes : List ℕ) → Mapped
 mappingAnswer registers source windows bytes =
-    if badWindows windows (length bytes) then refused 1
-    else mapping registers (ofWindows windows bytes) (tableOutside windows) source
+    overWindows (refused 1) (λ m. mapping registers m (tableOutside windows) source) windows bytes

@@ -4,12 +4,11 @@ use mathlib.Core.Bool.{Bool, _&&_}
 use mathlib.Core.List.{List, []}
 use mathlib.Core.Path.{_≡_}
 use lib.Dec.{eqb, leb}
-use lib.ListN.{length}
 use Rattle.image.specs.Choice.{if_then_else_}
 use Rattle.image.specs.Memory.{Memory}
 use Rattle.image.specs.Place.{Place, noEntry, stoppedAt}
 use Rattle.image.specs.Rules.{Rules, answer, run, mapRules}
-use Rattle.image.specs.Windows.{ofWindows, badWindows}
+use Rattle.image.specs.Windows.{overWindows}
 use Rattle.registers.specs.Admission.{admission, onAdmission, inInterruptRange}
 use Rattle.dma.specs.InterruptRange.{meetsInterruptRange, spanAt}
 use Rattle.dma.specs.Requests.{MemoryOutcome, granted, blocked, refused, concerned}
@@ -98,15 +97,13 @@ scalablePlace r q m = concerned (run (scalableRules r q) m .outcome) (stoppedAt 
 
 -- over lent memory, windows on a run of bytes: windows that are bad are refusal 1, like bad registers
 abbrev pub scalableDecision : ScalableRegisters → ScalableRequest → (windows bytes : List ℕ) → Decision
-scalableDecision r q windows bytes =
-    if badWindows windows (length bytes) then sayOnly (refused 1) else run (scalableRules r q) (ofWindows windows bytes)
+scalableDecision r q windows bytes = overWindows (sayOnly (refused 1)) (run (scalableRules r q)) windows bytes
 
 abbrev pub scalableAnswer : ScalableRegisters → ScalableRequest → (windows bytes : List ℕ) → MemoryOutcome
 scalableAnswer r q windows bytes = scalableDecision r q windows bytes .outcome
 
 abbrev pub scalableAnswerPlace : ScalableRegisters → ScalableRequest → (windows bytes : List ℕ) → Place
-scalableAnswerPlace r q windows bytes =
-    if badWindows windows (length bytes) then noEntry else scalablePlace r q (ofWindows windows bytes)
+scalableAnswerPlace r q windows bytes = overWindows noEntry (scalablePlace r q) windows bytes
 
 -- what the request leaves in the run
 abbrev pub scalableWritten : ScalableRegisters → ScalableRequest → (windows bytes : List ℕ) → List ℕ

@@ -3,12 +3,12 @@ use Prim.Native.Nat.{ℕ, zero, suc, _+_, _-_, _/_, _%_, _^_}
 use mathlib.Core.Bool.{Bool, not}
 use mathlib.Core.List.{List}
 use lib.Dec.{eqb}
-use lib.ListN.{length, getD, set}
+use lib.ListN.{getD, set}
 use Rattle.image.specs.Bits.{bit}
 use Rattle.image.specs.Choice.{if_then_else_}
 use Rattle.image.specs.EntryKind.{postedDescriptor}
 use Rattle.image.specs.Rules.{Rules, answer, fetch, run}
-use Rattle.image.specs.Windows.{windowsOf, onSpot, spotIn, ofWindows, badWindows}
+use Rattle.image.specs.Windows.{windowsOf, onSpot, spotIn, overWindows}
 use Rattle.registers.specs.Registers.{registersBad}
 use Rattle.registers.specs.declared.Registers.{Registers}
 
@@ -35,7 +35,7 @@ takeRules registers descriptor =
 -- is refusal 5
 abbrev pub takeAnswer : Registers → (descriptor : ℕ) → (windows bytes : List ℕ) → TakeOutcome
 takeAnswer registers descriptor windows bytes =
-    if badWindows windows (length bytes) then refused 1 else run (takeRules registers descriptor) (ofWindows windows bytes)
+    overWindows (refused 1) (run (takeRules registers descriptor)) windows bytes
 
 -- a byte with one of its bits clear
 abbrev pub withoutBit : (place byte : ℕ) → ℕ

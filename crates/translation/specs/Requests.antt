@@ -1,12 +1,11 @@
 -- A translation request, from registers to answer, as one rules tree.
 use Prim.Native.Nat.{ℕ}
 use mathlib.Core.List.{List}
-use lib.ListN.{length}
 use Rattle.image.specs.Choice.{if_then_else_}
 use Rattle.image.specs.Memory.{Memory}
 use Rattle.image.specs.Place.{Place, noEntry, stoppedAt}
 use Rattle.image.specs.Rules.{Rules, run, mapRules}
-use Rattle.image.specs.Windows.{ofWindows, badWindows}
+use Rattle.image.specs.Windows.{overWindows}
 use Rattle.registers.specs.Admission.{admission, onAdmission, inInterruptRange}
 use Rattle.registers.specs.declared.Registers.{Registers}
 use Rattle.faults.specs.Record.{FaultAnswer, translationFault}
@@ -57,11 +56,9 @@ translationPlace registers request m =
 -- over lent memory, windows on a run of bytes: windows that are bad are refusal 1, like bad registers
 abbrev pub translationAnswer : Registers → TranslationRequest → (windows bytes : List ℕ) → TranslationOutcome
 translationAnswer registers request windows bytes =
-    if badWindows windows (length bytes) then refused 1
-    else answerOver registers request (ofWindows windows bytes)
+    overWindows (refused 1) (answerOver registers request) windows bytes
 
 -- the entry concerned in it
 abbrev pub translationAnswerPlace : Registers → TranslationRequest → (windows bytes : List ℕ) → Place
 translationAnswerPlace registers request windows bytes =
-    if badWindows windows (length bytes) then noEntry
-    else translationPlace registers request (ofWindows windows bytes)
+    overWindows noEntry (translationPlace registers request) windows bytes
