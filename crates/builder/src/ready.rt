@@ -15,6 +15,7 @@ use image::bad_windows;
 use image::first_span;
 use region::Area;
 use region::bad_region;
+use registers::Page4K;
 use registers::Registers;
 use registers::SourceId;
 use tables::Tree;
@@ -28,7 +29,7 @@ pub enum Ready {
 fn is_sized(size: u64, copy: u64, marks: u64) -> bool
     ensures { λ r. ⌜ r ≡ sized size copy marks ⌝ }
 {
-    (copy == size) & (marks == size / 4096)
+    (copy == size) & (marks == size / Page4K::SPAN)
 }
 
 fn is_top_outside(area: Area, top: u64) -> bool

@@ -3,6 +3,7 @@ ghost use Prim.Native.Nat.{_-_, _+_, _*_, _%_, _^_, _<_, _≤_};
 ghost use mathlib.Core.Path.{_≡_};
 ghost use Rattle.cache.specs.Keys.{kindOf, keyFor};
 use dma::MemoryRequest;
+use registers::Page4K;
 
 // Bit 61.
 fn kind(write: bool) -> u64
@@ -16,7 +17,7 @@ pub(crate) fn small_key(request: MemoryRequest) -> u64
     requires { ⌜ request .address < 2 ^ 57 ⌝ }
     ensures { λ r. ⌜ r ≡ keyFor request 1 ⌝ }
 {
-    request.address / 4096
+    request.address / Page4K::SPAN
         + 0x2000_0000_0000 * request.source.id as u64
         + kind(request.write)
         + 0x4000_0000_0000_0000

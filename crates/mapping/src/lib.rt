@@ -28,6 +28,7 @@ use image::first_span;
 use regions::Tables;
 use regions::forget;
 use registers::Admission;
+use registers::Page4K;
 use registers::Registers;
 use registers::SourceId;
 use registers::admit;
@@ -50,7 +51,7 @@ fn space_end(mgaw: u8, levels: u32) -> u64
     ensures { λ r. ⌜ (r ≡ 2 ^ min mgaw (12 + 9 * levels)) × (r ≤ 2 ^ 57) × (r % 4096 ≡ 0) ⌝ }
 {
     let narrow = mgaw as u32;
-    let wide = 12 + 9 * levels;
+    let wide = Page4K::SHIFT + 9 * levels;
     if narrow < wide {
         return 1u64 << narrow;
     }

@@ -4,6 +4,7 @@ ghost use mathlib.Core.Path.{_≡_};
 ghost use Prim.Native.Nat.{_+_, _*_, _^_, _<_};
 ghost use lib.ListN.{length, getD, replicate};
 ghost use Rattle.marking.specs.Marking.{freePage, leadsToFree, markEntry as marksEntry, markEntries as marksEntries, markTable as marksTable, markLevel as marksLevel, markLevels as marksLevels, markAll};
+use registers::Page4K;
 use tables::Tree;
 use tables::entry_of;
 use tables::is_empty;
@@ -16,7 +17,7 @@ use tables::table_of;
 fn is_free(marks: &[u8], table: u64) -> bool
     ensures { λ r. ⌜ r ≡ freePage (now (marks .entry)) table ⌝ }
 {
-    let page = table / 4096;
+    let page = table / Page4K::SPAN;
     if page < marks.len() as u64 {
         return marks[page as usize] == 0;
     }
@@ -41,7 +42,7 @@ fn mark_entry(marks: &mut [u8], start: u64, below: u32, e: u64) -> bool
     if !leads_to_free(marks, start, e) {
         return false;
     }
-    mark(marks, table_of(start, e) / 4096, below as u8);
+    mark(marks, table_of(start, e) / Page4K::SPAN, below as u8);
     true
 }
 
@@ -78,7 +79,7 @@ fn mark_table(bytes: &[u8], marks: &mut [u8], tree: Tree, below: u32, page: usiz
     if level_of(marks, page) != below as u8 + 1 {
         return true;
     }
-    let table = 4096 * page as u64;
+    let table = Page4K::SPAN * page as u64;
     if (table != tree.top) & is_empty(bytes, table) {
         return false;
     }
@@ -134,6 +135,6 @@ pub fn mark_tables(bytes: &[u8], marks: &mut [u8], tree: Tree) -> bool
     if !is_free(marks, tree.top) {
         return false;
     }
-    mark(marks, tree.top / 4096, tree.below as u8 + 1);
+    mark(marks, tree.top / Page4K::SPAN, tree.below as u8 + 1);
     mark_levels(bytes, marks, tree)
 }

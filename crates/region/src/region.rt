@@ -10,6 +10,7 @@ ghost use Rattle.region.specs.Region.{pagesShown, badRegion};
 use crate::Area;
 use crate::shared::shares_tables;
 use crate::spot::find_spot;
+use registers::Page4K;
 use registers::Registers;
 
 // So many pages from a host address on are in the image.
@@ -20,12 +21,12 @@ fn pages_shown(windows: &[u64], run: usize, start: u64, pages: u64) -> bool
     let mut left = pages;
     let mut at = start;
     while 0 < left {
-        let spot = find_spot(windows, run, 4096, at);
+        let spot = find_spot(windows, run, Page4K::SPAN, at);
         if !spot.whole {
             return false;
         }
         left -= 1;
-        at += 4096;
+        at += Page4K::SPAN;
     }
     true
 }
@@ -46,13 +47,13 @@ pub fn bad_region(windows: &[u64], image: &[u8], registers: Registers, area: Are
     requires { ⌜ (badWindows (now windows) (length (now image)) ≡ false) × (registersBad registers ≡ false) ⌝ }
     ensures { λ r. ⌜ r ≡ badRegion registers (now (windows .entry)) (now (image .entry)) (area .start) (area .size) ⌝ }
 {
-    if (area.start % 4096 != 0) | (area.size % 4096 != 0) {
+    if (area.start % Page4K::SPAN != 0) | (area.size % Page4K::SPAN != 0) {
         return true;
     }
     if past_width(registers.haw, area) {
         return true;
     }
-    if !pages_shown(windows, image.len(), area.start, area.size / 4096) {
+    if !pages_shown(windows, image.len(), area.start, area.size / Page4K::SPAN) {
         return true;
     }
     shares_tables(windows, image, registers, area)

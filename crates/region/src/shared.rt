@@ -14,6 +14,7 @@ use image::Found16;
 use image::bit16;
 use image::fetch16;
 use irte::descriptor_address;
+use registers::Page4K;
 use registers::Registers;
 
 // Neither sum can wrap: that of the other bytes isn't made.
@@ -37,7 +38,7 @@ fn meets_context_table(area: Area, e: Entry16) -> bool
     requires { ⌜ area .start + area .size < 2 ^ 63 ⌝ }
     ensures { λ r. ⌜ r ≡ meetsContextTable (area .start) (area .size) (number16 e) ⌝ }
 {
-    bit16(e, 0) & meets(area, table_address(e), 4096)
+    bit16(e, 0) & meets(area, table_address(e), Page4K::SPAN)
 }
 
 fn meets_descriptor(area: Area, e: Entry16) -> bool
@@ -103,7 +104,7 @@ pub(crate) fn shares_tables(windows: &[u64], image: &[u8], registers: Registers,
     ensures { λ r. ⌜ r ≡ sharesTables registers (area .start) (area .size) (ofWindows (now (windows .entry)) (now (image .entry))) ⌝ }
 {
     let entries = interrupt_entries(registers);
-    if meets(area, registers.root_table, 4096) {
+    if meets(area, registers.root_table, Page4K::SPAN) {
         return true;
     }
     if any_named(windows, image, false, area, registers.root_table, 256) {

@@ -8,6 +8,7 @@ ghost use Rattle.region.specs.Copy.{isWhole, spotPlace, wordShown, store
 use image::Found8;
 use image::page_entry8;
 use image::store8;
+use registers::Page4K;
 
 // Whether a single window has all of the bytes, and the place of the first in the run.
 pub struct Spot {
@@ -57,7 +58,7 @@ pub(crate) fn word_shown(windows: &[u64], image: &[u8], at: u64) -> u64
     requires { ⌜ (badWindows (now windows) (length (now image)) ≡ false) × (at % 8 ≡ 0) ⌝ }
     ensures { λ r. ⌜ r ≡ wordShown (ofWindows (now (windows .entry)) (now (image .entry))) at ⌝ }
 {
-    let offset = at % 4096;
+    let offset = at % Page4K::SPAN;
     match page_entry8(windows, image, at - offset, offset) {
         Found8::Entry(e) => e,
         Found8::Missing(_) => 0,

@@ -15,6 +15,7 @@ use crate::walk::Reached;
 use crate::walk::at_top;
 use crate::walk::table_step;
 use image::place64;
+use registers::Page4K;
 use translation::Rights;
 
 // Bit 0 read, bit 1 write.
@@ -80,7 +81,7 @@ pub fn table_span(level: u32) -> u64
     requires { ⌜ level ≤ 5 ⌝ }
     ensures { λ r. ⌜ (r ≡ 2 ^ (12 + 9 * level)) × (0 < r) × (r ≤ 2 ^ 57) ⌝ }
 {
-    1u64 << (12 + 9 * level)
+    1u64 << (Page4K::SHIFT + 9 * level)
 }
 
 // A table that lists nothing, where its span ends with an address and begins no earlier than from.

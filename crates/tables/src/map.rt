@@ -15,6 +15,7 @@ use crate::pages::mark;
 use crate::way::Stop;
 use crate::way::way_to;
 use image::store8;
+use registers::Page4K;
 
 // The leaf of a page: its place, how many levels come below it, and its entry.
 struct Leaf {
@@ -30,7 +31,7 @@ fn new_table(bytes: &mut [u8], marks: &mut [u8], start: u64, at: u64, level: u8)
     ensures { λ _. ⌜ tables (now (bytes .exit)) (now (marks .exit)) ≡ newTable start at level (tables (now (bytes .entry)) (now (marks .entry))) ⌝ }
 {
     let page = lowest_free(marks) as u64;
-    let table = 4096 * page;
+    let table = Page4K::SPAN * page;
     clear_table(bytes, table);
     store8(bytes, at, start + table + 3);
     mark(marks, page, level);

@@ -11,13 +11,14 @@ use crate::pages::mark;
 use crate::way::Stop;
 use crate::way::way_to;
 use image::store8;
+use registers::Page4K;
 
 // Its page is free, and its entry 0.
 fn release_table(bytes: &mut [u8], marks: &mut [u8], table: u64, at: u64)
     ensures { λ _. ⌜ tables (now (bytes .exit)) (now (marks .exit)) ≡ withoutTable table at (tables (now (bytes .entry)) (now (marks .entry))) ⌝ }
 {
     store8(bytes, at, 0);
-    mark(marks, table / 4096, 0);
+    mark(marks, table / Page4K::SPAN, 0);
 }
 
 // The empty tables on the way to a place, so many levels at most from one on.
