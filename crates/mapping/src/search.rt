@@ -15,11 +15,11 @@ ghost use Rattle.mapping.specs.Search.{Fresh, Tells, IsNext};
 use regions::Region;
 use regions::Tables;
 use regions::What;
+use regions::empty_region;
 use regions::known_level;
 use regions::region_at;
 use regions::remember_tables;
 use regions::table_span;
-use translation::Rights;
 
 pub enum Found {
     // Where it begins.
@@ -61,14 +61,7 @@ fn quick_region(
 {
     let level = known_level(windows, image, tables, address, known);
     if 0 < level {
-        return Region {
-            level: level + 1,
-            what: What::Nothing,
-            rights: Rights {
-                read: false,
-                write: false,
-            },
-        };
+        return empty_region(level + 1);
     }
     region_at(windows, image, tables, address)
 }

@@ -10,6 +10,7 @@ pub use known::rights_number;
 pub use known::table_span;
 use registers::Registers;
 use translation::Rights;
+pub use walk::empty_region;
 pub use walk::region_at;
 
 // The page tables of a context, and the registers by which their entries are read.

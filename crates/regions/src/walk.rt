@@ -4,7 +4,8 @@ ghost use mathlib.Core.Path.{_≡_};
 ghost use lib.ListN.{length};
 ghost use Prim.Native.Nat.{_-_, _%_, _<_, _≤_};
 ghost use Rattle.image.specs.Windows.{ofWindows, badWindows};
-ghost use Rattle.translation.specs.Completion.{page, Reachable};
+ghost use Rattle.faults.specs.Reason.{numberOf};
+ghost use Rattle.translation.specs.Completion.{page, empty, fault, Reachable};
 ghost use Rattle.translation.specs.Rights.{both};
 ghost use Rattle.regions.specs.Answers.{regionOf, onwardOf, LeadsTo, Walkable, atTop};
 ghost use Rattle.regions.specs.Outside.{tableOutside};
@@ -66,6 +67,30 @@ fn page_region(frame: u64, level: u32, rights: Rights) -> Region
     }
 }
 
+fn fault_region(level: u32, reason: Reason, rights: Rights) -> Region
+    ensures { λ r. ⌜ ((fpd : _) → regionOf r ≡ ended level rights (fault (numberOf reason) fpd)) ⌝ }
+{
+    Region {
+        level,
+        what: What::Fault(reason),
+        rights,
+    }
+}
+
+// Where no right is left nothing is told.
+pub fn empty_region(level: u32) -> Region
+    ensures { λ r. ⌜ ((above : _) → regionOf r ≡ ended level above empty) ⌝ }
+{
+    Region {
+        level,
+        what: What::Nothing,
+        rights: Rights {
+            read: false,
+            write: false,
+        },
+    }
+}
+
 // One level of the walk.
 pub fn table_step(
     windows: &[u64],
@@ -80,11 +105,7 @@ pub fn table_step(
 {
     let rights = at.rights;
     if table_outside(windows, image, at.table) {
-        return Onward::Ended(Region {
-            level: at.level + 1,
-            what: What::Fault(Reason::PageEntryAccess),
-            rights,
-        });
+        return Onward::Ended(fault_region(at.level + 1, Reason::PageEntryAccess, rights));
     }
     let first = first_span(windows);
     let below = at.level - 1;
@@ -99,19 +120,8 @@ pub fn table_step(
         Step::Page(frame, of, read, write) => {
             Onward::Ended(page_region(frame, of, Rights { read, write }))
         }
-        Step::Empty => Onward::Ended(Region {
-            level: at.level,
-            what: What::Nothing,
-            rights: Rights {
-                read: false,
-                write: false,
-            },
-        }),
-        Step::Fault(reason, _, _) => Onward::Ended(Region {
-            level: at.level,
-            what: What::Fault(reason),
-            rights,
-        }),
+        Step::Empty => Onward::Ended(empty_region(at.level)),
+        Step::Fault(reason, _, _) => Onward::Ended(fault_region(at.level, reason, rights)),
         Step::Down(table, read, write) => Onward::Down(Reached {
             level: below,
             table,
@@ -146,10 +156,5 @@ pub fn region_at(windows: &[u64], image: &[u8], tables: Tables, address: u64) ->
         }
     }
     // No step leads below level 1.
-    let rights = at.rights;
-    Region {
-        level: 1,
-        what: What::Fault(Reason::PageEntryAccess),
-        rights,
-    }
+    fault_region(1, Reason::PageEntryAccess, at.rights)
 }

@@ -11,12 +11,14 @@ use Rattle.mapping.proofs.search.quick_region.Tie as tie
 
 returns : tie.Need-returns
 returns c =
-    let k = c .before .before .before .before .before in
+    let t = c .before in
+    let k = t .before .before .before .before .before in
     let a = k .args in
-    let told = c .before .known-level .ensures in
-    tells-known (regionsOver (a .tables) (a .windows .now) (a .image .now)) 0
+    let told = t .before .known-level .ensures in
+    rw (c .empty-region .ensures neither)
+    (tells-known (regionsOver (a .tables) (a .windows .now) (a .image .now)) 0
     (λ x y. same-region (a .tables .registers) (ofWindows (a .windows .now) (a .image .now)) (tableOutside (a .windows .now)) x y (a .tables .levels) (a .tables .top) both)
-    (a .address) (c .before .known-level .result) neither (c .if1 .taken) (told .0) (told .1 (c .if1 .taken))
+    (a .address) (t .before .known-level .result) neither (t .if1 .taken) (told .0) (told .1 (t .if1 .taken)))
 
 returns-2 : tie.Need-returns-2
 returns-2 c =
@@ -30,4 +32,4 @@ returns-2 c =
 
 pub quick-region-spec : {M : Type 1} → statement M
 quick-region-spec =
-    tie.close (tie.spec (λ c κs. search needs) (λ c. search needs) returns (λ c κs. search needs) returns-2)
+    tie.close (tie.spec (λ c κs. search needs) (λ c. search needs) (λ c κs. search needs) returns (λ c κs. search needs) returns-2)

@@ -83,4 +83,5 @@ region-at-spec =
     (λ c. search needs)
     loop-less
     loop-again
+    (λ c κs. search needs)
     returns-2)

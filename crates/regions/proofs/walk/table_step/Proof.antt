@@ -16,10 +16,11 @@ use Rattle.regions.proofs.walk.table_step.Tie as tie
 
 returns : tie.Need-returns
 returns c =
-    let t = c .before in
+    let t = c .before .before in
     let k = t .before .before .before .before .before in
     let a = k .args in (
-      step-outside (a .registers) (ofWindows (a .windows .now) (a .image .now)) (tableOutside (a .windows .now)) (a .address) (a .at .level) (a .at .table) (a .at .rights) (k .pre .1)
+      ap done (c .fault-region .ensures false)
+          ∙ step-outside (a .registers) (ofWindows (a .windows .now) (a .image .now)) (tableOutside (a .windows .now)) (a .address) (a .at .level) (a .at .table) (a .at .rights) (k .pre .1)
           (sym (t .before .table-outside .ensures) ∙ t .if1 .taken),
       refl,
     )
@@ -65,12 +66,18 @@ returns-2 c =
     )
 
 returns-3 : tie.Need-returns-3
-returns-3 c = (ends (c .before .before) (sym (ap stepOf (c .enum-told .given .1)) ∙ c .before .before .entry-step .ensures .0), refl)
+returns-3 c =
+    let k = c .before .before .before in (
+      ap done (c .empty-region .ensures (start k .args .at .rights)) ∙ ends k (sym (ap stepOf (c .before .enum-told .given .1)) ∙ k .entry-step .ensures .0),
+      refl,
+    )
 
 returns-4 : tie.Need-returns-4
 returns-4 c =
-    let k = c .before .before .before in
-    (ends k (sym (ap stepOf (c .before .step2 .given .1)) ∙ k .entry-step .ensures .0), refl)
+    let k = c .before .before .before .before in (
+      ap done (c .fault-region2 .ensures false) ∙ ends k (sym (ap stepOf (c .before .before .step2 .given .1)) ∙ k .entry-step .ensures .0),
+      refl,
+    )
 
 returns-5 : tie.Need-returns-5
 returns-5 c =
@@ -85,5 +92,6 @@ pub table-step-spec : {M : Type 1} → statement M
 table-step-spec =
     tie.close
     (tie.spec
-    (λ c κs. search needs) (λ c. search needs) returns first-span-requires (λ c. search needs) (λ c κs. search needs) (λ c. search needs)
-    page-region-requires (λ c. search needs) (λ c. search needs) (λ c. search needs) returns-2 returns-3 returns-4 returns-5)
+    (λ c κs. search needs) (λ c. search needs) (λ c κs. search needs) returns first-span-requires (λ c. search needs) (λ c κs. search needs)
+    (λ c. search needs) page-region-requires (λ c. search needs) (λ c κs. search needs) (λ c. search needs) (λ c κs. search needs)
+    (λ c. search needs) returns-2 returns-3 returns-4 returns-5)
