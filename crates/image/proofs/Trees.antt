@@ -6,7 +6,7 @@ use mathlib.Core.List.{List, [], _∷_, _++_}
 use Rattle.image.specs.Choice.{if_then_else_}
 use Rattle.image.specs.EntryKind.{EntryKind, wordsOf}
 use Rattle.image.specs.Memory.{Memory, Fetched, missing, found, entry, onFetch}
-use Rattle.image.specs.Rules.{Rules, answer, fetch, run, named, entriesOf, mapRules, wordsFrom}
+use Rattle.image.specs.Rules.{Rules, answer, fetch, run, entriesOf, mapRules}
 
 module _ {A : Type 0} where
   -- every entry that the rules read over a memory could be fetched
@@ -30,17 +30,6 @@ module _ {A B : Type 0} (f : A → B) where
           → onFetch x (f outside) (λ e. run (mapRules f (next e)) m) ≡ f (onFetch x outside (λ e. run (next e) m))
       go missing ih = refl
       go (found e) ih = ih e
-
-  pub named-map : (q : Rules A) (m : Memory) → named (mapRules f q) m ≡ named q m
-  unfolding named mapRules
-  named-map (answer a) m = refl
-  named-map (fetch kind at outside next) m = go (entry (wordsOf kind) m at) (λ e. named-map (next e) m)
-    where
-      go : (x : Fetched) → ((e : ℕ) → named (mapRules f (next e)) m ≡ named (next e) m)
-          → onFetch x [] (λ e. wordsFrom (wordsOf kind) at ++ named (mapRules f (next e)) m)
-          ≡ onFetch x [] (λ e. wordsFrom (wordsOf kind) at ++ named (next e) m)
-      go missing ih = refl
-      go (found e) ih = ap (λ (l : List ℕ). wordsFrom (wordsOf kind) at ++ l) (ih e)
 
   pub outside-map : (Kind : B → Type 0) (q : Rules A) → Outside (λ a. Kind (f a)) q → Outside Kind (mapRules f q)
   unfolding Outside mapRules

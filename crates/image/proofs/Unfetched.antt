@@ -1,16 +1,11 @@
 -- Rules whose answers to fetched entries are of no such kind answer so where an entry couldn't be fetched.
-use Prim.Native.Nat.{ℕ, _+_, _-_, _*_, _<_, _≤_}
-use mathlib.Core.Path.{_≡_, refl, ap, sym, _∙_}
-use mathlib.Core.List.{List, [], _∷_}
-use native.Mathlib.Decide.{decLe}
-use native.Mathlib.Omega.{arith}
-use lib.ListN.{length}
+use Prim.Native.Nat.{ℕ, _-_}
+use mathlib.Core.Path.{_≡_, refl}
 use Rattle.image.specs.EntryKind.{EntryKind, wordsOf}
-use Rattle.image.specs.Memory.{Memory, Fetched, missing, found, onFetch, ofImage, entry}
-use Rattle.image.specs.Rules.{Rules, answer, fetch, run, mapRules}
+use Rattle.image.specs.Memory.{Memory, Fetched, missing, found, onFetch, entry}
+use Rattle.image.specs.Rules.{Rules, answer, fetch, run}
 use Rattle.image.specs.Unfetched.{EndsUnfetched, unfetched}
 use Rattle.image.proofs.Forks.{Every}
-use Rattle.image.proofs.Words.{inside}
 
 -- no answer is of this kind, but those to an entry that couldn't be fetched
 unfoldable pub Inside : {A : Type 0} → (A → Type 0) → Rules A → Type 0
@@ -23,11 +18,6 @@ pub every-inside : {A : Type 0} (Fork : EntryKind → ℕ → A → Type 0) (End
 unfolding Every Inside
 every-inside Fork Ends Kind so most (answer a) is = so a is
 every-inside Fork Ends Kind so most (fetch kind at outside next) is = λ e. every-inside Fork Ends Kind so (most - wordsOf kind) (next e) (is .2 e)
-
-pub inside-map : {A B : Type 0} (f : A → B) (Kind : B → Type 0) (q : Rules A) → Inside (λ a. Kind (f a)) q → Inside Kind (mapRules f q)
-unfolding Inside mapRules
-inside-map f Kind (answer a) h = h
-inside-map f Kind (fetch kind at outside next) h = λ e. inside-map f Kind (next e) (h e)
 
 pub ends-unfetched : {A : Type 0} (Kind : A → Type 0) (m : Memory) (q : Rules A) → Inside Kind q → Kind (run q m) → EndsUnfetched q m
 unfolding Inside run unfetched
