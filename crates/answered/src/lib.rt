@@ -1,4 +1,4 @@
-// Entries of the trace from the unit's requests and answers.
+// Entries of the trace from the unit's requests and answers, and from the bytes of answers.
 ghost use mathlib.Core.Path.{_≡_};
 ghost use Prim.Native.Nat.{_<_};
 ghost use Rattle.image.specs.Answers.{placeOf};
@@ -10,6 +10,7 @@ ghost use Rattle.interrupts.specs.Answers as interrupts;
 ghost use Rattle.interrupts.specs.Answers.{dueOf};
 ghost use Rattle.answered.specs.Answered.{plain, faultTraced, kindOf, memoryTraced, raised, modesOf, postTraced, interruptTraced};
 
+mod packed;
 mod page;
 
 use dma::MemoryAnswer;
@@ -21,6 +22,7 @@ use interrupts::InterruptRequest;
 use interrupts::Notification;
 use interrupts::Posted;
 use interrupts::Remapped;
+pub use packed::with_answer;
 pub use page::translation_entry;
 use traced::Traced;
 

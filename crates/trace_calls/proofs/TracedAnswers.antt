@@ -39,7 +39,7 @@ use Rattle.answered.specs.Claims.{memoryEntry, translationEntry, interruptEntry
 use Rattle.answered.specs.Told.{translationOutcomeIn, interruptOutcomeIn, sizeIn}
 use Rattle.answered.proofs.Entries.{entries-well, entries-tell}
 use Rattle.trace_calls.specs.Calls.{unanswered}
-use Rattle.trace_calls.specs.Packed.{with, wordIn, entryPacked, packedIn}
+use Rattle.answered.specs.Packed.{with, wordIn, entryPacked, packedIn}
 use Rattle.packing.specs.Answer.{laid, blockedBytes, memoryBytes, modes, interruptBytes}
 use Rattle.trace_calls.specs.Traces.{AnswersTraced}
 use Rattle.packing.specs.Translations.{translationBytes}

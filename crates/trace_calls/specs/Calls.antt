@@ -19,7 +19,7 @@ use Rattle.answered.specs.Answered.{plain}
 use Rattle.replay.specs.Replayed as replay
 use Rattle.replay.specs.Replayed.{Replayed, replayAt}
 use Rattle.packing.specs.Status.{ok, badAnswer}
-use Rattle.trace_calls.specs.Packed.{packedIn}
+use Rattle.answered.specs.Packed.{packedIn}
 
 -- ok is done, with nothing to take; here the buffer holds a block, to be taken before the next call
 abbrev pub blockFull : ℕ

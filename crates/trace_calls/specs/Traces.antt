@@ -15,7 +15,7 @@ use Rattle.answered.specs.Claims.{memoryEntry, translationEntry, interruptEntry
 use Rattle.packing.specs.Answer.{memoryBytes, interruptBytes}
 use Rattle.packing.specs.Translations.{translationBytes}
 use Rattle.trace_calls.specs.Calls.{unanswered}
-use Rattle.trace_calls.specs.Packed.{packedIn}
+use Rattle.answered.specs.Packed.{packedIn}
 
 -- What is appended of a request with the bytes that its call answered is the entry of the request with its answer, each field of which fits
 -- its bytes, as it does in the code's types. Proved in proofs/TracedAnswers.antt.
