@@ -1,4 +1,4 @@
-/* A row of storm meters over galitzaf.h: three devices are counted in ticks, one of them goes mad, is tripped and
+/* A row of storm meters over galitzaf.h: three devices are counted in ticks, one of them storms, is tripped and
  * masked, and is let back once it is quiet. meters.stdout has what it prints.
  *
  *     packaging/archive
@@ -13,14 +13,14 @@ enum { CAMERA, DISK, NETWORK, DEVICES };
 #define TICKS 16
 
 /* The camera's interrupts are never too many for this hypervisor. The disk storms above 2000. The network has a band: it
- * is mad above 3000, and dead below 1. */
+ * storms above 3000, and is silent below 1. */
 static const uint8_t kinds[DEVICES] = {0, 1, 2};
 static const double lows[DEVICES] = {0, 0, 1};
 static const double highs[DEVICES] = {0, 2000, 3000};
 static double loads[DEVICES];
 static uint8_t tripped[DEVICES];
 
-/* What each device raises in each tick. The disk is mad from tick 5 to tick 7. */
+/* What each device raises in each tick. The disk storms from tick 5 to tick 7. */
 static uint32_t raised(int device, int tick)
 {
     if (device == CAMERA)

@@ -146,15 +146,20 @@ fn number(case: u64) {
     text(b". ");
 }
 
+// The device that most cases ask for: bus 03h, device and function 10h.
+fn device() -> SourceId {
+    SourceId::new(0x03, 0x10)
+}
+
 // A memory request and its answer, a line.
-fn memory(case: u64, image: &[u8], source: u16, address: u64, write: bool) {
+fn memory(case: u64, image: &[u8], source: SourceId, address: u64, write: bool) {
     let request = MemoryRequest {
-        source: SourceId::from_number(source),
+        source,
         address,
         write,
     };
     number(case);
-    digits(source as u64, 4);
+    digits(source.id as u64, 4);
     if write {
         text(b" write ");
     } else {
@@ -203,14 +208,14 @@ fn print_posted(posted: Posted) {
 }
 
 // An interrupt and its answer, without the line's end.
-fn interrupt(case: u64, image: &mut [u8], source: u16, address: u64, data: u32) {
+fn interrupt(case: u64, image: &mut [u8], source: SourceId, address: u64, data: u32) {
     let request = InterruptRequest {
-        source: SourceId::from_number(source),
+        source,
         address,
         data,
     };
     number(case);
-    digits(source as u64, 4);
+    digits(source.id as u64, 4);
     text(b" interrupt ");
     hex(address);
     text(b", data ");
@@ -235,38 +240,38 @@ fn print_post(image: &[u8; 32768]) {
     text(b"\n");
 }
 
-fn shorter_case(image: &[u8]) {
+fn shorter_case(image: &[u8], source: SourceId) {
     if 0 < image.len() {
         let end = image.len() - 1;
-        memory(7, &image[..end], 0x0310, 0x40BF_F000, false);
+        memory(7, &image[..end], source, 0x40BF_F000, false);
     }
 }
 
 fn memory_cases(image: &[u8]) {
-    memory(1, image, 0x0310, 0x4020_1ABC, false);
-    memory(2, image, 0x0310, 0x4020_1ABC, true);
-    memory(3, image, 0x0310, 0x4020_2000, false);
-    memory(4, image, 0x0310, 0x4041_2345, false);
-    memory(5, image, 0x0310, 0x4060_0000, false);
-    memory(6, image, 0x0310, 0x4080_0000, false);
-    memory(7, image, 0x0310, 0x40BF_F000, false);
-    shorter_case(image);
-    memory(8, image, 0x0310, 0x7F_FFFF_FFFF, false);
-    memory(8, image, 0x0310, 0x80_0000_0000, false);
-    memory(9, image, 0x0410, 0x4020_1ABC, false);
-    memory(9, image, 0x0311, 0x4020_1ABC, false);
+    memory(1, image, device(), 0x4020_1ABC, false);
+    memory(2, image, device(), 0x4020_1ABC, true);
+    memory(3, image, device(), 0x4020_2000, false);
+    memory(4, image, device(), 0x4041_2345, false);
+    memory(5, image, device(), 0x4060_0000, false);
+    memory(6, image, device(), 0x4080_0000, false);
+    memory(7, image, device(), 0x40BF_F000, false);
+    shorter_case(image, device());
+    memory(8, image, device(), 0x7F_FFFF_FFFF, false);
+    memory(8, image, device(), 0x80_0000_0000, false);
+    memory(9, image, SourceId::new(0x04, 0x10), 0x4020_1ABC, false);
+    memory(9, image, SourceId::new(0x03, 0x11), 0x4020_1ABC, false);
 }
 
 fn interrupt_cases(image: &mut [u8; 32768]) {
-    interrupt(10, image, 0x0310, 0xFEE0_0050, 0);
+    interrupt(10, image, device(), 0xFEE0_0050, 0);
     text(b"\n");
-    interrupt(10, image, 0x0311, 0xFEE0_0050, 0);
+    interrupt(10, image, SourceId::new(0x03, 0x11), 0xFEE0_0050, 0);
     text(b"\n");
-    interrupt(11, image, 0x0310, 0xFEEF_FFFC, 3);
+    interrupt(11, image, device(), 0xFEEF_FFFC, 3);
     text(b"\n");
-    interrupt(12, image, 0x0310, 0xFEE0_0090, 0);
+    interrupt(12, image, device(), 0xFEE0_0090, 0);
     print_post(image);
-    interrupt(12, image, 0x0310, 0xFEE0_0090, 0);
+    interrupt(12, image, device(), 0xFEE0_0090, 0);
     print_post(image);
 }
 

@@ -34,7 +34,7 @@ pub enum Translation {
     Fault(ScalableReason, bool, u64),
 }
 
-// By PGTT, where it is none that passes through.
+// 84h or 80h by the address, then the walk.
 fn find_pages(windows: &[u64], image: &[u8], walk: Walk, at: u64, flags: &mut [u64]) -> Pages
     requires { ⌜ Opened (walk .space .first) (now windows) (length (now image)) × PagesWalkable (walk .space .entry) × (47 ≤ length (now flags)) ⌝ }
     ensures { λ r. ⌜ pagesOf r (now (flags .exit)) ≡ run (pagedRules (walk .space .registers) (walk .asked .address) (walk .asked .write) (walk .space .entry)) (ofWindows (now (windows .entry)) (now (image .entry))) ⌝ }

@@ -1,4 +1,4 @@
-// Three devices are counted in ticks. One of them goes mad, is tripped and masked, and is let back once it is quiet: a row of
+// Three devices are counted in ticks. One of them storms, is tripped and masked, and is let back once it is quiet: a row of
 // meters, lent and ticked in place.
 ghost use mathlib.Core.Path.{_≡_};
 ghost use Rattle.meter.specs.Row.{tickRow, resetRow};
@@ -31,8 +31,8 @@ fn reset_devices(row: [Meter; 3]) -> [Meter; 3]
     lent
 }
 
-// The camera's interrupts are never too many. The disk storms above 2000. The network has a band: it is mad above 3000, and
-// dead below 1.
+// The camera's interrupts are never too many. The disk storms above 2000. The network has a band: it storms above 3000, and
+// is silent below 1.
 fn devices() -> [Meter; 3] {
     let camera = Meter {
         load: 7.0,
@@ -49,7 +49,7 @@ fn devices() -> [Meter; 3] {
     [camera, disk, network]
 }
 
-// What the disk raises in a tick: it is mad from tick 5 to tick 7. While it is masked its interrupts aren't let in.
+// What the disk raises in a tick: it storms from tick 5 to tick 7. While it is masked its interrupts aren't let in.
 fn disk_count(tick: u32, masked: bool) -> u32 {
     if masked {
         return 0;
