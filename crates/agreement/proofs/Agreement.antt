@@ -32,7 +32,7 @@ use Rattle.dma.proofs.Steps.{offset-of}
 use Rattle.translation.specs.Rights.{both, rightOf}
 use Rattle.translation.proofs.Agree.{both-right}
 use Rattle.regions.specs.Outside.{touchedByAny, tableOutside}
-use Rattle.regions.specs.Region.{What, Region, listed}
+use Rattle.regions.specs.Region.{What, Region, isListed}
 use Rattle.regions.specs.Region as region
 use Rattle.regions.proofs.Regions.{same-region}
 use Rattle.mapping.specs.Mapping.{spaceEnd, regionAt, spans, mappingRules}
@@ -83,10 +83,10 @@ module _ (fpd : Bool) (r : MemoryRequest) (x : Region) (at : ℕ) (aligned : at 
   from-start region.nothing = refl
 
 -- where nothing is listed, a request lacks rights
-quiet-lacks : (fpd : Bool) (r : MemoryRequest) (x : Region) → listed (x .what) ≡ false → answered fpd r x ≡ lacking fpd r
+quiet-lacks : (fpd : Bool) (r : MemoryRequest) (x : Region) → isListed (x .what) ≡ false → answered fpd r x ≡ lacking fpd r
 quiet-lacks fpd r x = by (x .what) (rightOf (r .write) (x .rights))
   where
-    by : (w : What) (t : Bool) → listed w ≡ false → (if t then said fpd w (x .level) r else lacking fpd r) ≡ lacking fpd r
+    by : (w : What) (t : Bool) → isListed w ≡ false → (if t then said fpd w (x .level) r else lacking fpd r) ≡ lacking fpd r
     by (region.page frame) t h = let z : _≡_ {A = ℕ} 0 1 = cc in absurd (omega arith)
     by (region.fault reason) t h = let z : _≡_ {A = ℕ} 0 1 = cc in absurd (omega arith)
     by (region.refused number) t h = let z : _≡_ {A = ℕ} 0 1 = cc in absurd (omega arith)
@@ -150,7 +150,7 @@ module _ (registers : Registers) (source : SourceId) (m : Memory) (outside : (ta
       → ((s : Span) → List·Memᴰ s (take n all) → In address s → ⊥)
       → (length all ≤ n) ⊎ Before address (take n all)
       → answerAt registers m (request source address write) ≡ lacking (c .fpd) (request source address write)
-  others n address write below clear uncovered far = by (listed (at-address address .what)) refl
+  others n address write below clear uncovered far = by (isListed (at-address address .what)) refl
     where
       r : MemoryRequest
       r = request source address write
@@ -195,7 +195,7 @@ module _ (registers : Registers) (source : SourceId) (m : Memory) (outside : (ta
           page-power (min (registers .mgaw) (12 + 9 * c .levels))
           (omega (arith, taken-good registers _ _ (w .taken) .mgaw .least, subst Finds (w .own-context) (finds registers (source .id) m) .0))
 
-      among : listed (at-address address .what) ≡ true → List·Memᴰ span all
+      among : isListed (at-address address .what) ≡ true → List·Memᴰ span all
       among on =
           there at-address end same ((end - 0) / 4096) 0 at (omega arith) page (omega arith) (omega (arith, here, below, end-page, page))
           (rw alike on) aligned
@@ -215,7 +215,7 @@ module _ (registers : Registers) (source : SourceId) (m : Memory) (outside : (ta
               (b .among) second in
               omega (arith, order, b .later, here)
 
-      by : (on : Bool) → listed (at-address address .what) ≡ on → answerAt registers m r ≡ lacking (c .fpd) r
+      by : (on : Bool) → isListed (at-address address .what) ≡ on → answerAt registers m r ≡ lacking (c .fpd) r
       by true on = absurd (apart (among on))
       by false off = by-region address write below clear ∙ quiet-lacks (c .fpd) r (at-address address) off
 

@@ -14,7 +14,7 @@ use lib.Pow.{split, high, low, pow-pos, pow-add}
 use Rattle.image.specs.Choice.{if_then_else_}
 use Rattle.image.proofs.Choices.{both as both-true}
 use Rattle.dma.specs.InterruptRange.{spanAt}
-use Rattle.regions.specs.Region.{Region, listed}
+use Rattle.regions.specs.Region.{Region, isListed}
 use Rattle.mapping.specs.Spans.{Span, spanOf, begins, spanHere, spansFrom, spansAfter}
 use Rattle.mapping.proofs.SpanLaws.{same-block, offset-in}
 use Rattle.agreement.specs.Claims.{InOrder}
@@ -55,16 +55,16 @@ module _ (region : (address : ℕ) → Region) (end : ℕ)
     pub low : from ≤ at
     pub below : at < to
     pub is : s ≡ spanOf end at (region at)
-    pub on : listed (region at .what) ≡ true
+    pub on : isListed (region at .what) ≡ true
     pub aligned : at % spanAt (region at .level) ≡ 0
 
-  at-once : (at : ℕ) (s : Span) → List·Memᴰ s (here at) → (s ≡ spanOf end at (region at)) × (listed (region at .what) ≡ true) × (at % spanAt (region at .level) ≡ 0)
-  at-once at s = by (listed (region at .what) && begins region end at) refl
+  at-once : (at : ℕ) (s : Span) → List·Memᴰ s (here at) → (s ≡ spanOf end at (region at)) × (isListed (region at .what) ≡ true) × (at % spanAt (region at .level) ≡ 0)
+  at-once at s = by (isListed (region at .what) && begins region end at) refl
     where
-      by : (t : Bool) → (listed (region at .what) && begins region end at) ≡ t → List·Memᴰ s (if t then spanOf end at (region at) ∷ [] else [])
-          → (s ≡ spanOf end at (region at)) × (listed (region at .what) ≡ true) × (at % spanAt (region at .level) ≡ 0)
+      by : (t : Bool) → (isListed (region at .what) && begins region end at) ≡ t → List·Memᴰ s (if t then spanOf end at (region at) ∷ [] else [])
+          → (s ≡ spanOf end at (region at)) × (isListed (region at .what) ≡ true) × (at % spanAt (region at .level) ≡ 0)
       by true is h =
-          let both = both-true (listed (region at .what)) (begins region end at) is in
+          let both = both-true (isListed (region at .what)) (begins region end at) is in
           (List·Memᴰ·eq-of-singleton h, both .0, eqb-true (at % spanAt (region at .level)) 0 (both .1))
       by false is h = absurd (List·Memᴰ·not-nil h)
 
@@ -84,7 +84,7 @@ module _ (region : (address : ℕ) → Region) (end : ℕ)
 
   -- and every such address has its span listed
   pub there : (n from at : ℕ) → from % 4096 ≡ 0 → at % 4096 ≡ 0 → from ≤ at → at < from + 4096 * n
-      → listed (region at .what) ≡ true → at % spanAt (region at .level) ≡ 0
+      → isListed (region at .what) ≡ true → at % spanAt (region at .level) ≡ 0
       → List·Memᴰ (spanOf end at (region at)) (spansFrom region end n from)
   unfolding spansFrom
   there zero from at page page′ low top on aligned = absurd (omega arith)
@@ -103,16 +103,16 @@ module _ (region : (address : ℕ) → Region) (end : ℕ)
 
   -- inside a region none begins
   none-inside : (at x : ℕ) → at % spanAt (region at .level) ≡ 0 → at < x → x < at + spanAt (region at .level) → here x ≡ []
-  none-inside at x aligned more top = by (listed (region x .what) && begins region end x) refl
+  none-inside at x aligned more top = by (isListed (region x .what) && begins region end x) refl
     where
       k : ℕ
       k = 12 + 9 * (region at .level - 1)
 
-      by : (t : Bool) → (listed (region x .what) && begins region end x) ≡ t → (if t then spanOf end x (region x) ∷ [] else []) ≡ []
+      by : (t : Bool) → (isListed (region x .what) && begins region end x) ≡ t → (if t then spanOf end x (region x) ∷ [] else []) ≡ []
       by false is = refl
       by true is =
           let alike = same at x (same-block k at x aligned (omega arith) top) in
-          let zero-off = eqb-true (x % spanAt (region x .level)) 0 (both-true (listed (region x .what)) (begins region end x) is .1) in
+          let zero-off = eqb-true (x % spanAt (region x .level)) 0 (both-true (isListed (region x .what)) (begins region end x) is .1) in
           let off = offset-in k at x aligned (omega arith) top in
           absurd (omega (arith, more, off, subst (λ (r : Region). x % spanAt (r .level) ≡ 0) alike zero-off))
 
@@ -122,7 +122,7 @@ module _ (region : (address : ℕ) → Region) (end : ℕ)
   unfolding spansFrom InOrder
   ordered zero from lower few none = tt
   ordered (suc n) from lower few none =
-      by (listed (region from .what) && begins region end from) refl (λ l. ordered n (from + 4096) l (omega arith))
+      by (isListed (region from .what) && begins region end from) refl (λ l. ordered n (from + 4096) l (omega arith))
     where
       S : ℕ
       S = spanAt (region from .level)
@@ -130,11 +130,11 @@ module _ (region : (address : ℕ) → Region) (end : ℕ)
       Ih : Type 0
       Ih = (l : ℕ) → ((x : ℕ) → from + 4096 ≤ x → x < l → here x ≡ []) → InOrder l end (spansFrom region end n (from + 4096))
 
-      by : (t : Bool) → (listed (region from .what) && begins region end from) ≡ t → Ih
+      by : (t : Bool) → (isListed (region from .what) && begins region end from) ≡ t → Ih
           → InOrder lower end ((if t then spanOf end from (region from) ∷ [] else []) ++ spansFrom region end n (from + 4096))
       by false is ih = ih lower (λ x low top. none x (omega arith) top)
       by true is ih =
-          let aligned = eqb-true (from % S) 0 (both-true (listed (region from .what)) (begins region end from) is .1) in
+          let aligned = eqb-true (from % S) 0 (both-true (isListed (region from .what)) (begins region end from) is .1) in
           let some : 0 < S = pow-pos (12 + 9 * (region from .level - 1)) in (
             first-free (decLe (from + 1) lower),
             omega arith,

@@ -23,7 +23,7 @@ use Rattle.translation.specs.Rights.{rightOf}
 use Rattle.regions.specs.Outside.{tableOutside}
 use Rattle.regions.specs.Region.{What}
 use Rattle.regions.specs.Region as region
-use Rattle.mapping.specs.Mapping.{mapped, spaceEnd, spans, mapping}
+use Rattle.mapping.specs.Mapping.{spansMapped, spaceEnd, spans, mapping}
 use Rattle.mapping.specs.Spans.{Span}
 
 -- tables of which no byte is in a memory: none of their entries can be fetched
@@ -45,7 +45,7 @@ pub record WalkedTables (registers : Registers) (source : ℕ) (m : Memory) : Ty
 abbrev pub ListedWhereWalked : Type 0
 ListedWhereWalked =
     (registers : Registers) (source : ℕ) (m : Memory) (outside : (table : ℕ) → Bool) (w : WalkedTables registers source m)
-    → mapping registers m outside source ≡ mapped (spans registers m outside (w .own))
+    → mapping registers m outside source ≡ spansMapped (spans registers m outside (w .own))
 
 -- an address of a span
 abbrev pub In : (address : ℕ) → Span → Type 0

@@ -15,7 +15,7 @@ use Rattle.region.specs.Copy.{copiedIn, copiedOut}
 use Rattle.tables.specs.Tables.{Tables, tables}
 use Rattle.tables.specs.declared.Tree.{Tree}
 use Rattle.builder.specs.Answers.{readinessOf, unready}
-use Rattle.builder.specs.Build.{Built, done, notReady, atItem, Lent, lent, afterItems, fromCopy, whenReady, built}
+use Rattle.builder.specs.Build.{Built, allTaken, notReady, atItem, LentBuffers, lent, afterItems, fromCopy, whenReady, built}
 use Rattle.builder.specs.Items.{takeItems}
 use Rattle.builder.specs.Ready.{Readiness, refusal, notYet, ready, readiness}
 use Rattle.builder.specs.declared.items.Taken.{Taken}
@@ -63,12 +63,12 @@ module _ (registers : Registers) (windows items memory copy marks : List ℕ) (t
     stopped-at h = sym (rw (ne-eqb (end .reason) 0 h) refl) ∙ taken-in
 
     pub finished : end .reason ≡ 0 → {after : List ℕ} → after ≡ copiedOut windows changed (tree .start) (length changed / 8) 0 memory
-        → (done, lent after changed remarked) ≡ fromCopy registers windows items memory tree copy marks
+        → (allTaken, lent after changed remarked) ≡ fromCopy registers windows items memory tree copy marks
     finished h e =
-        ap (λ (m : List ℕ). (done, lent m changed remarked)) e
+        ap (λ (m : List ℕ). (allTaken, lent m changed remarked)) e
         ∙ sym (when h)
         ∙ taken-in
       where
         when : end .reason ≡ 0 → afterItems registers windows items memory tree (end, tables changed remarked)
-            ≡ (done, lent (copiedOut windows changed (tree .start) (length changed / 8) 0 memory) changed remarked)
+            ≡ (allTaken, lent (copiedOut windows changed (tree .start) (length changed / 8) 0 memory) changed remarked)
         when z = rw (eq-eqb (end .reason) 0 z)

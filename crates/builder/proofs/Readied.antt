@@ -21,7 +21,7 @@ use Rattle.dma.specs.declared.context.Context.{Context}
 use Rattle.region.specs.Region.{notPages, pagesShown, badRegion}
 use Rattle.region.specs.Shared.{sharesTables}
 use Rattle.tables.specs.declared.Tree.{Tree}
-use Rattle.builder.specs.Ready.{Readiness, refusal, notYet, ready, sized, topOutside, treeOf, inContext, readiness, Usable, IfReady}
+use Rattle.builder.specs.Ready.{Readiness, refusal, notYet, ready, sized, topOutside, treeOf, inContext, readiness, TablesReady, IfReady}
 
 pub top-below : (start size top : ℕ) → top < start → true ≡ topOutside start size top
 top-below start size top h = rw (lt-ltb top start h)
@@ -71,7 +71,7 @@ module _ (registers : Registers) (windows bytes : List ℕ) (start size copy mar
           readied h = rw (ne-eqb (c .«translation_type») 2 type, region, size-is, h)
 
     pub usable : registers .haw ≤ 52 → UsableContext c → badRegion registers windows bytes start size ≡ false → sized size copy marks ≡ true
-        → topOutside start size (c .top) ≡ false → Usable registers copy marks (treeOf start c)
+        → topOutside start size (c .top) ≡ false → TablesReady registers copy marks (treeOf start c)
     usable haw u region size-is top =
         let r = region-fine registers windows bytes start size haw region in
         let s = both (eqb copy size) (eqb marks (size / 4096)) size-is in

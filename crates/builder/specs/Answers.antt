@@ -1,5 +1,5 @@
 -- What the code's enums say, in the definitions' terms.
-use Rattle.builder.specs.Build.{Built, done, refused, notReady, atItem}
+use Rattle.builder.specs.Build.{Built, allTaken, refused, notReady, atItem}
 use Rattle.builder.specs.Ready.{Readiness, refusal, notYet, ready}
 use Rattle.builder.specs.declared.BuildAnswer.{BuildAnswer}
 use Rattle.builder.specs.declared.BuildAnswer.the-variants as answer
@@ -7,7 +7,7 @@ use Rattle.builder.specs.declared.ready.Ready.{Ready}
 use Rattle.builder.specs.declared.ready.Ready.the-variants as code
 
 abbrev pub builtOf : BuildAnswer → Built
-builtOf answer.Done = done
+builtOf answer.Done = allTaken
 builtOf (answer.Refused number) = refused number
 builtOf (answer.NotReady reason) = notReady reason
 builtOf (answer.Item index reason) = atItem index reason

@@ -49,8 +49,8 @@ module _ (registers : Registers) (windows bytes : List ℕ) (start size copy mar
       else onLookup (run (lookupRules registers source) (ofWindows windows bytes)) (λ reason fpd. notYet 2) inContext
 
 -- what holds of tables that are ready, with so many bytes of a copy and so many marks: for the code's contracts
-abbrev pub Usable : Registers → (copy marks : ℕ) → Tree → Type 0
-Usable registers copy marks tree =
+abbrev pub TablesReady : Registers → (copy marks : ℕ) → Tree → Type 0
+TablesReady registers copy marks tree =
     (registers .haw < 53)
     × (tree .start % 4096 ≡ 0)
     × (tree .start + copy < 2 ^ 53)

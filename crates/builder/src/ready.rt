@@ -7,7 +7,7 @@ ghost use Rattle.image.specs.Windows.{badWindows};
 ghost use Rattle.dma.specs.Context.{Usable as UsableContext};
 ghost use Rattle.registers.specs.Registers.{registersBad};
 ghost use Rattle.builder.specs.Answers.{readinessOf};
-ghost use Rattle.builder.specs.Ready.{sized, topOutside, inContext, readiness, Usable, IfReady};
+ghost use Rattle.builder.specs.Ready.{sized, topOutside, inContext, readiness, TablesReady, IfReady};
 use dma::Context;
 use dma::Lookup;
 use dma::find_context;
@@ -53,7 +53,7 @@ fn ready_in(
 ) -> Ready
     requires { ⌜ (badWindows (now windows) (length (now memory)) ≡ false) × (registersBad registers ≡ false) × UsableContext context ⌝ }
     ensures { λ r. ⌜ readinessOf r ≡ inContext registers (now (windows .entry)) (now (memory .entry)) (area .start) (area .size) copy marks context ⌝ }
-    ensures { λ r. ⌜ IfReady (Usable registers copy marks) (readinessOf r) ⌝ }
+    ensures { λ r. ⌜ IfReady (TablesReady registers copy marks) (readinessOf r) ⌝ }
 {
     if context.translation_type == 2 {
         return Ready::NotYet(2);
@@ -85,7 +85,7 @@ pub(crate) fn make_ready(
     marks: u64,
 ) -> Ready
     ensures { λ r. ⌜ readinessOf r ≡ readiness registers (now (windows .entry)) (now (memory .entry)) (area .start) (area .size) copy marks (source .id) ⌝ }
-    ensures { λ r. ⌜ IfReady (Usable registers copy marks) (readinessOf r) ⌝ }
+    ensures { λ r. ⌜ IfReady (TablesReady registers copy marks) (readinessOf r) ⌝ }
 {
     if bad_windows(windows, memory.len()) | registers.bad() {
         return Ready::Refused(1);

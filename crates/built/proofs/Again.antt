@@ -23,7 +23,7 @@ use Rattle.region.specs.Copy.{copiedIn, wordShown}
 use Rattle.region.specs.Region.{badRegion}
 use Rattle.tables.specs.Tables.{Tables, heldEntry, present, absent, emptyTable}
 use Rattle.tables.specs.declared.Tree.{Tree}
-use Rattle.builder.specs.Build.{Built, done, notReady, atItem, Lent, lent, afterItems, whenReady, built}
+use Rattle.builder.specs.Build.{Built, allTaken, notReady, atItem, LentBuffers, lent, afterItems, whenReady, built}
 use Rattle.builder.specs.Ready.{Readiness, refusal, notYet, ready, sized, topOutside, treeOf, inContext, readiness}
 use Rattle.leaves.specs.WellBuilt.{Placed, NoneEmpty}
 use Rattle.leaves.proofs.Again.{pass-again, empty-passes}
@@ -37,7 +37,7 @@ use Rattle.built.proofs.Setting.{Setting, setting, placed, leaves, ende
 use Rattle.built.proofs.Through.{word-below}
 
 -- reason 4 with no item is that of a top table outside the region, or of marks
-module _ (registers : Registers) (source start size : ℕ) (windows items : List ℕ) (l : Lent) where
+module _ (registers : Registers) (source start size : ℕ) (windows items : List ℕ) (l : LentBuffers) where
   abbrev Found : Context → Type 0
   Found c = run (lookupRules registers source) (ofWindows windows (l .memory)) ≡ context c
 
@@ -88,14 +88,14 @@ module _ (registers : Registers) (source start size : ℕ) (windows items : List
           on-marks (markedOf registers source start size windows items l tree .0)
           (marked tree (readied registers windows (l .memory) start size (length (l .copy)) (length (l .marks)) source is)) h
         where
-          on-items : (t : Bool) → (if_then_else_ {A = Built × Lent} t
-              (done, lent (afterOf registers source start size windows items l tree) (endOf registers source start size windows items l tree .1 .bytes) (endOf registers source start size windows items l tree .1 .marks))
+          on-items : (t : Bool) → (if_then_else_ {A = Built × LentBuffers} t
+              (allTaken, lent (afterOf registers source start size windows items l tree) (endOf registers source start size windows items l tree .1 .bytes) (endOf registers source start size windows items l tree .1 .marks))
               (atItem (endOf registers source start size windows items l tree .0 .index) (endOf registers source start size windows items l tree .0 .reason), lent (l .memory) (endOf registers source start size windows items l tree .1 .bytes) (endOf registers source start size windows items l tree .1 .marks))) .0 ≡ notReady 4 → ⊥
           on-items true h = let z : _≡_ {A = ℕ} 0 1 = cc in omega arith
           on-items false h = let z : _≡_ {A = ℕ} 0 1 = cc in omega arith
 
           on-marks : (t : Bool) → t ≡ true
-              → (if_then_else_ {A = Built × Lent} t (afterItems registers windows items (l .memory) tree (endOf registers source start size windows items l tree))
+              → (if_then_else_ {A = Built × LentBuffers} t (afterItems registers windows items (l .memory) tree (endOf registers source start size windows items l tree))
               (notReady 4, lent (l .memory) (copyOf registers source start size windows items l tree) (markedOf registers source start size windows items l tree .1))) .0 ≡ notReady 4 → ⊥
           on-marks true e h = on-items (eqb (endOf registers source start size windows items l tree .0 .reason) 0) h
           on-marks false e h = let y : _≡_ {A = ℕ} 0 1 = cc in omega arith
@@ -105,13 +105,13 @@ none-there : (bytes : List ℕ) (at : ℕ) → length bytes < at + 8 → heldEnt
 unfolding heldEntry
 none-there bytes at h = ap (λ (f : Fetched). onFetch f 0 (λ e. e)) (outside bytes 0 at (omega arith))
 
-module _ (registers : Registers) (source start size : ℕ) (windows items : List ℕ) (l : Lent)
+module _ (registers : Registers) (source start size : ℕ) (windows items : List ℕ) (l : LentBuffers)
     (bytes : AreBytes (l .memory)) (copied : AreBytes (l .copy)) (tree : Tree) (c : Completed registers source start size windows items l tree)
     (items′ copy marks : List ℕ) where
   abbrev after : List ℕ
   after = afterOf registers source start size windows items l tree
 
-  abbrev next : Lent
+  abbrev next : LentBuffers
   next = lent after copy marks
 
   st : Setting registers start size items (c .ready .own) (ofWindows windows (l .memory)) (ofWindows windows after)
@@ -182,7 +182,7 @@ module _ (registers : Registers) (source start size : ℕ) (windows items : List
 pub builds-again : BuildsAgain
 builds-again registers source start size windows items l bytes copied =
     build-cases registers source start size windows items l
-    (λ (end : Built × Lent). end .0 ≡ done → (items′ copy marks : List ℕ)
+    (λ (end : Built × LentBuffers). end .0 ≡ allTaken → (items′ copy marks : List ℕ)
     → built registers source start size windows items′ (lent (end .1 .memory) copy marks) .0 ≡ notReady 4 → ⊥)
     (λ x copy marks other is. absurd (other is))
     (λ tree copy marks c is items′ copy′ marks′. again registers source start size windows items l bytes copied tree c items′ copy′ marks′)

@@ -38,7 +38,7 @@ use Rattle.translation.proofs.Entries.{check-own, check-lost}
 use Rattle.translation.proofs.Forks as translation-forks
 use Rattle.agreement.specs.Claims.{lacking}
 use Rattle.tables.specs.declared.Tree.{Tree}
-use Rattle.builder.specs.Build.{Built, done, Lent}
+use Rattle.builder.specs.Build.{Built, allTaken, LentBuffers}
 use Rattle.builder.specs.Items.{itemAt}
 use Rattle.builder.specs.Reasons.{unmaps, levelsBelow, leafOf, itemReason}
 use Rattle.builder.specs.declared.items.Item.{Item}
@@ -129,7 +129,7 @@ beside start size at page word out = by (decLe start at) (decLe (start + size) a
     by (yes low) (yes high) = inr high
     by (yes low) (no high) = absurd (out (low, omega arith))
 
-module _ (registers : Registers) (source start size : ℕ) (windows items : List ℕ) (l : Lent)
+module _ (registers : Registers) (source start size : ℕ) (windows items : List ℕ) (l : LentBuffers)
     (bytes : AreBytes (l .memory)) (copied : AreBytes (l .copy)) (tree : Tree) (c : Completed registers source start size windows items l tree) where
   abbrev before : List ℕ
   before = l .memory
@@ -260,6 +260,6 @@ module _ (registers : Registers) (source start size : ℕ) (windows items : List
 pub built-answers : BuiltAnswers
 built-answers registers source start size windows items l bytes copied =
     build-cases registers source start size windows items l
-    (λ (end : Built × Lent). end .0 ≡ done → Answers registers source start size windows items (l .memory) (end .1 .memory))
+    (λ (end : Built × LentBuffers). end .0 ≡ allTaken → Answers registers source start size windows items (l .memory) (end .1 .memory))
     (λ x copy marks other is. absurd (other is))
     (λ tree copy marks c is. answers registers source start size windows items l bytes copied tree c)

@@ -20,7 +20,7 @@ use Rattle.region.specs.Copy.{copiedIn, copiedOut}
 use Rattle.region.specs.Region.{badRegion}
 use Rattle.tables.specs.Tables.{Tables, tables}
 use Rattle.tables.specs.declared.Tree.{Tree}
-use Rattle.builder.specs.Build.{Built, done, refused, notReady, atItem, Lent, lent, afterItems, whenReady, built}
+use Rattle.builder.specs.Build.{Built, allTaken, refused, notReady, atItem, LentBuffers, lent, afterItems, whenReady, built}
 use Rattle.builder.specs.Items.{takeItems}
 use Rattle.builder.specs.Ready.{Readiness, refusal, notYet, ready, sized, topOutside, treeOf, inContext, readiness}
 use Rattle.builder.specs.declared.items.Taken.{Taken}
@@ -88,7 +88,7 @@ module _ (registers : Registers) (windows memory : List ℕ) (start size copy ma
             is = cc;
           }
 
-module _ (registers : Registers) (source start size : ℕ) (windows items : List ℕ) (l : Lent) where
+module _ (registers : Registers) (source start size : ℕ) (windows items : List ℕ) (l : LentBuffers) where
   -- the region's copy, its marks, and the items taken on them
   abbrev pub copyOf : Tree → List ℕ
   copyOf tree = copiedIn (ofWindows windows (l .memory)) (tree .start) (length (l .copy) / 8) 0 (l .copy)
@@ -108,20 +108,20 @@ module _ (registers : Registers) (source start size : ℕ) (windows items : List
     pub marked : markedOf tree .0 ≡ true
     pub taken : endOf tree .0 .reason ≡ 0
 
-  pub build-cases : (P : Built × Lent → Type 0) → ((x : Built) (copy marks : List ℕ) → (x ≡ done → ⊥) → P (x, lent (l .memory) copy marks))
-      → ((tree : Tree) (copy marks : List ℕ) → Completed tree → P (done, lent (afterOf tree) copy marks))
+  pub build-cases : (P : Built × LentBuffers → Type 0) → ((x : Built) (copy marks : List ℕ) → (x ≡ allTaken → ⊥) → P (x, lent (l .memory) copy marks))
+      → ((tree : Tree) (copy marks : List ℕ) → Completed tree → P (allTaken, lent (afterOf tree) copy marks))
       → P (built registers source start size windows items l)
   unfolding built
   build-cases P refusals completed =
       by (readiness registers windows (l .memory) start size (length (l .copy)) (length (l .marks)) source) refl
     where
-      not-refused : (n : ℕ) → refused n ≡ done → ⊥
+      not-refused : (n : ℕ) → refused n ≡ allTaken → ⊥
       not-refused n h = let z : _≡_ {A = ℕ} 0 1 = cc in omega arith
 
-      not-ready : (n : ℕ) → notReady n ≡ done → ⊥
+      not-ready : (n : ℕ) → notReady n ≡ allTaken → ⊥
       not-ready n h = let z : _≡_ {A = ℕ} 0 1 = cc in omega arith
 
-      not-item : (i n : ℕ) → atItem i n ≡ done → ⊥
+      not-item : (i n : ℕ) → atItem i n ≡ allTaken → ⊥
       not-item i n h = let z : _≡_ {A = ℕ} 0 1 = cc in omega arith
 
       by : (r : Readiness) → readiness registers windows (l .memory) start size (length (l .copy)) (length (l .marks)) source ≡ r
@@ -131,7 +131,7 @@ module _ (registers : Registers) (source start size : ℕ) (windows items : List
       by (ready tree) is = on-marks (markedOf tree .0) refl
         where
           on-items : (markedOf tree .0 ≡ true) → (t : Bool) → eqb (endOf tree .0 .reason) 0 ≡ t
-              → P (if t then (done, lent (afterOf tree) (endOf tree .1 .bytes) (endOf tree .1 .marks))
+              → P (if t then (allTaken, lent (afterOf tree) (endOf tree .1 .bytes) (endOf tree .1 .marks))
               else (atItem (endOf tree .0 .index) (endOf tree .0 .reason), lent (l .memory) (endOf tree .1 .bytes) (endOf tree .1 .marks)))
           on-items marked true e =
               completed tree (endOf tree .1 .bytes) (endOf tree .1 .marks)

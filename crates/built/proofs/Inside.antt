@@ -11,14 +11,14 @@ use Rattle.registers.specs.declared.Registers.{Registers}
 use Rattle.interrupts.specs.Claims.{Shows}
 use Rattle.tables.specs.Tables.{tables}
 use Rattle.tables.specs.declared.Tree.{Tree}
-use Rattle.builder.specs.Build.{Built, done, Lent}
+use Rattle.builder.specs.Build.{Built, allTaken, LentBuffers}
 use Rattle.leaves.proofs.Entries.{length-stored}
 use Rattle.built.specs.Inside.{InRegion, BuildsInside, RefusalLeaves}
 use Rattle.built.proofs.Builds.{Completed, copyOf, markedOf, endOf, afterOf, build-cases}
 use Rattle.built.proofs.Copies.{length-in, length-out, run-out, host-out}
 use Rattle.built.proofs.Items.{items-keep}
 
-module _ (registers : Registers) (source start size : ℕ) (windows items : List ℕ) (l : Lent) (tree : Tree)
+module _ (registers : Registers) (source start size : ℕ) (windows items : List ℕ) (l : LentBuffers) (tree : Tree)
     (c : Completed registers source start size windows items l tree) where
   -- the copy has the region's length, before and after
   pub copy-length : length (copyOf registers source start size windows items l tree) ≡ size
@@ -60,7 +60,7 @@ module _ (registers : Registers) (source start size : ℕ) (windows items : List
 pub builds-inside : BuildsInside
 builds-inside registers source start size windows items l =
     build-cases registers source start size windows items l
-    (λ (end : Built × Lent).
+    (λ (end : Built × LentBuffers).
     (length (end .1 .memory) ≡ length (l .memory))
     × ((at : ℕ) → (InRegion start size at → ⊥) → byteAt windows (end .1 .memory) at ≡ byteAt windows (l .memory) at)
     × ((place : ℕ) → ((at : ℕ) → Shows windows at place → ⊥) → getD (end .1 .memory) place 0 ≡ getD (l .memory) place 0))
@@ -70,5 +70,5 @@ builds-inside registers source start size windows items l =
 
 pub refusal-leaves : RefusalLeaves
 refusal-leaves registers source start size windows items l =
-    build-cases registers source start size windows items l (λ (end : Built × Lent). (end .0 ≡ done → ⊥) → end .1 .memory ≡ l .memory)
+    build-cases registers source start size windows items l (λ (end : Built × LentBuffers). (end .0 ≡ allTaken → ⊥) → end .1 .memory ≡ l .memory)
     (λ x copy marks other never. refl) (λ tree copy marks c never. absurd (never refl))

@@ -37,7 +37,7 @@ use Rattle.region.specs.Region.{notPages, pagesShown, badRegion}
 use Rattle.region.specs.Shared.{sharesTables}
 use Rattle.tables.specs.Tables.{Tables, tables, heldEntry}
 use Rattle.tables.specs.declared.Tree.{Tree}
-use Rattle.builder.specs.Build.{Lent}
+use Rattle.builder.specs.Build.{LentBuffers}
 use Rattle.builder.specs.Items.{itemAt, changed, takeItem, takeItems}
 use Rattle.builder.specs.Reasons.{itemReason}
 use Rattle.leaves.specs.Claims.{Leaves}
@@ -221,7 +221,7 @@ module _ (registers : Registers) (windows memory : List ℕ) (start size copy ma
         deep = omega (arith, ready-levels-are, deep registers source (ofWindows windows memory) (r .own-context));
       }
 
-module _ (registers : Registers) (source start size : ℕ) (windows items : List ℕ) (l : Lent)
+module _ (registers : Registers) (source start size : ℕ) (windows items : List ℕ) (l : LentBuffers)
     (bytes : AreBytes (l .memory)) (copied : AreBytes (l .copy)) (tree : Tree) (c : Completed registers source start size windows items l tree) where
   abbrev ready : Readied registers windows (l .memory) start size (length (l .copy)) (length (l .marks)) source tree
   ready = c .ready

@@ -11,13 +11,13 @@ use Rattle.dma.specs.Lookup.{context, lookupRules}
 use Rattle.dma.specs.declared.context.Context.{Context}
 use Rattle.region.specs.Copy.{wordShown}
 use Rattle.tables.specs.Tables.{present}
-use Rattle.builder.specs.Build.{Lent, lent, done, notReady, built}
+use Rattle.builder.specs.Build.{LentBuffers, lent, allTaken, notReady, built}
 use Rattle.builder.specs.Ready.{topOutside}
 
 -- with an empty top table in the region
 abbrev pub BuildsOnEmpty : Type 0
 BuildsOnEmpty =
-    (registers : Registers) (source start size : ℕ) (windows items : List ℕ) (l : Lent) → ((n : ℕ) → getD (l .memory) n 0 < 256)
+    (registers : Registers) (source start size : ℕ) (windows items : List ℕ) (l : LentBuffers) → ((n : ℕ) → getD (l .memory) n 0 < 256)
     → (own : Context) → run (lookupRules registers source) (ofWindows windows (l .memory)) ≡ context own
     → topOutside start size (own .top) ≡ false
     → ((n : ℕ) → n < 512 → present (wordShown (ofWindows windows (l .memory)) (own .top + 8 * n)) ≡ false)
@@ -26,8 +26,8 @@ BuildsOnEmpty =
 -- after a success, with any other list, copy and marks
 abbrev pub BuildsAgain : Type 0
 BuildsAgain =
-    (registers : Registers) (source start size : ℕ) (windows items : List ℕ) (l : Lent)
+    (registers : Registers) (source start size : ℕ) (windows items : List ℕ) (l : LentBuffers)
     → ((n : ℕ) → getD (l .memory) n 0 < 256) → ((n : ℕ) → getD (l .copy) n 0 < 256)
-    → built registers source start size windows items l .0 ≡ done
+    → built registers source start size windows items l .0 ≡ allTaken
     → (items′ copy marks : List ℕ)
     → built registers source start size windows items′ (lent (built registers source start size windows items l .1 .memory) copy marks) .0 ≡ notReady 4 → ⊥

@@ -23,7 +23,7 @@ use Rattle.translation.specs.Requests.{TranslationOutcome, translated, requestR
 use Rattle.translation.specs.Rights.{neither}
 use Rattle.translation.specs.declared.TranslationRequest.{TranslationRequest}
 use Rattle.agreement.specs.Claims.{lacking}
-use Rattle.builder.specs.Build.{Lent, done, built}
+use Rattle.builder.specs.Build.{LentBuffers, allTaken, built}
 use Rattle.builder.specs.Items.{itemAt}
 use Rattle.builder.specs.Reasons.{unmaps}
 use Rattle.builder.specs.declared.items.Item.{Item}
@@ -109,7 +109,7 @@ module _ (registers : Registers) (source start size : ℕ) (windows items before
 -- every other request as before, save the entry concerned where it lacks rights. The premise on other contexts is that of `others`.
 abbrev pub BuiltAnswers : Type 0
 BuiltAnswers =
-    (registers : Registers) (source start size : ℕ) (windows items : List ℕ) (l : Lent)
+    (registers : Registers) (source start size : ℕ) (windows items : List ℕ) (l : LentBuffers)
     → ((n : ℕ) → getD (l .memory) n 0 < 256) → ((n : ℕ) → getD (l .copy) n 0 < 256)
-    → built registers source start size windows items l .0 ≡ done
+    → built registers source start size windows items l .0 ≡ allTaken
     → Answers registers source start size windows items (l .memory) (built registers source start size windows items l .1 .memory)

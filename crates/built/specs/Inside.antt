@@ -6,7 +6,7 @@ use lib.ListN.{length, getD}
 use Rattle.image.specs.Windows.{byteAt}
 use Rattle.registers.specs.declared.Registers.{Registers}
 use Rattle.interrupts.specs.Claims.{Shows}
-use Rattle.builder.specs.Build.{Lent, done, built}
+use Rattle.builder.specs.Build.{LentBuffers, allTaken, built}
 
 -- a host address in the region
 abbrev pub InRegion : (start size at : ℕ) → Type 0
@@ -16,7 +16,7 @@ InRegion start size at = (start ≤ at) × (at < start + size)
 -- of the run that no window shows.
 abbrev pub BuildsInside : Type 0
 BuildsInside =
-    (registers : Registers) (source start size : ℕ) (windows items : List ℕ) (l : Lent)
+    (registers : Registers) (source start size : ℕ) (windows items : List ℕ) (l : LentBuffers)
     → let after = built registers source start size windows items l .1 .memory in
     (length after ≡ length (l .memory))
     × ((at : ℕ) → (InRegion start size at → ⊥) → byteAt windows after at ≡ byteAt windows (l .memory) at)
@@ -25,6 +25,6 @@ BuildsInside =
 -- a refusal, at an item or before any, leaves every byte of the memory
 abbrev pub RefusalLeaves : Type 0
 RefusalLeaves =
-    (registers : Registers) (source start size : ℕ) (windows items : List ℕ) (l : Lent)
-    → (built registers source start size windows items l .0 ≡ done → ⊥)
+    (registers : Registers) (source start size : ℕ) (windows items : List ℕ) (l : LentBuffers)
+    → (built registers source start size windows items l .0 ≡ allTaken → ⊥)
     → built registers source start size windows items l .1 .memory ≡ l .memory

@@ -17,7 +17,7 @@ use Rattle.dma.specs.Requests.{MemoryOutcome, granted, refused, memoryOutcome, 
 use Rattle.dma.specs.Translation.{Translation, through, leaf, fault, translationRules}
 use Rattle.dma.specs.declared.MemoryRequest.{MemoryRequest}
 use Rattle.cache.specs.Engine.{admitted, rulesOf, domainOver, ifTaken}
-use Rattle.cache.specs.Numbers.{newest, heldAddress, kept, stateRules, stateAfter}
+use Rattle.cache.specs.Numbers.{newest, heldAddress, stateKept, stateRules, stateAfter}
 
 -- an answer, the entry concerned in it and the state left
 abbrev pub Says : Registers → List ℕ → MemoryRequest → Memory → MemoryOutcome → Place → List ℕ → Type 0
@@ -46,7 +46,7 @@ module _ (registers : Registers) (state : List ℕ) (request : MemoryRequest) (m
   pub state-misses : takenUp ≡ admission registers wrong (registers .te) → 64 ≤ newest state request
       → (o : MemoryOutcome) (place : Place) (left : List ℕ) → o ≡ memoryOutcome request (run (rulesOf registers request) m)
       → place ≡ concerned o (stoppedAt (rulesOf registers request) m)
-      → left ≡ kept state request (run (rulesOf registers request) m) (domainOver registers (request .source .id) m)
+      → left ≡ stateKept state request (run (rulesOf registers request) m) (domainOver registers (request .source .id) m)
       → Says registers state request m o place left
   unfolding stateRules stateAfter
   state-misses h none o place left says stopped keeps =

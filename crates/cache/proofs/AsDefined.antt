@@ -31,8 +31,8 @@ use Rattle.places.specs.Changes.{holding, sifted}
 use Rattle.cache.specs.Held.{Held, Hit, miss, hit, onHit, lookup, insert, without}
 use Rattle.cache.specs.Engine.{Operation, request, edit, invalidateAll, invalidateDomain, State, from, onGrant, ifTaken, admitted, rulesOf, heldAnswer, domainOver, cachedRules, cachedAs, heldAfter, step, answers, plainAnswers}
 use Rattle.cache.specs.Keys.{keyFor}
-use Rattle.cache.specs.Lent.{Call, ask, change, dropAll, dropDomain, callAnswers, plainCalls, operations, Fair, AsDefined, EqualCalls}
-use Rattle.cache.specs.Numbers.{caches, newest, heldAddress, kept, stateRules, stateAfter, cachedAnswer, cachedState, stateWithout}
+use Rattle.cache.specs.Lent.{CacheCall, ask, change, dropAll, dropDomain, callAnswers, plainCalls, operations, Fair, AsDefined, EqualCalls}
+use Rattle.cache.specs.Numbers.{caches, newest, heldAddress, stateKept, stateRules, stateAfter, cachedAnswer, cachedState, stateWithout}
 use Rattle.cache.proofs.Found.{Finds, found, nothing, finds}
 use Rattle.cache.proofs.Holds.{Holdable, holdable-key, HeldAt, Holds, empty-holds, hold-holds}
 use Rattle.cache.proofs.Runs.{equal}
@@ -102,7 +102,7 @@ module _ (registers : Registers) (state : List ℕ) (held : List Held) (r : Memo
     where
       on : (a : Admitted) → a ≡ admitted registers r → Finds state held r → (t : Translation) → run (rulesOf registers r) m ≡ t
           → Holds
-          (ifTaken a (if ltb (newest state r) 64 then state else kept state r t (domainOver registers (r .source .id) m)) state)
+          (ifTaken a (if ltb (newest state r) 64 then state else stateKept state r t (domainOver registers (r .source .id) m)) state)
           (ifTaken a (onHit (lookup r held) (onGrant t held (λ frame level. insert (cachedAs registers r m frame level) held)) (λ h. held)) held)
       on (refusal n) told f t walked = was
       on pass told f t walked = was
@@ -128,7 +128,7 @@ without-holds state held d was =
     (sift-holds d 64 (headOf state) state [] held was (was .few) (omega arith) (omega arith))
 
 module _ (registers : Registers) (windows : List ℕ) where
-  runs-alike : (calls : List Call) (bytes state : List ℕ) (held : List Held) → Holds state held → badWindows windows (length bytes) ≡ false
+  runs-alike : (calls : List CacheCall) (bytes state : List ℕ) (held : List Held) → Holds state held → badWindows windows (length bytes) ≡ false
       → Fair registers windows calls
       → callAnswers registers windows calls bytes state
       ≡ answers registers (operations registers windows calls) (record { memory = ofWindows windows bytes; held = held })
@@ -146,7 +146,7 @@ module _ (registers : Registers) (windows : List ℕ) where
   runs-alike (dropDomain d ∷ calls) bytes state held was good fair =
       runs-alike calls bytes (stateWithout state d) (without d held) (without-holds state held d was) good fair
 
-  plain-alike : (calls : List Call) (bytes : List ℕ) → badWindows windows (length bytes) ≡ false → Fair registers windows calls
+  plain-alike : (calls : List CacheCall) (bytes : List ℕ) → badWindows windows (length bytes) ≡ false → Fair registers windows calls
       → plainAnswers registers (operations registers windows calls) (ofWindows windows bytes) ≡ plainCalls registers windows calls bytes
   unfolding plainAnswers plainCalls operations Fair
   plain-alike [] bytes good fair = refl

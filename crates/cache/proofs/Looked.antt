@@ -12,7 +12,7 @@ use Rattle.dma.specs.declared.MemoryRequest.{MemoryRequest}
 use Rattle.dma.specs.declared.context.Context.{Context}
 use Rattle.dma.proofs.Lookups.{looked-up}
 use Rattle.cache.specs.Engine.{rulesOf, domainOver}
-use Rattle.cache.specs.Numbers.{kept}
+use Rattle.cache.specs.Numbers.{stateKept}
 
 module _ (registers : Registers) (request : MemoryRequest) (m : Memory) where
   pub context-domain : (c : Context) → run (lookupRules registers (request .source .id)) m ≡ context c → domainOver registers (request .source .id) m ≡ c .domain
@@ -20,6 +20,6 @@ module _ (registers : Registers) (request : MemoryRequest) (m : Memory) where
 
   -- nothing is kept without a context
   pub stopped-kept : (reason : ℕ) (fpd : Bool) → run (lookupRules registers (request .source .id)) m ≡ noContext reason fpd → (state : List ℕ) (domain : ℕ)
-      → state ≡ kept state request (run (rulesOf registers request) m) domain
+      → state ≡ stateKept state request (run (rulesOf registers request) m) domain
   stopped-kept reason fpd none state domain =
       rw (looked-up registers fault (widthRules registers (request .address) (request .write)) m (request .source .id), none)

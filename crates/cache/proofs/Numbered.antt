@@ -9,7 +9,7 @@ use lib.Dec.{eqb}
 use Rattle.image.specs.Choice.{if_then_else_}
 use Rattle.dma.specs.declared.MemoryRequest.{MemoryRequest}
 use Rattle.cache.specs.Held.{Held, pageOf, fits}
-use Rattle.cache.specs.Keys.{kindOf, keyNumber, keyOf, keyFor}
+use Rattle.cache.specs.Keys.{writeNumber, keyNumber, keyOf, keyFor}
 
 -- a test that is three tests
 module _ (x y s t p q : ℕ) (w v : Bool) where
@@ -26,11 +26,11 @@ module _ (x y s t p q : ℕ) (w v : Bool) where
       on (yes h) (no k) true true e f = rw (eq-eqb s t h, ne-eqb p q k, ne-eqb x y (λ same. k (back same .2)))
       on (yes h) (no k) false false e f = rw (eq-eqb s t h, ne-eqb p q k, ne-eqb x y (λ same. k (back same .2)))
 
-pub kind-le : (w : Bool) → kindOf w ≤ 1
+pub kind-le : (w : Bool) → writeNumber w ≤ 1
 kind-le true = omega arith
 kind-le false = omega arith
 
-same-kind : (w v : Bool) → kindOf w ≡ kindOf v → w ≡ v
+same-kind : (w v : Bool) → writeNumber w ≡ writeNumber v → w ≡ v
 same-kind true true h = refl
 same-kind true false h = absurd (omega arith)
 same-kind false true h = absurd (omega arith)
@@ -51,9 +51,9 @@ pub key-level : (level a s : ℕ) (w : Bool) → a < 2 ^ 57 → s < 2 ^ 16 → 1
     → (keyNumber level a s w / 2 ^ 62 ≡ level) × (keyNumber level a s w < 2 ^ 64)
 unfolding keyNumber pageOf
 key-level zero a s w ha hs least most = absurd (omega arith)
-key-level (suc zero) a s w ha hs least most = level1 a s (kindOf w) ha hs (kind-le w)
-key-level (suc (suc zero)) a s w ha hs least most = level2 a s (kindOf w) ha hs (kind-le w)
-key-level (suc (suc (suc zero))) a s w ha hs least most = level3 a s (kindOf w) ha hs (kind-le w)
+key-level (suc zero) a s w ha hs least most = level1 a s (writeNumber w) ha hs (kind-le w)
+key-level (suc (suc zero)) a s w ha hs least most = level2 a s (writeNumber w) ha hs (kind-le w)
+key-level (suc (suc (suc zero))) a s w ha hs least most = level3 a s (writeNumber w) ha hs (kind-le w)
 key-level (suc (suc (suc (suc n)))) a s w ha hs least most = absurd (omega arith)
 
 -- a key of level 1 leaves room for two levels more
@@ -72,7 +72,7 @@ module _ (p q s t k j : ℕ) (sources : (s < 2 ^ 16) × (t < 2 ^ 16)) (kinds : (
   digits3 hp hq e = (omega arith, omega arith, omega arith)
 
 module _ (a b s t : ℕ) (w v : Bool) (addresses : (a < 2 ^ 57) × (b < 2 ^ 57)) (sources : (s < 2 ^ 16) × (t < 2 ^ 16)) where
-  kinds : (kindOf w ≤ 1) × (kindOf v ≤ 1)
+  kinds : (writeNumber w ≤ 1) × (writeNumber v ≤ 1)
   kinds = (kind-le w, kind-le v)
 
   pub key-same : (level : ℕ) → 1 ≤ level → level ≤ 3
@@ -80,28 +80,28 @@ module _ (a b s t : ℕ) (w v : Bool) (addresses : (a < 2 ^ 57) × (b < 2 ^ 57))
   unfolding keyNumber pageOf
   key-same zero least most = absurd (omega arith)
   key-same (suc zero) least most =
-      three (a / 2 ^ 12 * 2 ^ 0 + 2 ^ 45 * s + 2 ^ 61 * kindOf w + 2 ^ 62 * 1) (b / 2 ^ 12 * 2 ^ 0 + 2 ^ 45 * t + 2 ^ 61 * kindOf v + 2 ^ 62 * 1) s t (a / 2 ^ 12) (b / 2 ^ 12) w v (λ e f g. rw (e, f, g))
+      three (a / 2 ^ 12 * 2 ^ 0 + 2 ^ 45 * s + 2 ^ 61 * writeNumber w + 2 ^ 62 * 1) (b / 2 ^ 12 * 2 ^ 0 + 2 ^ 45 * t + 2 ^ 61 * writeNumber v + 2 ^ 62 * 1) s t (a / 2 ^ 12) (b / 2 ^ 12) w v (λ e f g. rw (e, f, g))
       (λ same.
       let le = kind-le w in
       let ge = kind-le v in
-      let d = digits1 (a / 2 ^ 12) (b / 2 ^ 12) s t (kindOf w) (kindOf v) sources kinds (omega arith) (omega arith) (omega arith) in (d .0, same-kind w v (d .1), d .2))
+      let d = digits1 (a / 2 ^ 12) (b / 2 ^ 12) s t (writeNumber w) (writeNumber v) sources kinds (omega arith) (omega arith) (omega arith) in (d .0, same-kind w v (d .1), d .2))
   key-same (suc (suc zero)) least most =
-      three (a / 2 ^ 21 * 2 ^ 9 + 2 ^ 45 * s + 2 ^ 61 * kindOf w + 2 ^ 62 * 2) (b / 2 ^ 21 * 2 ^ 9 + 2 ^ 45 * t + 2 ^ 61 * kindOf v + 2 ^ 62 * 2) s t (a / 2 ^ 21) (b / 2 ^ 21) w v (λ e f g. rw (e, f, g))
+      three (a / 2 ^ 21 * 2 ^ 9 + 2 ^ 45 * s + 2 ^ 61 * writeNumber w + 2 ^ 62 * 2) (b / 2 ^ 21 * 2 ^ 9 + 2 ^ 45 * t + 2 ^ 61 * writeNumber v + 2 ^ 62 * 2) s t (a / 2 ^ 21) (b / 2 ^ 21) w v (λ e f g. rw (e, f, g))
       (λ same.
       let le = kind-le w in
       let ge = kind-le v in
-      let d = digits2 (a / 2 ^ 21) (b / 2 ^ 21) s t (kindOf w) (kindOf v) sources kinds (omega arith) (omega arith) (omega arith) in (d .0, same-kind w v (d .1), d .2))
+      let d = digits2 (a / 2 ^ 21) (b / 2 ^ 21) s t (writeNumber w) (writeNumber v) sources kinds (omega arith) (omega arith) (omega arith) in (d .0, same-kind w v (d .1), d .2))
   key-same (suc (suc (suc zero))) least most =
-      three (a / 2 ^ 30 * 2 ^ 18 + 2 ^ 45 * s + 2 ^ 61 * kindOf w + 2 ^ 62 * 3) (b / 2 ^ 30 * 2 ^ 18 + 2 ^ 45 * t + 2 ^ 61 * kindOf v + 2 ^ 62 * 3) s t (a / 2 ^ 30) (b / 2 ^ 30) w v (λ e f g. rw (e, f, g))
+      three (a / 2 ^ 30 * 2 ^ 18 + 2 ^ 45 * s + 2 ^ 61 * writeNumber w + 2 ^ 62 * 3) (b / 2 ^ 30 * 2 ^ 18 + 2 ^ 45 * t + 2 ^ 61 * writeNumber v + 2 ^ 62 * 3) s t (a / 2 ^ 30) (b / 2 ^ 30) w v (λ e f g. rw (e, f, g))
       (λ same.
       let le = kind-le w in
       let ge = kind-le v in
-      let d = digits3 (a / 2 ^ 30) (b / 2 ^ 30) s t (kindOf w) (kindOf v) sources kinds (omega arith) (omega arith) (omega arith) in (d .0, same-kind w v (d .1), d .2))
+      let d = digits3 (a / 2 ^ 30) (b / 2 ^ 30) s t (writeNumber w) (writeNumber v) sources kinds (omega arith) (omega arith) (omega arith) in (d .0, same-kind w v (d .1), d .2))
   key-same (suc (suc (suc (suc n)))) least most = absurd (omega arith)
 
 -- as the code makes them
 module _ (a s : ℕ) (w : Bool) (address : a < 2 ^ 57) (source : s < 2 ^ 16) where
-  pub small-as : a / 4096 + 2 ^ 45 * s + 2 ^ 61 * kindOf w + 2 ^ 62 ≡ keyNumber 1 a s w
+  pub small-as : a / 4096 + 2 ^ 45 * s + 2 ^ 61 * writeNumber w + 2 ^ 62 ≡ keyNumber 1 a s w
   unfolding keyNumber pageOf
   small-as = omega arith
 

@@ -5,13 +5,13 @@ use Rattle.image.specs.Choice.{if_then_else_}
 use Rattle.dma.specs.declared.MemoryRequest.{MemoryRequest}
 use Rattle.cache.specs.Held.{Held, pageOf}
 
-abbrev pub kindOf : (write : Bool) → ℕ
-kindOf write = if write then 1 else 0
+abbrev pub writeNumber : (write : Bool) → ℕ
+writeNumber write = if write then 1 else 0
 
 -- bits 44:0 the first 4 KiB of the page, 60:45 the source, 61 the kind, 63:62 the level of the page's leaf
 unfoldable pub keyNumber : (level address source : ℕ) (write : Bool) → ℕ
 keyNumber level address source write =
-    pageOf level address * 2 ^ (9 * (level - 1)) + 2 ^ 45 * source + 2 ^ 61 * kindOf write + 2 ^ 62 * level
+    pageOf level address * 2 ^ (9 * (level - 1)) + 2 ^ 45 * source + 2 ^ 61 * writeNumber write + 2 ^ 62 * level
 
 -- of a held translation, and of what would be held for a request by a leaf of a level
 abbrev pub keyOf : Held → ℕ

@@ -41,8 +41,8 @@ abbrev pub heldAddress : (state : List ℕ) (age address : ℕ) → ℕ
 heldAddress state age address = pageAddress (keyIn state (placeOfAge state age)) (frameIn state (placeOfAge state age)) address
 
 -- a page that is granted is held
-abbrev pub kept : (state : List ℕ) (request : MemoryRequest) (translated : Translation) (domain : ℕ) → List ℕ
-kept state request translated domain =
+abbrev pub stateKept : (state : List ℕ) (request : MemoryRequest) (translated : Translation) (domain : ℕ) → List ℕ
+stateKept state request translated domain =
     onGrant translated state
     (λ frame level. if caches state request then holding state (keyFor request level) frame domain else state)
 
@@ -57,7 +57,7 @@ module _ (registers : Registers) (state : List ℕ) (request : MemoryRequest) wh
   stateAfter m =
       ifTaken (admitted registers request)
       (if ltb (newest state request) 64 then state
-      else kept state request (run (rulesOf registers request) m) (domainOver registers (request .source .id) m))
+      else stateKept state request (run (rulesOf registers request) m) (domainOver registers (request .source .id) m))
       state
 
   -- over lent memory: bad windows are refusal 1

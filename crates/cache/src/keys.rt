@@ -1,13 +1,13 @@
 // The keys by which translations are held.
 ghost use Prim.Native.Nat.{_-_, _+_, _*_, _%_, _^_, _<_, _≤_};
 ghost use mathlib.Core.Path.{_≡_};
-ghost use Rattle.cache.specs.Keys.{kindOf, keyFor};
+ghost use Rattle.cache.specs.Keys.{writeNumber, keyFor};
 use dma::MemoryRequest;
 use registers::Page4K;
 
 // Bit 61.
 fn kind(write: bool) -> u64
-    ensures { λ r. ⌜ r ≡ 2 ^ 61 * kindOf write ⌝ }
+    ensures { λ r. ⌜ r ≡ 2 ^ 61 * writeNumber write ⌝ }
 {
     if write { 0x2000_0000_0000_0000 } else { 0 }
 }

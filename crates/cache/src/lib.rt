@@ -10,7 +10,7 @@ ghost use Rattle.image.specs.Windows.{ofWindows};
 ghost use Rattle.dma.specs.Answers.{translationOf, Names, outcomeOf, entryOf};
 ghost use Rattle.dma.specs.Translation.{translationRules};
 ghost use Rattle.cache.specs.Engine.{domainOver};
-ghost use Rattle.cache.specs.Numbers.{kept, cachedAnswer, cachedPlace, cachedState, stateWithout};
+ghost use Rattle.cache.specs.Numbers.{stateKept, cachedAnswer, cachedPlace, cachedState, stateWithout};
 
 mod keys;
 mod state;
@@ -49,7 +49,7 @@ fn translate_and_keep(
     requires { ⌜ Opened first (now windows) (length (now image)) × (registers .«root_table» % 4096 ≡ 0) ⌝ }
     ensures { λ r. ⌜ translationOf r ≡ run (translationRules registers (request .address) (request .write) (request .source .id)) (ofWindows (now (windows .entry)) (now (image .entry))) ⌝ }
     ensures { λ r. ⌜ Names r (stoppedAt (translationRules registers (request .address) (request .write) (request .source .id)) (ofWindows (now (windows .entry)) (now (image .entry)))) ⌝ }
-    ensures { λ _. ⌜ now (state .exit) ≡ kept (now (state .entry)) request (run (translationRules registers (request .address) (request .write) (request .source .id)) (ofWindows (now (windows .entry)) (now (image .entry)))) (domainOver registers (request .source .id) (ofWindows (now (windows .entry)) (now (image .entry)))) ⌝ }
+    ensures { λ _. ⌜ now (state .exit) ≡ stateKept (now (state .entry)) request (run (translationRules registers (request .address) (request .write) (request .source .id)) (ofWindows (now (windows .entry)) (now (image .entry)))) (domainOver registers (request .source .id) (ofWindows (now (windows .entry)) (now (image .entry)))) ⌝ }
 {
     let found = find_context(first, windows, image, registers, request.source);
     let Lookup::Found(context, at) = found else {

@@ -5,7 +5,7 @@ ghost use lib.ListN.{length};
 ghost use Rattle.dma.specs.Answers.{translationOf};
 ghost use Rattle.dma.specs.Translation.{leaf, Reachable};
 ghost use Rattle.places.specs.Layout.{words};
-ghost use Rattle.cache.specs.Numbers.{caches, newest, pageAddress, heldAddress, kept};
+ghost use Rattle.cache.specs.Numbers.{caches, newest, pageAddress, heldAddress, stateKept};
 use crate::keys::key;
 use crate::keys::large_key;
 use crate::keys::medium_key;
@@ -64,7 +64,7 @@ pub(crate) fn held_address(state: &[u64], age: u64, address: u64) -> u64
 // Holds a page that the walk ended with, where it is granted.
 fn keep_page(state: &mut [u64], request: MemoryRequest, frame: u64, level: u32, domain: u16)
     requires { ⌜ Reachable (leaf frame level) ⌝ }
-    ensures { λ _. ⌜ now (state .exit) ≡ kept (now (state .entry)) request (leaf frame level) domain ⌝ }
+    ensures { λ _. ⌜ now (state .exit) ≡ stateKept (now (state .entry)) request (leaf frame level) domain ⌝ }
 {
     if meets_interrupt_range(level, frame) {
         return;
@@ -77,7 +77,7 @@ fn keep_page(state: &mut [u64], request: MemoryRequest, frame: u64, level: u32, 
 
 pub(crate) fn keep(state: &mut [u64], request: MemoryRequest, translated: Translation, domain: u16)
     requires { ⌜ Reachable (translationOf translated) ⌝ }
-    ensures { λ _. ⌜ now (state .exit) ≡ kept (now (state .entry)) request (translationOf translated) domain ⌝ }
+    ensures { λ _. ⌜ now (state .exit) ≡ stateKept (now (state .entry)) request (translationOf translated) domain ⌝ }
 {
     match translated {
         Translation::Leaf(frame, level) => keep_page(state, request, frame, level, domain),

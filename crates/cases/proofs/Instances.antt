@@ -62,8 +62,8 @@ use Rattle.cases.specs.Instances.{
   benchReadOnly,
   benchType1,
   translates,
-  remaps,
-  posts,
+  remappedRequest,
+  postedRequest,
   holed,
   holedWindows,
   cutBytes,
@@ -371,7 +371,7 @@ translation-requests =
     })
 
 -- interrupts
-interrupt-words : namedWords benchRegisters remaps (ofImage bench) ≡ 0x6020 ∷ 0x6028 ∷ []
+interrupt-words : namedWords benchRegisters remappedRequest (ofImage bench) ≡ 0x6020 ∷ 0x6028 ∷ []
 unfolding bench layout onward inWords bytesOf littleEndian bits wordAt ofImage entry named wordsFrom mapRules admission registersBad indexRules requestRules interruptRules reservedIrte irteCheck requestCheck sourceAllowed
 interrupt-words = refl
 
@@ -379,32 +379,32 @@ interrupt-alike : SameWords bench (take 0x6030 bench) (0x6020 ∷ 0x6028 ∷ [])
 unfolding endWithin
 interrupt-alike = part-words bench 0x6030 (rw bench-length (lit≤ tt)) (0x6020 ∷ 0x6028 ∷ []) refl
 
-interrupt-answered : AccessFault (interruptAnswerOver benchRegisters remaps (ofImage bench)) → ⊥
+interrupt-answered : AccessFault (interruptAnswerOver benchRegisters remappedRequest (ofImage bench)) → ⊥
 unfolding bench layout onward inWords bytesOf littleEndian bits wordAt ofImage entry run mapRules admission registersBad indexRules requestRules interruptRules reservedIrte irteCheck requestCheck sourceAllowed
 interrupt-answered fault = fault
 
-post-answered : interruptAnswerOver benchRegisters posts (ofImage (take 0x6440 bench)) ≡ posted 0x6400 0x31 (notification 0xF2 7)
+post-answered : interruptAnswerOver benchRegisters postedRequest (ofImage (take 0x6440 bench)) ≡ posted 0x6400 0x31 (notification 0xF2 7)
 unfolding bench layout onward inWords bytesOf littleEndian bits wordAt ofImage entry run mapRules admission registersBad descriptorRules indexRules requestRules interruptRules reservedIrte irteCheck requestCheck sourceAllowed descriptorCheck
 post-answered = refl
 
-post-alike : SameWords (take 0x6440 bench) bench (namedWords benchRegisters posts (ofImage (take 0x6440 bench)))
-post-alike = rw (take-append-drop 0x6440 bench) at (longer (take 0x6440 bench) (drop 0x6440 bench) (interruptRules benchRegisters posts))
+post-alike : SameWords (take 0x6440 bench) bench (namedWords benchRegisters postedRequest (ofImage (take 0x6440 bench)))
+post-alike = rw (take-append-drop 0x6440 bench) at (longer (take 0x6440 bench) (drop 0x6440 bench) (interruptRules benchRegisters postedRequest))
 
-interrupts : FlatRelated bench (take 0x6030 bench) (InterruptPremises benchRegisters remaps)
+interrupts : FlatRelated bench (take 0x6030 bench) (InterruptPremises benchRegisters remappedRequest)
 interrupts =
-    flat-related bench (take 0x6030 bench) (InterruptPremises benchRegisters remaps) bench-fits (part-fits 0x6030 bench bench-fits)
+    flat-related bench (take 0x6030 bench) (InterruptPremises benchRegisters remappedRequest) bench-fits (part-fits 0x6030 bench bench-fits)
     (λ good good′.
     record {
-      no-access-fault = λ fault. interrupt-answered (subst AccessFault (flat-images bench bench-fits .interrupts benchRegisters remaps) fault);
+      no-access-fault = λ fault. interrupt-answered (subst AccessFault (flat-images bench bench-fits .interrupts benchRegisters remappedRequest) fault);
       alike = rw (seen bench, interrupt-words) (same-words bench (take 0x6030 bench) good good′ _ interrupt-alike);
     })
 
-post-told : interruptAnswer benchRegisters posts (flat (length (take 0x6440 bench))) (take 0x6440 bench) ≡ posted 0x6400 0x31 (notification 0xF2 7)
-post-told = flat-images (take 0x6440 bench) (part-fits 0x6440 bench bench-fits) .interrupts benchRegisters posts ∙ post-answered
+post-told : interruptAnswer benchRegisters postedRequest (flat (length (take 0x6440 bench))) (take 0x6440 bench) ≡ posted 0x6400 0x31 (notification 0xF2 7)
+post-told = flat-images (take 0x6440 bench) (part-fits 0x6440 bench bench-fits) .interrupts benchRegisters postedRequest ∙ post-answered
 
-post : FlatRelated (take 0x6440 bench) bench (InterruptPremises benchRegisters posts)
+post : FlatRelated (take 0x6440 bench) bench (InterruptPremises benchRegisters postedRequest)
 post =
-    flat-related (take 0x6440 bench) bench (InterruptPremises benchRegisters posts) (part-fits 0x6440 bench bench-fits) bench-fits
+    flat-related (take 0x6440 bench) bench (InterruptPremises benchRegisters postedRequest) (part-fits 0x6440 bench bench-fits) bench-fits
     (λ good good′.
     record {
       no-access-fault = λ fault. subst AccessFault post-told fault;

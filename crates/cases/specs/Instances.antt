@@ -85,11 +85,11 @@ abbrev pub translates : TranslationRequest
 translates = record { source = record { id = 0x0310 }; address = 0x40201ABC }
 
 -- cases 10 and 12: an interrupt that is remapped, and one that is posted
-abbrev pub remaps : InterruptRequest
-remaps = interruptRequest 0x0310 0xFEE00050 0
+abbrev pub remappedRequest : InterruptRequest
+remappedRequest = interruptRequest 0x0310 0xFEE00050 0
 
-abbrev pub posts : InterruptRequest
-posts = interruptRequest 0x0310 0xFEE00090 0
+abbrev pub postedRequest : InterruptRequest
+postedRequest = interruptRequest 0x0310 0xFEE00090 0
 
 -- The bench image with a hole: 1000h to 400Fh and, first in the run, 5000h to 5FFFh; and cut otherwise, with 16 bytes from 5000h, last.
 unfoldable pub holed : List ℕ
@@ -122,9 +122,9 @@ pub record PremisesMet : Type 0 where
       ≡ translated 0x12345000 0x1000 (record { read = true; write = false })
   -- interrupts: the second image ends behind the entry; one that goes on behind the descriptor, with a notification among the answer's
   -- parts; and a post over two windows each, which lie the other way round in the second run
-  pub interrupts : FlatRelated bench (take 0x6030 bench) (InterruptPremises benchRegisters remaps)
-  pub post : FlatRelated (take 0x6440 bench) bench (InterruptPremises benchRegisters posts)
-  pub post-answer : interruptAnswer benchRegisters posts (flat (length (take 0x6440 bench))) (take 0x6440 bench)
+  pub interrupts : FlatRelated bench (take 0x6030 bench) (InterruptPremises benchRegisters remappedRequest)
+  pub post : FlatRelated (take 0x6440 bench) bench (InterruptPremises benchRegisters postedRequest)
+  pub post-answer : interruptAnswer benchRegisters postedRequest (flat (length (take 0x6440 bench))) (take 0x6440 bench)
       ≡ posted 0x6400 0x31 (notification 0xF2 7)
   pub post-windows : Related small.two small.postRun reorderedWindows reordered (InterruptPremises small.registers posts31)
   pub post-windows-answer : interruptAnswer small.registers posts31 small.two small.postRun ≡ posted 0x5000 0x31 (notification 0 0)

@@ -50,8 +50,8 @@ pub record TranslationRow : Type 0 where
   pub address : ℕ
   pub answer : Answered
 
-abbrev pub asks : (words : List (ℕ × ℕ)) (address : ℕ) → Answered → TranslationRow
-asks words address answer = record { te = true; words = words; address = address; answer = answer }
+abbrev pub asksOver : (words : List (ℕ × ℕ)) (address : ℕ) → Answered → TranslationRow
+asksOver words address answer = record { te = true; words = words; address = address; answer = answer }
 
 -- the context entry: type 1 translates for a device
 abbrev pub type1 : ℕ × ℕ
@@ -61,58 +61,58 @@ type1 = (0x2100, 0x3005)
 abbrev pub translationRows : List TranslationRow
 translationRows =
     -- the bench's addresses in a context of type 1: the empty answer is neither 05h, 06h nor, for a wide address, 04h
-    asks (type1 ∷ []) 0x40201ABC (page 0x12345000 0x1000 true false)
-    ∷ asks (type1 ∷ []) 0x40202000 empty
-    ∷ asks (type1 ∷ []) 0x40412345 (page 0x40600000 0x200000 true true)
-    ∷ asks (type1 ∷ []) 0x40600000 (fault 0x07 true 0x40600000 0xD000000700000310 0x9000)
-    ∷ asks (type1 ∷ []) 0x40800000 (fault 0x0C true 0x40800000 0xD000000C00000310 0x4020)
-    ∷ asks (type1 ∷ []) 0x40BFF000 (page 0x23456000 0x1000 true true)
-    ∷ asks (type1 ∷ []) 0x7FFFFFFFFF empty
-    ∷ asks (type1 ∷ []) 0x8000000000 empty
+    asksOver (type1 ∷ []) 0x40201ABC (page 0x12345000 0x1000 true false)
+    ∷ asksOver (type1 ∷ []) 0x40202000 empty
+    ∷ asksOver (type1 ∷ []) 0x40412345 (page 0x40600000 0x200000 true true)
+    ∷ asksOver (type1 ∷ []) 0x40600000 (fault 0x07 true 0x40600000 0xD000000700000310 0x9000)
+    ∷ asksOver (type1 ∷ []) 0x40800000 (fault 0x0C true 0x40800000 0xD000000C00000310 0x4020)
+    ∷ asksOver (type1 ∷ []) 0x40BFF000 (page 0x23456000 0x1000 true true)
+    ∷ asksOver (type1 ∷ []) 0x7FFFFFFFFF empty
+    ∷ asksOver (type1 ∷ []) 0x8000000000 empty
     -- a page of 1 GiB
-    ∷ asks (type1 ∷ (0x3010, 0x80000083) ∷ []) 0xBFFFFFFF (page 0x80000000 0x40000000 true true)
+    ∷ asksOver (type1 ∷ (0x3010, 0x80000083) ∷ []) 0xBFFFFFFF (page 0x80000000 0x40000000 true true)
     -- types 0 and 2, also with a wide address, and silenced by FPD; type 3, and an AW that isn't supported
-    ∷ asks [] 0x40201ABC (fault 0x0D true 0x40201000 0xD000000D00000310 0x2100)
-    ∷ asks ((0x2100, 0x3009) ∷ []) 0x40201ABC (fault 0x0D true 0x40201000 0xD000000D00000310 0x2100)
-    ∷ asks [] 0x8000000000 (fault 0x0D true 0x8000000000 0xD000000D00000310 0x2100)
-    ∷ asks ((0x2100, 0x3003) ∷ []) 0x40201ABC (fault 0x0D false 0x40201000 0xD000000D00000310 0x2100)
-    ∷ asks ((0x2100, 0x300D) ∷ []) 0x40201ABC (fault 0x03 true 0x40201000 0xD000000300000310 0x2100)
-    ∷ asks ((0x2108, 0x503) ∷ []) 0x40201ABC (fault 0x03 true 0x40201000 0xD000000300000310 0x2100)
+    ∷ asksOver [] 0x40201ABC (fault 0x0D true 0x40201000 0xD000000D00000310 0x2100)
+    ∷ asksOver ((0x2100, 0x3009) ∷ []) 0x40201ABC (fault 0x0D true 0x40201000 0xD000000D00000310 0x2100)
+    ∷ asksOver [] 0x8000000000 (fault 0x0D true 0x8000000000 0xD000000D00000310 0x2100)
+    ∷ asksOver ((0x2100, 0x3003) ∷ []) 0x40201ABC (fault 0x0D false 0x40201000 0xD000000D00000310 0x2100)
+    ∷ asksOver ((0x2100, 0x300D) ∷ []) 0x40201ABC (fault 0x03 true 0x40201000 0xD000000300000310 0x2100)
+    ∷ asksOver ((0x2108, 0x503) ∷ []) 0x40201ABC (fault 0x03 true 0x40201000 0xD000000300000310 0x2100)
     -- 07h silenced by FPD
-    ∷ asks ((0x2100, 0x3007) ∷ []) 0x40600000 (fault 0x07 false 0x40600000 0xD000000700000310 0x9000)
+    ∷ asksOver ((0x2100, 0x3007) ∷ []) 0x40600000 (fault 0x07 false 0x40600000 0xD000000700000310 0x9000)
     -- the right to write, then the right to read, lost at level 3, 2 and 1
-    ∷ asks (type1 ∷ (0x3008, 0x4001) ∷ []) 0x40BFF000 (page 0x23456000 0x1000 true false)
-    ∷ asks (type1 ∷ (0x4028, 0x7001) ∷ []) 0x40BFF000 (page 0x23456000 0x1000 true false)
-    ∷ asks (type1 ∷ (0x7FF8, 0x23456001) ∷ []) 0x40BFF000 (page 0x23456000 0x1000 true false)
-    ∷ asks (type1 ∷ (0x3008, 0x4002) ∷ []) 0x40BFF000 (page 0x23456000 0x1000 false true)
-    ∷ asks (type1 ∷ (0x4028, 0x7002) ∷ []) 0x40BFF000 (page 0x23456000 0x1000 false true)
-    ∷ asks (type1 ∷ (0x7FF8, 0x23456002) ∷ []) 0x40BFF000 (page 0x23456000 0x1000 false true)
+    ∷ asksOver (type1 ∷ (0x3008, 0x4001) ∷ []) 0x40BFF000 (page 0x23456000 0x1000 true false)
+    ∷ asksOver (type1 ∷ (0x4028, 0x7001) ∷ []) 0x40BFF000 (page 0x23456000 0x1000 true false)
+    ∷ asksOver (type1 ∷ (0x7FF8, 0x23456001) ∷ []) 0x40BFF000 (page 0x23456000 0x1000 true false)
+    ∷ asksOver (type1 ∷ (0x3008, 0x4002) ∷ []) 0x40BFF000 (page 0x23456000 0x1000 false true)
+    ∷ asksOver (type1 ∷ (0x4028, 0x7002) ∷ []) 0x40BFF000 (page 0x23456000 0x1000 false true)
+    ∷ asksOver (type1 ∷ (0x7FF8, 0x23456002) ∷ []) 0x40BFF000 (page 0x23456000 0x1000 false true)
     -- one at one level, the other at another
-    ∷ asks (type1 ∷ (0x3008, 0x4001) ∷ (0x7FF8, 0x23456002) ∷ []) 0x40BFF000 empty
+    ∷ asksOver (type1 ∷ (0x3008, 0x4001) ∷ (0x7FF8, 0x23456002) ∷ []) 0x40BFF000 empty
     -- no right is left above a table that lies outside: not 07h. One is left: 07h
-    ∷ asks (type1 ∷ (0x3008, 0x4001) ∷ (0x4018, 0x9002) ∷ []) 0x40600000 empty
-    ∷ asks (type1 ∷ (0x3008, 0x4001) ∷ []) 0x40600000 (fault 0x07 true 0x40600000 0xD000000700000310 0x9000)
+    ∷ asksOver (type1 ∷ (0x3008, 0x4001) ∷ (0x4018, 0x9002) ∷ []) 0x40600000 empty
+    ∷ asksOver (type1 ∷ (0x3008, 0x4001) ∷ []) 0x40600000 (fault 0x07 true 0x40600000 0xD000000700000310 0x9000)
     -- reserved bits are checked where a right is lost, and before the last one is; not where bits 1:0 are clear
-    ∷ asks (type1 ∷ (0x3008, 0x4001) ∷ []) 0x40800000 (fault 0x0C true 0x40800000 0xD000000C00000310 0x4020)
-    ∷ asks (type1 ∷ (0x3008, 0x4001) ∷ (0x4020, 0x8000000002) ∷ []) 0x40800000 (fault 0x0C true 0x40800000 0xD000000C00000310 0x4020)
-    ∷ asks (type1 ∷ (0x4020, 0x8000000000) ∷ []) 0x40800000 empty
+    ∷ asksOver (type1 ∷ (0x3008, 0x4001) ∷ []) 0x40800000 (fault 0x0C true 0x40800000 0xD000000C00000310 0x4020)
+    ∷ asksOver (type1 ∷ (0x3008, 0x4001) ∷ (0x4020, 0x8000000002) ∷ []) 0x40800000 (fault 0x0C true 0x40800000 0xD000000C00000310 0x4020)
+    ∷ asksOver (type1 ∷ (0x4020, 0x8000000000) ∷ []) 0x40800000 empty
     -- a frame at FEE00000h, with a right and without one; an address there; TE off
-    ∷ asks (type1 ∷ (0x5008, 0xFEE00001) ∷ []) 0x40201ABC (refusal 4)
-    ∷ asks (type1 ∷ (0x3008, 0x4002) ∷ (0x5008, 0xFEE00001) ∷ []) 0x40201ABC empty
-    ∷ asks (type1 ∷ []) 0xFEE00000 (refusal 2)
+    ∷ asksOver (type1 ∷ (0x5008, 0xFEE00001) ∷ []) 0x40201ABC (refusal 4)
+    ∷ asksOver (type1 ∷ (0x3008, 0x4002) ∷ (0x5008, 0xFEE00001) ∷ []) 0x40201ABC empty
+    ∷ asksOver (type1 ∷ []) 0xFEE00000 (refusal 2)
     ∷ record { te = false; words = []; address = 0x40201ABC; answer = pass 0x40201ABC }
     ∷ []
 
-abbrev pub requestOf : (address : ℕ) → TranslationRequest
-requestOf address = record { source = record { id = 0x0310 }; address = address }
+abbrev pub translationOf : (address : ℕ) → TranslationRequest
+translationOf address = record { source = record { id = 0x0310 }; address = address }
 
 -- what the rules answer to each row, and what each row says
 unfoldable pub answersTo : List TranslationRow → List Answered
 answersTo [] = []
 answersTo (r ∷ rs) =
     record {
-      outcome = answerOver (benchWith (r .te)) (requestOf (r .address)) (byWords (r .words ++ benchWords));
-      place = translationPlace (benchWith (r .te)) (requestOf (r .address)) (byWords (r .words ++ benchWords));
+      outcome = answerOver (benchWith (r .te)) (translationOf (r .address)) (byWords (r .words ++ benchWords));
+      place = translationPlace (benchWith (r .te)) (translationOf (r .address)) (byWords (r .words ++ benchWords));
     }
     ∷ answersTo rs
 

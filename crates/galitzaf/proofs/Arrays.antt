@@ -15,7 +15,7 @@ use Rattle.meter.proofs.Rows as rows
 use Rattle.meter.proofs.Rows.{fit, allFit, steps, marks, steps-length, steps-next, marks-next, allFit-next, fits-all, steps-all, marks-all, both-true, even}
 use Rattle.packing.specs.Status.{ok, badMeters, metersRefused}
 use Rattle.meter.specs.declared.Gate.the-variants.{Off}
-use Rattle.galitzaf.specs.Meters.{meterOf, rowOf, loadsOf, malformed, told, tickMetersCall}
+use Rattle.galitzaf.specs.Meters.{meterOf, rowOf, loadsOf, malformedMeters, tickStatus, tickMetersCall}
 
 -- one place for each meter in every array
 pub record Matched (ks : List ℕ) (ls hs xs : List Float) (cs bs : List ℕ) : Type 0 where
@@ -195,25 +195,25 @@ module _ (ks : List ℕ) (ls hs xs : List Float) (cs bs : List ℕ) where
   lists : (g : Bool) → (eqb (length cs) (length xs) && eqb (length bs) (length xs)) ≡ g → even row cs bs ≡ g
   lists g e = ap (λ (n : ℕ). eqb (length cs) n && eqb (length bs) n) (row-length ks ls hs xs) ∙ e
 
-  called : {o : Bool × List Meter × List ℕ} → malformed ks ls hs xs ≡ false → o ≡ tickRow row cs bs → told o ≡ tickMetersCall ks ls hs xs cs bs
-  called good is = ap told is ∙ sym (ap (λ (t : Bool). cond {A = ℕ × List Float × List ℕ} t (badMeters, xs, bs) (told (tickRow row cs bs))) good)
+  called : {o : Bool × List Meter × List ℕ} → malformedMeters ks ls hs xs ≡ false → o ≡ tickRow row cs bs → tickStatus o ≡ tickMetersCall ks ls hs xs cs bs
+  called good is = ap tickStatus is ∙ sym (ap (λ (t : Bool). cond {A = ℕ × List Float × List ℕ} t (badMeters, xs, bs) (tickStatus (tickRow row cs bs))) good)
 
-  left : kept ≡ told (false, row, bs)
+  left : kept ≡ tickStatus (false, row, bs)
   left = ap (λ (ys : List Float). told-as ys) (sym (row-loads ks ls hs xs))
     where
       told-as : List Float → ℕ × List Float × List ℕ
       told-as ys = (metersRefused, ys, bs)
 
-  pub bad-row : malformed ks ls hs xs ≡ true → _≡_ {A = ℕ × List Float × List ℕ} (badMeters, xs, bs) (tickMetersCall ks ls hs xs cs bs)
-  bad-row bad = sym (ap (λ (t : Bool). cond {A = ℕ × List Float × List ℕ} t (badMeters, xs, bs) (told (tickRow row cs bs))) bad)
+  pub bad-row : malformedMeters ks ls hs xs ≡ true → _≡_ {A = ℕ × List Float × List ℕ} (badMeters, xs, bs) (tickMetersCall ks ls hs xs cs bs)
+  bad-row bad = sym (ap (λ (t : Bool). cond {A = ℕ × List Float × List ℕ} t (badMeters, xs, bs) (tickStatus (tickRow row cs bs))) bad)
 
-  pub uneven : malformed ks ls hs xs ≡ false → (eqb (length cs) (length xs) && eqb (length bs) (length xs)) ≡ false → kept ≡ tickMetersCall ks ls hs xs cs bs
+  pub uneven : malformedMeters ks ls hs xs ≡ false → (eqb (length cs) (length xs) && eqb (length bs) (length xs)) ≡ false → kept ≡ tickMetersCall ks ls hs xs cs bs
   uneven good e = left ∙ called good (rows.uneven row cs bs (lists false e))
 
-  pub unfit : malformed ks ls hs xs ≡ false → (eqb (length cs) (length xs) && eqb (length bs) (length xs)) ≡ true → not (some badCount cs || some badMeter row) ≡ false → kept ≡ tickMetersCall ks ls hs xs cs bs
+  pub unfit : malformedMeters ks ls hs xs ≡ false → (eqb (length cs) (length xs) && eqb (length bs) (length xs)) ≡ true → not (some badCount cs || some badMeter row) ≡ false → kept ≡ tickMetersCall ks ls hs xs cs bs
   unfit good e f = left ∙ called good (rows.one-bad row cs bs (lists true e) f)
 
-  pub all-ticked : malformed ks ls hs xs ≡ false → (eqb (length cs) (length xs) && eqb (length bs) (length xs)) ≡ true → not (some badCount cs || some badMeter row) ≡ true
+  pub all-ticked : malformedMeters ks ls hs xs ≡ false → (eqb (length cs) (length xs) && eqb (length bs) (length xs)) ≡ true → not (some badCount cs || some badMeter row) ≡ true
       → {ys : List Float} {zs : List ℕ} → ys ≡ loadsOf (tickedAll row cs) → zs ≡ map meterByte (tickedAll row cs) → _≡_ {A = ℕ × List Float × List ℕ} (ok, ys, zs) (tickMetersCall ks ls hs xs cs bs)
   all-ticked good e f {ys} {zs} g h = ap₂ (λ (us : List Float) (vs : List ℕ). answer us vs) g h ∙ called good (rows.all-good row cs bs (lists true e) f)
     where
@@ -239,7 +239,7 @@ module _ (ks : List ℕ) (ls hs xs : List Float) (cs bs : List ℕ) where
   none-of true t e = refl
   none-of false t e = unlike e
 
-  pub matched : malformed ks ls hs xs ≡ false → (eqb (length cs) (length xs) && eqb (length bs) (length xs)) ≡ true → Matched ks ls hs xs cs bs
+  pub matched : malformedMeters ks ls hs xs ≡ false → (eqb (length cs) (length xs) && eqb (length bs) (length xs)) ≡ true → Matched ks ls hs xs cs bs
   matched good e =
       let all = none-of (eqb (length ks) (length xs) && eqb (length ls) (length xs) && eqb (length hs) (length xs)) _ good in
       let three = both-true (eqb (length ks) (length xs) && eqb (length ls) (length xs)) (eqb (length hs) (length xs)) all in

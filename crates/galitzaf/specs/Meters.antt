@@ -28,18 +28,18 @@ abbrev pub loadsOf : List Meter → List Float
 loadsOf row = map (λ (meter : Meter). meter .load) row
 
 -- kinds, lows and highs not one per load, or a kind that is none of the three
-abbrev pub malformed : List ℕ → List Float → List Float → List Float → Bool
-malformed kinds lows highs loads =
+abbrev pub malformedMeters : List ℕ → List Float → List Float → List Float → Bool
+malformedMeters kinds lows highs loads =
     not (eqb (length kinds) (length loads) && eqb (length lows) (length loads) && eqb (length highs) (length loads))
     || some (λ kind. ltb 2 kind) kinds
 
 -- the status, the loads and the bytes
-abbrev pub told : Bool × List Meter × List ℕ → ℕ × List Float × List ℕ
-told outcome = (cond (outcome .0) ok metersRefused, loadsOf (outcome .1), outcome .2)
+abbrev pub tickStatus : Bool × List Meter × List ℕ → ℕ × List Float × List ℕ
+tickStatus outcome = (cond (outcome .0) ok metersRefused, loadsOf (outcome .1), outcome .2)
 
 abbrev pub tickMetersCall : List ℕ → List Float → List Float → List Float → List ℕ → List ℕ → ℕ × List Float × List ℕ
 tickMetersCall kinds lows highs loads counts bytes =
-    cond (malformed kinds lows highs loads) (badMeters, loads, bytes) (told (tickRow (rowOf kinds lows highs loads) counts bytes))
+    cond (malformedMeters kinds lows highs loads) (badMeters, loads, bytes) (tickStatus (tickRow (rowOf kinds lows highs loads) counts bytes))
 
 abbrev pub resetMetersCall : List Float → ℕ × List Float
 resetMetersCall loads = (ok, map (λ _. nought) loads)

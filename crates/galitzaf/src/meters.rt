@@ -4,7 +4,7 @@ ghost use mathlib.Core.Bool.{not, _||_};
 ghost use lib.Dec.{ltb};
 ghost use lib.ListN.{length};
 ghost use Rattle.meter.specs.Refused.{some, badCount, badMeter};
-ghost use Rattle.galitzaf.specs.Meters.{gateOf, meterOf, rowOf, malformed, tickMetersCall, resetMetersCall};
+ghost use Rattle.galitzaf.specs.Meters.{gateOf, meterOf, rowOf, malformedMeters, tickMetersCall, resetMetersCall};
 use meter::Gate;
 use meter::Meter;
 use meter::byte;
@@ -47,7 +47,7 @@ fn unknown_kind(kinds: &[u8]) -> bool
 }
 
 fn malformed_row(kinds: &[u8], lows: &[f64], highs: &[f64], loads: &[f64]) -> bool
-    ensures { λ r. ⌜ r ≡ malformed (now (kinds .entry)) (now (lows .entry)) (now (highs .entry)) (now (loads .entry)) ⌝ }
+    ensures { λ r. ⌜ r ≡ malformedMeters (now (kinds .entry)) (now (lows .entry)) (now (highs .entry)) (now (loads .entry)) ⌝ }
 {
     let meters = loads.len();
     !((kinds.len() == meters) & (lows.len() == meters) & (highs.len() == meters))

@@ -5,7 +5,7 @@ ghost use Prim.Native.Nat.{_<_};
 ghost use lib.ListN.{length};
 ghost use Rattle.builder.specs.Answers.{builtOf};
 ghost use Rattle.builder.specs.Build.{lent};
-ghost use Rattle.galitzaf_builder.specs.Calls.{told, buildCall};
+ghost use Rattle.galitzaf_builder.specs.Calls.{buildStatus, buildCall};
 use builder::BuildAnswer;
 use builder::build;
 use packing::BAD_REGISTERS;
@@ -27,7 +27,7 @@ const BAD_ITEMS: u32 = 0x109;
 // The status; the index of an item that is refused is put into the lent number.
 fn tell(answer: BuildAnswer, item: &mut [u64]) -> u32
     requires { ⌜ 0 < length (now item) ⌝ }
-    ensures { λ r. ⌜ (r, now (item .exit)) ≡ told (builtOf answer) (now (item .entry)) ⌝ }
+    ensures { λ r. ⌜ (r, now (item .exit)) ≡ buildStatus (builtOf answer) (now (item .entry)) ⌝ }
 {
     match answer {
         BuildAnswer::Done => OK,

@@ -35,8 +35,8 @@ unpackedScalable registers capabilities =
     }
 
 -- kind: bit 0 for a write, bit 1 where the request has a PASID
-unfoldable pub requestOf : (source address kind pasid : ℕ) → ScalableRequest
-requestOf source address kind pasid =
+unfoldable pub scalableRequestOf : (source address kind pasid : ℕ) → ScalableRequest
+scalableRequestOf source address kind pasid =
     record {
       source = record { id = source };
       address = address;
@@ -56,8 +56,8 @@ scalableCall registers capabilities windows image source address kind pasid answ
     else if ltb 3 kind then (badKind, image, answer)
     else (
       ok,
-      scalableWritten (unpackedScalable registers capabilities) (requestOf source address kind pasid) windows image,
+      scalableWritten (unpackedScalable registers capabilities) (scalableRequestOf source address kind pasid) windows image,
       memoryBytes
-          (scalableAnswer (unpackedScalable registers capabilities) (requestOf source address kind pasid) windows image)
-          (scalableAnswerPlace (unpackedScalable registers capabilities) (requestOf source address kind pasid) windows image),
+          (scalableAnswer (unpackedScalable registers capabilities) (scalableRequestOf source address kind pasid) windows image)
+          (scalableAnswerPlace (unpackedScalable registers capabilities) (scalableRequestOf source address kind pasid) windows image),
     )

@@ -4,7 +4,7 @@ ghost use mathlib.Core.Path.{_≡_};
 ghost use Rattle.packing.specs.Answer.{bytesOfPacked, memoryBytes};
 ghost use Rattle.packing.specs.Registers.{malformedRegisters};
 ghost use Rattle.scalable.specs.Answers.{outcomeOf, entryOf};
-ghost use Rattle.galitzaf_scalable.specs.Scalable.{unpackedScalable, requestOf, scalableCall};
+ghost use Rattle.galitzaf_scalable.specs.Scalable.{unpackedScalable, scalableRequestOf, scalableCall};
 use faults::FaultRecord;
 use image::bit;
 use packing::BAD_ANSWER;
@@ -47,7 +47,7 @@ fn unpack_scalable(registers: &[u8], capabilities: u32) -> ScalableRegisters
 }
 
 fn request_of(source: u16, address: u64, kind: u8, pasid: u32) -> ScalableRequest
-    ensures { λ r. ⌜ r ≡ requestOf source address kind pasid ⌝ }
+    ensures { λ r. ⌜ r ≡ scalableRequestOf source address kind pasid ⌝ }
 {
     let what = kind as u64;
     ScalableRequest {

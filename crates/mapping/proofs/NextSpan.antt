@@ -9,7 +9,7 @@ use native.Mathlib.Omega.{arith}
 use lib.Pow.{split, high, pow-pos, pow-add}
 use Rattle.dma.specs.InterruptRange.{spanAt}
 use Rattle.translation.specs.declared.Rights.{Rights}
-use Rattle.regions.specs.Region.{Region, nothing, listed}
+use Rattle.regions.specs.Region.{Region, nothing, isListed}
 use Rattle.mapping.specs.Search.{Fresh, Tells, FirstSpan}
 use Rattle.mapping.specs.Spans.{spansFrom, spansAfter}
 use Rattle.mapping.proofs.SpanLaws.{QuietFrom, quiet-none, skipped, fresh-quiet, fresh-after, next-page, listed-next}
@@ -48,12 +48,12 @@ module _ (region : (address : ℕ) → Region) (end : ℕ)
       skipped region end from at page page′ order (quiet-none region end from at quiet) ∙ ap (λ (n : ℕ). spansFrom region end n at) over
 
   -- a block more
-  pub quiet-on : (from at behind : ℕ) (r : Region) → Tells region at r → listed (r .what) ≡ false
+  pub quiet-on : (from at behind : ℕ) (r : Region) → Tells region at r → isListed (r .what) ≡ false
       → behind ≡ at - at % spanAt (r .level) + spanAt (r .level)
       → QuietFrom region end from at → QuietFrom region end from behind
   quiet-on from at behind r tells off is quiet x low top = by (decLe at x)
     where
-      by : Dec (at ≤ x) → listed (region x .what) ≡ false
+      by : Dec (at ≤ x) → isListed (region x .what) ≡ false
       by (yes in-it) = tells .nothing off x (block-same (12 + 9 * (r .level - 1)) at is x in-it top)
       by (no before) = quiet x low (omega arith)
 
@@ -64,11 +64,11 @@ module _ (region : (address : ℕ) → Region) (end : ℕ)
 
   -- something is listed here
   pub found : (from at : ℕ) (r : Region) → from % 4096 ≡ 0 → at % 4096 ≡ 0 → end % 4096 ≡ 0 → from ≤ at → at < end
-      → QuietFrom region end from at → Fresh region at → Tells region at r → listed (r .what) ≡ true
+      → QuietFrom region end from at → Fresh region at → Tells region at r → isListed (r .what) ≡ true
       → FirstSpan region end from at r
   found from at r page page′ whole order below quiet fresh tells on =
       let is = tells .something on in
-      let on′ : listed (region at .what) ≡ true = subst (λ (s : Region). listed (s .what) ≡ true) is on in
+      let on′ : isListed (region at .what) ≡ true = subst (λ (s : Region). isListed (s .what) ≡ true) is on in
       let begins = fresh on′ in
       subst (FirstSpan region end from at) (sym is)
       record {
@@ -89,12 +89,12 @@ module _ (region : (address : ℕ) → Region) (end : ℕ)
       record {
         high = (lies .0, omega (arith, lies .1));
         something = λ on. refl;
-        nothing = λ off x near. ap (λ (s : Region). listed (s .what)) (same address x near) ∙ off;
+        nothing = λ off x near. ap (λ (s : Region). isListed (s .what)) (same address x near) ∙ off;
       }
 
   -- all of a table's span
   pub tells-known : (address level : ℕ) (rights : Rights) → 0 < level → level ≤ 5
-      → ((x : ℕ) → address / 2 ^ (12 + 9 * level) ≡ x / 2 ^ (12 + 9 * level) → listed (region x .what) ≡ false)
+      → ((x : ℕ) → address / 2 ^ (12 + 9 * level) ≡ x / 2 ^ (12 + 9 * level) → isListed (region x .what) ≡ false)
       → Tells region address (record { level = level + 1; what = nothing; rights = rights })
   tells-known address level rights some few quiet =
       let one : level + 1 - 1 ≡ level = omega arith in

@@ -17,7 +17,7 @@ use Rattle.dma.specs.declared.context.Context.{Context}
 use Rattle.dma.proofs.Lookups.{looked-up}
 use Rattle.regions.specs.Outside.{tableOutside}
 use Rattle.mapping.specs.Filled.{FilledWith}
-use Rattle.mapping.specs.Mapping.{Mapped, refused, passed, faulted, mapped, spans, inContext, sourceRules, mappingRules, mappingAnswer}
+use Rattle.mapping.specs.Mapping.{Mapped, refused, passed, faulted, spansMapped, spans, inContext, sourceRules, mappingRules, mappingAnswer}
 use Rattle.mapping.specs.Rows.{rowsOf}
 use Rattle.mapping.specs.Spans.{Span}
 use Rattle.mapping.specs.Told.{ListedAs}
@@ -43,14 +43,14 @@ unfolding rowsOf
 told-faulted reason rows = (refl, refl)
 
 pub told-spans : (l : List Span) (before after : List ℕ) (count : ℕ) (more : Bool) → FilledWith l before after count more
-    → ListedAs (mapped l) before after (told.listed count more)
+    → ListedAs (spansMapped l) before after (told.listed count more)
 told-spans l before after count more f = (rw (f .counted, f .told), f .written)
 
 module _ (registers : Registers) (m : Memory) (outside : (table : ℕ) → Bool) where
   pub passes-through : (c : Context) → c .«translation_type» ≡ 2 → inContext registers m outside c ≡ passed
   passes-through c is = rw is
 
-  pub translates : (c : Context) → eqb (c .«translation_type») 2 ≡ false → inContext registers m outside c ≡ mapped (spans registers m outside c)
+  pub translates : (c : Context) → eqb (c .«translation_type») 2 ≡ false → inContext registers m outside c ≡ spansMapped (spans registers m outside c)
   translates c is = rw is
 
   -- by the lookup

@@ -11,7 +11,7 @@ use lib.Dec.{eqb}
 use lib.Pow.{split, high, low, pow-pos, pow-add}
 use Rattle.image.specs.Choice.{if_then_else_}
 use Rattle.dma.specs.InterruptRange.{spanAt}
-use Rattle.regions.specs.Region.{Region, listed}
+use Rattle.regions.specs.Region.{Region, isListed}
 use Rattle.mapping.specs.Search.{Fresh}
 use Rattle.mapping.specs.Spans.{Span, spanOf, begins, spanHere, spansFrom, spansAfter}
 
@@ -85,7 +85,7 @@ module _ (region : (address : ℕ) → Region) (end : ℕ) where
 
   -- something is listed at an address, or not
   abbrev pub Quiet : (address : ℕ) → Type 0
-  Quiet address = listed (region address .what) ≡ false
+  Quiet address = isListed (region address .what) ≡ false
 
   abbrev pub QuietFrom : (from to : ℕ) → Type 0
   QuietFrom from to = (x : ℕ) → from ≤ x → x < to → Quiet x
@@ -109,7 +109,7 @@ module _ (region : (address : ℕ) → Region) (end : ℕ) where
         by (no is) = omega arith
         by (yes off) =
             let alike = same (suc x) x (block-before (12 + 9 * (region (suc x) .level - 1)) x (λ e. omega (arith, e))) in
-            let z : _≡_ {A = Bool} true false = sym on ∙ ap (λ (r : Region). listed (r .what)) (sym alike) ∙ quiet in
+            let z : _≡_ {A = Bool} true false = sym on ∙ ap (λ (r : Region). isListed (r .what)) (sym alike) ∙ quiet in
             let z2 : _≡_ {A = ℕ} 0 1 = cc in
             absurd (omega arith)
 
@@ -152,7 +152,7 @@ module _ (region : (address : ℕ) → Region) (end : ℕ) where
           omega arith
 
       -- the span that begins here, then those from its end on
-      pub listed-next : at < end → end % 4096 ≡ 0 → listed (region at .what) ≡ true
+      pub listed-next : at < end → end % 4096 ≡ 0 → isListed (region at .what) ≡ true
           → spansAfter region end at ≡ spanOf end at (region at) ∷ spansAfter region end next
       unfolding spansFrom
       listed-next below whole on =
@@ -174,7 +174,7 @@ module _ (region : (address : ℕ) → Region) (end : ℕ) where
               let off : x % 2 ^ width ≡ x - at = offset-in width at x aligned (omega arith) high in
               let isnt : x % spanAt (region x .level) ≡ 0 → ⊥ =
               λ e. omega (arith, low, off, subst (λ (r : Region). x % spanAt (r .level) ≡ 0) alike e) in
-              rw (ne-eqb (x % spanAt (region x .level)) 0 isnt) (no-list (listed (region x .what)))
+              rw (ne-eqb (x % spanAt (region x .level)) 0 isnt) (no-list (isListed (region x .what)))
             where
               no-list : (b : Bool) → (if b && false then spanOf end x (region x) ∷ [] else []) ≡ []
               no-list true = refl

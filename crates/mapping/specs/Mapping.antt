@@ -22,7 +22,7 @@ pub data Mapped : Type 0 where
   refused : (number : ℕ) → Mapped
   passed : Mapped
   faulted : (reason : ℕ) → Mapped
-  mapped : List Span → Mapped
+  spansMapped : List Span → Mapped
 
 module _ (registers : Registers) (m : Memory) (outside : (table : ℕ) → Bool) where
   module _ (context : Context) where
@@ -37,7 +37,7 @@ module _ (registers : Registers) (m : Memory) (outside : (table : ℕ) → Bool)
     spans = spansAfter regionAt spaceEnd 0
 
     abbrev pub inContext : Mapped
-    inContext = if eqb (context .«translation_type») 2 then passed else mapped spans
+    inContext = if eqb (context .«translation_type») 2 then passed else spansMapped spans
 
   -- root and context entry, then a context that passes through
   abbrev pub sourceRules : (source : ℕ) → Rules Mapped

@@ -4,18 +4,18 @@ use mathlib.Core.Bool.{true, false}
 use mathlib.Core.List.{[], _∷_}
 use mathlib.Core.Path.{_≡_}
 use Rattle.dma.specs.InterruptRange.{spanAt}
-use Rattle.regions.specs.Region.{Region, listed}
+use Rattle.regions.specs.Region.{Region, isListed}
 use Rattle.mapping.specs.Spans.{spanOf, spansAfter}
 
 -- a region begins at an address, if something is listed there
 abbrev pub Fresh : (region : (address : ℕ) → Region) (address : ℕ) → Type 0
-Fresh region address = listed (region address .what) ≡ true → address % spanAt (region address .level) ≡ 0
+Fresh region address = isListed (region address .what) ≡ true → address % spanAt (region address .level) ≡ 0
 
 -- the region of an address; or, where nothing is listed, perhaps a wider one of which that is true too
 pub record Tells (region : (address : ℕ) → Region) (address : ℕ) (r : Region) : Type 0 where
   pub high : (0 < r .level) × (r .level ≤ 6)
-  pub something : listed (r .what) ≡ true → r ≡ region address
-  pub nothing : listed (r .what) ≡ false → (x : ℕ) → address / spanAt (r .level) ≡ x / spanAt (r .level) → listed (region x .what) ≡ false
+  pub something : isListed (r .what) ≡ true → r ≡ region address
+  pub nothing : isListed (r .what) ≡ false → (x : ℕ) → address / spanAt (r .level) ≡ x / spanAt (r .level) → isListed (region x .what) ≡ false
 
 -- none is left, or there is one, with its start
 pub data Next : Type 0 where

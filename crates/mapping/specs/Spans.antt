@@ -6,7 +6,7 @@ use lib.Dec.{eqb}
 use Rattle.image.specs.Choice.{if_then_else_}
 use Rattle.dma.specs.InterruptRange.{spanAt}
 use Rattle.translation.specs.declared.Rights.{Rights}
-use Rattle.regions.specs.Region.{What, Region, listed}
+use Rattle.regions.specs.Region.{What, Region, isListed}
 
 pub record Span : Type 0 where
   pub start : ℕ
@@ -26,7 +26,7 @@ module _ (region : (address : ℕ) → Region) (end : ℕ) where
   -- the span that begins at an address, if one does and something is listed there
   abbrev pub spanHere : (address : ℕ) → List Span
   spanHere address =
-      if listed (region address .what) && begins address then spanOf end address (region address) ∷ [] else []
+      if isListed (region address .what) && begins address then spanOf end address (region address) ∷ [] else []
 
   -- those of so many places, 4 KiB apart, from an address on
   unfoldable pub spansFrom : (places from : ℕ) → List Span

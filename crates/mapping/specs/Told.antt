@@ -5,7 +5,7 @@ use mathlib.Core.List.{List, []}
 use mathlib.Core.Path.{_≡_}
 use lib.Dec.{ltb}
 use lib.ListN.{length, take}
-use Rattle.mapping.specs.Mapping.{Mapped, mapped}
+use Rattle.mapping.specs.Mapping.{Mapped, spansMapped}
 use Rattle.mapping.specs.Mapping as mapping
 use Rattle.mapping.specs.Rows.{rowsOf, laidOver}
 use Rattle.mapping.specs.Spans.{Span}
@@ -16,7 +16,7 @@ room numbers = min 4096 (numbers / 4)
 
 -- the spans that are listed
 abbrev pub shown : (most : ℕ) → Mapped → List Span
-shown most (mapped spans) = take most spans
+shown most (spansMapped spans) = take most spans
 shown most (mapping.refused number) = []
 shown most mapping.passed = []
 shown most (mapping.faulted reason) = []
@@ -29,7 +29,7 @@ pub data Told : Type 0 where
   listed : (count : ℕ) (more : Bool) → Told
 
 abbrev pub toldOf : (most : ℕ) → Mapped → Told
-toldOf most (mapped spans) = listed (min most (length spans)) (ltb most (length spans))
+toldOf most (spansMapped spans) = listed (min most (length spans)) (ltb most (length spans))
 toldOf most (mapping.refused number) = refused number
 toldOf most mapping.passed = passed
 toldOf most (mapping.faulted reason) = faulted reason

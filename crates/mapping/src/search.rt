@@ -8,7 +8,7 @@ ghost use Rattle.dma.specs.InterruptRange.{spanAt};
 ghost use Rattle.regions.specs.Answers.{whatOf, regionOf, Walkable};
 ghost use Rattle.regions.specs.Known.{Sound};
 ghost use Rattle.regions.specs.Outside.{tableOutside};
-ghost use Rattle.regions.specs.Region.{listed};
+ghost use Rattle.regions.specs.Region.{isListed};
 ghost use Rattle.mapping.specs.Answers.{nextOf};
 ghost use Rattle.mapping.specs.Mapping.{regionsOver};
 ghost use Rattle.mapping.specs.Search.{Fresh, Tells, IsNext};
@@ -28,7 +28,7 @@ pub enum Found {
 }
 
 fn is_listed(what: What) -> bool
-    ensures { λ r. ⌜ r ≡ listed (whatOf what) ⌝ }
+    ensures { λ r. ⌜ r ≡ isListed (whatOf what) ⌝ }
 {
     match what {
         What::Page(_) => true,

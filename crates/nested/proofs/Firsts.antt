@@ -21,7 +21,7 @@ use Rattle.first.specs.First.{FirstStep, down as downTo, page, fault as stop, o
 use Rattle.nested.specs.Pages.{Pages, reached, fault, FirstHanded, firstHanded, entryFlags, noFirstEntry, locate, walkStep, firstRules}
 use Rattle.nested.specs.Way.{Located, located, lost}
 use Rattle.nested.specs.Answers.{LevelGrows}
-use Rattle.nested.specs.Stages.{entryOver}
+use Rattle.nested.specs.Positions.{entryOver}
 use Rattle.nested.specs.declared.level.Level.{Level}
 use Rattle.nested.specs.declared.level.Level.the-variants as level
 use Rattle.nested.proofs.Nested.{no-entry}

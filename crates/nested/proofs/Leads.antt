@@ -1,4 +1,4 @@
--- What a walk of the second level tells of a stage: the page itself, where the stage's entry is, or a fault.
+-- What a walk of the second level tells of a position: the page itself, where the position's entry is, or a fault.
 use Prim.Native.Nat.{ℕ, _+_, _%_, _<_, _≤_}
 use mathlib.Core.Bool.{Bool, true, false, _||_}
 use mathlib.Core.List.{List}
@@ -16,15 +16,15 @@ use Rattle.pasid.specs.Reason.{numberOf}
 use Rattle.pasid.specs.declared.reason.ScalableReason.{ScalableReason}
 use Rattle.second.specs.Second.{Walked, page, fault as noPage, Reachable}
 use Rattle.nested.specs.Pages.{FirstHanded, firstHanded, intermediateRules}
-use Rattle.nested.specs.Stages.{placeAt, wantedAt, StageFits, WayTells}
+use Rattle.nested.specs.Positions.{placeAt, wantedAt, PositionFits, WayTells}
 use Rattle.nested.specs.declared.Pages.the-variants as pages
-use Rattle.nested.specs.declared.stage.Stage.{Stage}
-use Rattle.nested.specs.declared.stage.Walk.{Walk}
+use Rattle.nested.specs.declared.position.Position.{Position}
+use Rattle.nested.specs.declared.position.Walk.{Walk}
 use Rattle.nested.specs.declared.way.Way.the-variants as way
 use Rattle.nested.proofs.Nested.{host-aligned}
 use Rattle.nested.proofs.Rests.{nested, page-found, entry-found, faulted, faulted-at}
 
-module _ (w : Walk) (s : Stage) (m : Memory) (before after : List ℕ) (place : ℕ) where
+module _ (w : Walk) (s : Position) (m : Memory) (before after : List ℕ) (place : ℕ) where
   abbrev given : FirstHanded
   given = firstHanded (s .top) (take (s .count) before)
 
@@ -39,7 +39,7 @@ module _ (w : Walk) (s : Stage) (m : Memory) (before after : List ℕ) (place : 
       × ((s .level ≡ 0 → ⊥) → WayTells (way.Entry host writable count) w s m before after)
 
   module _ (is : place ≡ placeAt (w .asked .address) (s .level) (s .at)) (second : (eqb (s .level) 0 || eqb (w .space .entry .kind) 3) ≡ true) where
-    pub page-tells : StageFits (w .space .entry) s → (0 < s .level → place % 8 ≡ 0) → {frame level host count : ℕ} {writable : Bool}
+    pub page-tells : PositionFits (w .space .entry) s → (0 < s .level → place % 8 ≡ 0) → {frame level host count : ℕ} {writable : Bool}
         → host ≡ hostAddress level frame place → page frame level writable (take count after) ≡ run asked m
         → Reachable (page frame level writable (take count after)) → count ≤ s .count + 6
         → PageTells frame level host writable count

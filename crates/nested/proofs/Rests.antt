@@ -18,7 +18,7 @@ use Rattle.pasid.specs.declared.ScalableRegisters.{ScalableRegisters}
 use Rattle.pasid.specs.declared.table.PasidEntry.{PasidEntry}
 use Rattle.second.specs.Second.{Walked, page, fault as noPage}
 use Rattle.nested.specs.Pages.{Pages, reached, fault, FirstHanded, firstHanded, wantedOfPage, toEntry, toPage, intermediateRules, locate, hostPageRules, firstRules}
-use Rattle.nested.specs.Stages.{placeAt, wantedAt, kindRules, restRules}
+use Rattle.nested.specs.Positions.{placeAt, wantedAt, kindRules, restRules}
 use Rattle.nested.specs.Then.{thenRules}
 use Rattle.nested.specs.Way.{lost}
 use Rattle.nested.proofs.Firsts.{levelOver, levelTried, not-last, ended, led, ended-at, led-at, stopped, stopped-at}

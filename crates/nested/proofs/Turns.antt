@@ -7,11 +7,11 @@ use Rattle.image.specs.Place.{Place, entryAt, lastTried}
 use Rattle.image.specs.Rules.{Rules, answer, run}
 use Rattle.nested.specs.Answers.{pagesOf, PagesNames}
 use Rattle.nested.specs.Pages.{Pages, Reachable}
-use Rattle.nested.specs.Stages.{stageRules, TurnTells, turnRules, TurnLast, TurnFits}
+use Rattle.nested.specs.Positions.{positionRules, TurnTells, turnRules, TurnLast, TurnFits}
 use Rattle.nested.specs.declared.Pages.{Pages as PagesCode}
 use Rattle.nested.specs.declared.Pages.the-variants as pages
-use Rattle.nested.specs.declared.stage.Stage.{Stage}
-use Rattle.nested.specs.declared.stage.Walk.{Walk}
+use Rattle.nested.specs.declared.position.Position.{Position}
+use Rattle.nested.specs.declared.position.Walk.{Walk}
 use Rattle.nested.specs.declared.turn.Turn.{Turn}
 use Rattle.nested.specs.declared.turn.Turn.the-variants as turn
 
@@ -20,17 +20,17 @@ pub reachable-by : (r : PagesCode) (flags : List ℕ) → Reachable (pagesOf r [
 reachable-by (pages.Reached frame level host count) flags h = h
 reachable-by (pages.Fault reason fpd at) flags h = tt
 
-pub turned : (r : Turn) (w : Walk) (s : Stage) (m : Memory) (before after : List ℕ) (q : Rules Pages) (here : Place)
+pub turned : (r : Turn) (w : Walk) (s : Position) (m : Memory) (before after : List ℕ) (q : Rules Pages) (here : Place)
     → turnRules r w after ≡ q → TurnLast r here → TurnFits r (w .space .entry) (s .level)
-    → run q m ≡ run (stageRules w s before) m
-    → lastTried here q m ≡ lastTried (entryAt (s .last)) (stageRules w s before) m
+    → run q m ≡ run (positionRules w s before) m
+    → lastTried here q m ≡ lastTried (entryAt (s .last)) (positionRules w s before) m
     → TurnTells r w s m before after
 unfolding run lastTried
 turned (turn.On next) w s m before after q here is last fits ran tried = (
   fits .0,
   fits .1,
   ap (λ q. run q m) is ∙ ran,
-  ap (λ (place : Place). lastTried place (stageRules w next after) m) last ∙ ap (λ q. lastTried here q m) is ∙ tried,
+  ap (λ (place : Place). lastTried place (positionRules w next after) m) last ∙ ap (λ q. lastTried here q m) is ∙ tried,
 )
 turned (turn.Done r) w s m before after q here is last fits ran tried = (
   ap (λ q. run q m) is ∙ ran,

@@ -1,5 +1,5 @@
 pub mod Answers
 pub mod Pages
-pub mod Stages
+pub mod Positions
 pub mod Then
 pub mod Way

@@ -12,9 +12,9 @@ ghost use Rattle.flags.specs.Flags.{flag};
 ghost use Rattle.first.specs.First.{firstFlags};
 ghost use Rattle.nested.specs.Answers.{levelOf, levelPlace, LevelGrows, LevelReachable};
 ghost use Rattle.nested.specs.Pages.{entryFlags, walkStep};
-ghost use Rattle.nested.specs.Stages.{entryOver};
-use crate::stage::Stage;
-use crate::stage::Walk;
+ghost use Rattle.nested.specs.Positions.{entryOver};
+use crate::position::Position;
+use crate::position::Walk;
 use first::FirstStep;
 use first::first_step;
 use first::flag_clear;
@@ -120,22 +120,22 @@ pub(crate) fn level_entry(
     windows: &[u64],
     image: &[u8],
     walk: Walk,
-    stage: Stage,
+    position: Position,
     writable: bool,
     at: u64,
     flags: &mut [u64],
     count: usize,
 ) -> Level
-    requires { ⌜ Opened (walk .space .first) (now windows) (length (now image)) × (0 < stage .level) × (at % 8 ≡ 0) × (at < 2 ^ 60) × (count + 3 ≤ length (now flags)) ⌝ }
-    ensures { λ r. ⌜ levelOf r (walk .asked .address) (now (flags .exit)) ≡ entryOver (walk .space .registers) (walk .space .entry) (walk .asked .address) (walk .asked .write) (ofWindows (now (windows .entry)) (now (image .entry))) (stage .level) at (record { top = stage .top; writable = writable; flags = take count (now (flags .entry)) }) ⌝ }
+    requires { ⌜ Opened (walk .space .first) (now windows) (length (now image)) × (0 < position .level) × (at % 8 ≡ 0) × (at < 2 ^ 60) × (count + 3 ≤ length (now flags)) ⌝ }
+    ensures { λ r. ⌜ levelOf r (walk .asked .address) (now (flags .exit)) ≡ entryOver (walk .space .registers) (walk .space .entry) (walk .asked .address) (walk .asked .write) (ofWindows (now (windows .entry)) (now (image .entry))) (position .level) at (record { top = position .top; writable = writable; flags = take count (now (flags .entry)) }) ⌝ }
     ensures { λ r. ⌜ levelPlace r ≡ entryAt at ⌝ }
-    ensures { λ r. ⌜ LevelReachable r (stage .level) ⌝ }
+    ensures { λ r. ⌜ LevelReachable r (position .level) ⌝ }
     ensures { λ r. ⌜ LevelGrows r (count + 2) ⌝ }
 {
     let offset = at % 4096;
     let Found8::Entry(e) = page_entry8_by(walk.space.first, windows, image, at - offset, offset)
     else {
-        return Level::Fault(unfetchable(stage.top), walk.space.entry.fpd, at);
+        return Level::Fault(unfetchable(position.top), walk.space.entry.fpd, at);
     };
-    level_step(walk, stage.level, writable, at, e, flags, count)
+    level_step(walk, position.level, writable, at, e, flags, count)
 }

@@ -8,19 +8,19 @@ ghost use Rattle.image.specs.Place.{entryAt};
 ghost use Rattle.image.specs.Spans.{Opened};
 ghost use Rattle.image.specs.Windows.{ofWindows};
 ghost use Rattle.nested.specs.Pages.{firstHanded, PagesWalkable};
-ghost use Rattle.nested.specs.Stages.{kindRules, restRules, PagesTell, StageFits};
+ghost use Rattle.nested.specs.Positions.{kindRules, restRules, PagesTell, PositionFits};
 
 mod level;
-mod stage;
+mod position;
 mod turn;
 mod way;
 
 use pasid::PasidEntry;
 use pasid::ScalableReason;
 use pasid::ScalableRegisters;
-pub use stage::Asked;
-use stage::Stage;
-pub use stage::Walk;
+pub use position::Asked;
+use position::Position;
+pub use position::Walk;
 use turn::Turn;
 use turn::take_turn;
 
@@ -32,13 +32,13 @@ pub enum Pages {
 }
 
 // at: the host address of the PASID table entry, which was tried last.
-fn first_stage(entry: PasidEntry, at: u64, address: u64) -> Stage
+fn first_position(entry: PasidEntry, at: u64, address: u64) -> Position
     requires { ⌜ PagesWalkable entry ⌝ }
-    ensures { λ r. ⌜ StageFits entry r × (r .last ≡ at) ⌝ }
+    ensures { λ r. ⌜ PositionFits entry r × (r .last ≡ at) ⌝ }
     ensures { λ r. ⌜ ((registers : ScalableRegisters) (write : Bool) (flags : List ℕ) → restRules registers entry address write (r .level) (r .at) (firstHanded (r .top) (take (r .count) flags)) ≡ kindRules registers entry address write) ⌝ }
 {
     if entry.kind == 2 {
-        return Stage {
+        return Position {
             level: 0,
             at: address,
             top: true,
@@ -46,7 +46,7 @@ fn first_stage(entry: PasidEntry, at: u64, address: u64) -> Stage
             count: 0,
         };
     }
-    Stage {
+    Position {
         level: entry.first_levels,
         at: entry.first_top,
         top: true,
@@ -60,10 +60,10 @@ pub fn walk_pages(windows: &[u64], image: &[u8], walk: Walk, at: u64, flags: &mu
     requires { ⌜ Opened (walk .space .first) (now windows) (length (now image)) × PagesWalkable (walk .space .entry) × (47 ≤ length (now flags)) ⌝ }
     ensures { λ r. ⌜ PagesTell r (kindRules (walk .space .registers) (walk .space .entry) (walk .asked .address) (walk .asked .write)) (ofWindows (now (windows .entry)) (now (image .entry))) (entryAt at) (now (flags .exit)) ⌝ }
 {
-    let mut stage = first_stage(walk.space.entry, at, walk.asked.address);
+    let mut position = first_position(walk.space.entry, at, walk.asked.address);
     loop {
-        match take_turn(windows, image, walk, stage, flags) {
-            Turn::On(next) => stage = next,
+        match take_turn(windows, image, walk, position, flags) {
+            Turn::On(next) => position = next,
             Turn::Done(pages) => return pages,
         }
     }

@@ -8,18 +8,18 @@ ghost use Rattle.image.specs.Windows.{ofWindows};
 ghost use Rattle.dma.specs.Walk.{onStep};
 ghost use Rattle.nested.specs.Answers.{levelOf, levelPlace, LevelGrows, LevelReachable};
 ghost use Rattle.nested.specs.Pages.{hostPageRules, FirstWalkable};
-ghost use Rattle.nested.specs.Stages.{restRules, StageFits, TurnTells, turnRules, TurnLast, TurnFits};
+ghost use Rattle.nested.specs.Positions.{restRules, PositionFits, TurnTells, turnRules, TurnLast, TurnFits};
 use crate::Pages;
 use crate::level::Level;
 use crate::level::level_entry;
-use crate::stage::Stage;
-use crate::stage::Walk;
+use crate::position::Position;
+use crate::position::Walk;
 use crate::way::Way;
 use crate::way::locate;
 use dma::host_address;
 
 pub enum Turn {
-    On(Stage),
+    On(Position),
     Done(Pages),
 }
 
@@ -31,7 +31,7 @@ fn after_level(walk: Walk, level: u32, step: Level) -> Turn
     ensures { λ r. ⌜ TurnFits r (walk .space .entry) level ⌝ }
 {
     match step {
-        Level::Down(table, last, count) => Turn::On(Stage {
+        Level::Down(table, last, count) => Turn::On(Position {
             level: level - 1,
             at: table,
             top: false,
@@ -43,7 +43,7 @@ fn after_level(walk: Walk, level: u32, step: Level) -> Turn
             if walk.space.entry.kind != 3 {
                 return Turn::Done(Pages::Reached(frame, of, host, count));
             }
-            Turn::On(Stage {
+            Turn::On(Position {
                 level: 0,
                 at: host,
                 top: false,
@@ -59,16 +59,16 @@ pub(crate) fn take_turn(
     windows: &[u64],
     image: &[u8],
     walk: Walk,
-    stage: Stage,
+    position: Position,
     flags: &mut [u64],
 ) -> Turn
-    requires { ⌜ Opened (walk .space .first) (now windows) (length (now image)) × StageFits (walk .space .entry) stage × (47 ≤ length (now flags)) ⌝ }
-    ensures { λ r. ⌜ TurnTells r walk stage (ofWindows (now (windows .entry)) (now (image .entry))) (now (flags .entry)) (now (flags .exit)) ⌝ }
+    requires { ⌜ Opened (walk .space .first) (now windows) (length (now image)) × PositionFits (walk .space .entry) position × (47 ≤ length (now flags)) ⌝ }
+    ensures { λ r. ⌜ TurnTells r walk position (ofWindows (now (windows .entry)) (now (image .entry))) (now (flags .entry)) (now (flags .exit)) ⌝ }
 {
-    match locate(windows, image, walk, stage, flags) {
+    match locate(windows, image, walk, position, flags) {
         Way::Entry(at, writable, count) => {
-            let step = level_entry(windows, image, walk, stage, writable, at, flags, count);
-            after_level(walk, stage.level, step)
+            let step = level_entry(windows, image, walk, position, writable, at, flags, count);
+            after_level(walk, position.level, step)
         }
         Way::Done(pages) => Turn::Done(pages),
     }

@@ -9,12 +9,12 @@ ghost use Rattle.image.specs.Rules.{run};
 ghost use Rattle.image.specs.Spans.{Opened};
 ghost use Rattle.image.specs.Windows.{ofWindows};
 ghost use Rattle.nested.specs.Pages.{intermediateRules, SecondWalkable};
-ghost use Rattle.nested.specs.Stages.{placeAt, wantedAt, StageFits, WayTells};
+ghost use Rattle.nested.specs.Positions.{placeAt, wantedAt, PositionFits, WayTells};
 ghost use Rattle.second.specs.Answers.{walkedOf, Names, Grown};
 ghost use Rattle.second.specs.Second.{Reachable};
 use crate::Pages;
-use crate::stage::Stage;
-use crate::stage::Walk;
+use crate::position::Position;
+use crate::position::Walk;
 use dma::entry_offset;
 use dma::host_address;
 use dma::overflows;
@@ -71,25 +71,25 @@ fn intermediate(
     windows: &[u64],
     image: &[u8],
     walk: Walk,
-    stage: Stage,
+    position: Position,
     address: u64,
     flags: &mut [u64],
 ) -> Walked
-    requires { ⌜ Opened (walk .space .first) (now windows) (length (now image)) × SecondWalkable (walk .space .entry) × (stage .count + 6 ≤ length (now flags)) ⌝ }
-    ensures { λ r. ⌜ walkedOf r (now (flags .exit)) ≡ run (intermediateRules (walk .space .registers) (walk .space .entry) (wantedAt (walk .space .entry) (walk .asked .write) (stage .level)) address (take (stage .count) (now (flags .entry)))) (ofWindows (now (windows .entry)) (now (image .entry))) ⌝ }
-    ensures { λ r. ⌜ Names r (lastTried (entryAt (stage .last)) (intermediateRules (walk .space .registers) (walk .space .entry) (wantedAt (walk .space .entry) (walk .asked .write) (stage .level)) address (take (stage .count) (now (flags .entry)))) (ofWindows (now (windows .entry)) (now (image .entry)))) ⌝ }
+    requires { ⌜ Opened (walk .space .first) (now windows) (length (now image)) × SecondWalkable (walk .space .entry) × (position .count + 6 ≤ length (now flags)) ⌝ }
+    ensures { λ r. ⌜ walkedOf r (now (flags .exit)) ≡ run (intermediateRules (walk .space .registers) (walk .space .entry) (wantedAt (walk .space .entry) (walk .asked .write) (position .level)) address (take (position .count) (now (flags .entry)))) (ofWindows (now (windows .entry)) (now (image .entry))) ⌝ }
+    ensures { λ r. ⌜ Names r (lastTried (entryAt (position .last)) (intermediateRules (walk .space .registers) (walk .space .entry) (wantedAt (walk .space .entry) (walk .asked .write) (position .level)) address (take (position .count) (now (flags .entry)))) (ofWindows (now (windows .entry)) (now (image .entry)))) ⌝ }
     ensures { λ r. ⌜ Reachable (walkedOf r (now (flags .exit))) ⌝ }
-    ensures { λ r. ⌜ Grown r (stage .count) (stage .count + 6) ⌝ }
+    ensures { λ r. ⌜ Grown r (position .count) (position .count + 6) ⌝ }
 {
     let space = walk.space;
     if overflows(space.registers.base, space.entry.second_levels, address) {
         return Walked::Fault(
             ScalableReason::IntermediateOverflow,
             space.entry.fpd,
-            stage.last,
+            position.last,
         );
     }
-    let wanted = wanted_at(space.entry, walk.asked.write, stage.level);
+    let wanted = wanted_at(space.entry, walk.asked.write, position.level);
     second_walk(
         windows,
         image,
@@ -97,7 +97,7 @@ fn intermediate(
         wanted,
         address,
         flags,
-        stage.count,
+        position.count,
     )
 }
 
@@ -105,20 +105,20 @@ pub(crate) fn locate(
     windows: &[u64],
     image: &[u8],
     walk: Walk,
-    stage: Stage,
+    position: Position,
     flags: &mut [u64],
 ) -> Way
-    requires { ⌜ Opened (walk .space .first) (now windows) (length (now image)) × StageFits (walk .space .entry) stage × (47 ≤ length (now flags)) ⌝ }
-    ensures { λ r. ⌜ WayTells r walk stage (ofWindows (now (windows .entry)) (now (image .entry))) (now (flags .entry)) (now (flags .exit)) ⌝ }
+    requires { ⌜ Opened (walk .space .first) (now windows) (length (now image)) × PositionFits (walk .space .entry) position × (47 ≤ length (now flags)) ⌝ }
+    ensures { λ r. ⌜ WayTells r walk position (ofWindows (now (windows .entry)) (now (image .entry))) (now (flags .entry)) (now (flags .exit)) ⌝ }
 {
-    let place = place_of(walk.asked.address, stage.level, stage.at);
-    if !through_second(walk.space.entry.kind, stage.level) {
-        return Way::Entry(place, true, stage.count);
+    let place = place_of(walk.asked.address, position.level, position.at);
+    if !through_second(walk.space.entry.kind, position.level) {
+        return Way::Entry(place, true, position.count);
     }
-    match intermediate(windows, image, walk, stage, place, flags) {
+    match intermediate(windows, image, walk, position, place, flags) {
         Walked::Page(frame, level, writable, count) => {
             let host = host_address(level, frame, place);
-            if stage.level == 0 {
+            if position.level == 0 {
                 return Way::Done(Pages::Reached(frame, level, host, count));
             }
             Way::Entry(host, writable, count)

@@ -19,7 +19,7 @@ use Rattle.translation.specs.declared.Rights.{Rights}
 use Rattle.translation.proofs.Pages.{same-above}
 use Rattle.regions.specs.Answers.{onwardOf, levelAfter, LeadsTo, Walkable, atTop}
 use Rattle.regions.specs.Known.{rightsNumber, keyOf, StandsIn, PutIn, Remembers, Quiet, Sound, QuietAround, QuietTo}
-use Rattle.regions.specs.Region.{Region, listed, regionStep, regionIn}
+use Rattle.regions.specs.Region.{Region, isListed, regionStep, regionIn}
 use Rattle.regions.specs.declared.Tables.{Tables}
 use Rattle.regions.specs.declared.walk.Onward.{Onward}
 use Rattle.regions.specs.declared.walk.Onward.the-variants as onward
@@ -132,7 +132,7 @@ module _ (registers : Registers) (m : Memory) (outside : (table : ℕ) → Bool)
       → (last + 1) % 2 ^ (12 + 9 * level) ≡ 0 → from + 2 ^ (12 + 9 * level) ≤ last + 1
       → Empty level table rights
   quiet-table levels top from last level table rights on quiet aligned room x =
-      ap (λ (r : Region). listed (r .what)) (low-bits registers m outside x y level table rights (sym low-y) ∙ on y (high-last ∙ sym high-y))
+      ap (λ (r : Region). isListed (r .what)) (low-bits registers m outside x y level table rights (sym low-y) ∙ on y (high-last ∙ sym high-y))
       ∙ quiet y (omega (arith, room)) (omega (arith, room, less))
     where
       k : ℕ
@@ -214,4 +214,4 @@ module _ (registers : Registers) (m : Memory) (outside : (table : ℕ) → Bool)
       → Sound registers m outside known → StandsIn known (keyOf table level above) → table % 4096 ≡ 0 → level ≤ 5
       → QuietAround registers m outside levels top level address
   known-quiet levels top address level table above known on sound held page few some x near =
-      ap (λ (r : Region). listed (r .what)) (sym (on x near)) ∙ sound (held .at) table level above page some few (held .there) x
+      ap (λ (r : Region). isListed (r .what)) (sym (on x near)) ∙ sound (held .at) table level above page some few (held .there) x

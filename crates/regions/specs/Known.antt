@@ -10,7 +10,7 @@ use Rattle.image.specs.Memory.{Memory}
 use Rattle.registers.specs.declared.Registers.{Registers}
 use Rattle.translation.specs.Rights.{both}
 use Rattle.translation.specs.declared.Rights.{Rights}
-use Rattle.regions.specs.Region.{listed, regionIn}
+use Rattle.regions.specs.Region.{isListed, regionIn}
 
 -- bit 0 read, bit 1 write
 abbrev pub rightsNumber : Rights → ℕ
@@ -38,7 +38,7 @@ Remembers before after key from last level =
 module _ (registers : Registers) (m : Memory) (outside : (table : ℕ) → Bool) where
   -- nothing is listed for an address that the walk takes on from a table
   abbrev pub Quiet : (level table : ℕ) → Rights → (address : ℕ) → Type 0
-  Quiet level table rights address = listed (regionIn registers m outside address level table rights .what) ≡ false
+  Quiet level table rights address = isListed (regionIn registers m outside address level table rights .what) ≡ false
 
   -- all that is remembered is such a table
   abbrev pub Sound : List ℕ → Type 0

@@ -19,11 +19,11 @@ pub data What : Type 0 where
   refused : (number : ℕ) → What
   nothing : What
 
-abbrev pub listed : What → Bool
-listed (page frame) = true
-listed (fault reason) = true
-listed (refused number) = true
-listed nothing = false
+abbrev pub isListed : What → Bool
+isListed (page frame) = true
+isListed (fault reason) = true
+isListed (refused number) = true
+isListed nothing = false
 
 -- the span is that of an entry of the level: 2^(12+9(level-1)) bytes. A page's rights count its own entry's, a fault's those of the
 -- entries above it

@@ -33,7 +33,7 @@ use Rattle.scalable.specs.declared.ScalableRequest.{ScalableRequest}
 use Rattle.rights.specs.Rights.{decided, walkedByAny, Apart}
 use Rattle.rights.proofs.Rights.{scalable-rights-on, scalable-rights-off}
 use Rattle.rights.specs.Tables.{tableWords, SharesNoByte}
-use Rattle.scalable_cases.specs.Instances.{reading, writing, walked, ScalablePremisesMet}
+use Rattle.scalable_cases.specs.Instances.{reading, writing, walkedByBoth, ScalablePremisesMet}
 use Rattle.scalable_cases.specs.Rows.{rowRegisters, rowWords, byWords}
 
 unfoldable every : (ℕ → Bool) → List ℕ → Bool
@@ -98,7 +98,7 @@ entries =
     ∷ []
 
 -- what the two requests walk and read, and what they are answered, as the memory has it
-computed : (walked (byWords rowWords) ≡ entries)
+computed : (walkedByBoth (byWords rowWords) ≡ entries)
     × (every (leb 0x10000) entries ≡ true)
     × (every (λ n. leb n 0x8FFF) (tableWords (scalableRules rowRegisters reading) (byWords rowWords)) ≡ true)
     × (every (λ n. leb n 0x8FFF) (tableWords (scalableRules rowRegisters writing) (byWords rowWords)) ≡ true)

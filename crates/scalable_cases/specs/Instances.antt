@@ -16,15 +16,15 @@ reading = read 0x12342 0x1ABC
 abbrev pub writing : ScalableRequest
 writing = write 0x12340 0x200000
 
-abbrev pub walked : Memory → List ℕ
-walked = walkedByAny rowRegisters (writing ∷ reading ∷ [])
+abbrev pub walkedByBoth : Memory → List ℕ
+walkedByBoth = walkedByAny rowRegisters (writing ∷ reading ∷ [])
 
 pub record ScalablePremisesMet : Type 0 where
   -- W switched on in the entry that blocked the write
   pub on-apart : Apart rowRegisters (writing ∷ reading ∷ []) reading (byWords rowWords)
-  pub switched-on : SwitchedOn (walked (byWords rowWords)) (byWords rowWords) (byWords ((0x11008, 0x200083) ∷ rowWords))
+  pub switched-on : SwitchedOn (walkedByBoth (byWords rowWords)) (byWords rowWords) (byWords ((0x11008, 0x200083) ∷ rowWords))
   pub was-granted : decided rowRegisters reading (byWords rowWords) .outcome ≡ granted 0x123ABC
   -- R and W switched off in the entry that maps the read's first-level tables
   pub off-apart : Apart rowRegisters (writing ∷ reading ∷ []) writing (byWords rowWords)
-  pub switched-off : SwitchedOff (walked (byWords rowWords)) (byWords rowWords) (byWords ((0x11000, 0x80) ∷ rowWords))
+  pub switched-off : SwitchedOff (walkedByBoth (byWords rowWords)) (byWords rowWords) (byWords ((0x11000, 0x80) ∷ rowWords))
   pub not-granted : (address : ℕ) → decided rowRegisters writing (byWords rowWords) .outcome ≡ granted address → ⊥

@@ -5,7 +5,7 @@ use borrow.Author.Tests.{not-true, not-false}
 use lib.ListN.{length}
 use Rattle.tables.specs.declared.Tree.{Tree}
 use Rattle.builder.specs.Answers.{readinessOf}
-use Rattle.builder.specs.Ready.{Readiness, ready, readiness, Usable, IfReady}
+use Rattle.builder.specs.Ready.{Readiness, ready, readiness, TablesReady, IfReady}
 use Rattle.builder.proofs.Builds.{unready-built, ready-built, not-marked, stopped-at, finished}
 use Rattle.builder.proofs.Readied.{windows-good}
 use borrow.Author.Needs.{needs}
@@ -23,9 +23,9 @@ module _ (k : tie.After-state) where
   is : readinessOf (k .before .before .make-ready .result) ≡ ready tree
   is = ap readinessOf (k .state .given .1)
 
-  usable : Usable (s .args .registers) (length (s .args .copy .now)) (length (s .args .marks .now)) tree
+  usable : TablesReady (s .args .registers) (length (s .args .copy .now)) (length (s .args .marks .now)) tree
   usable =
-      subst (IfReady (Usable (s .args .registers) (length (s .args .copy .now)) (length (s .args .marks .now)))) is
+      subst (IfReady (TablesReady (s .args .registers) (length (s .args .copy .now)) (length (s .args .marks .now)))) is
       (k .before .before .make-ready .ensures .1)
 
   readied : readiness (s .args .registers) (s .args .windows .now) (s .args .memory .now) (s .args .start) (s .args .size) (length (s .args .copy .now)) (length (s .args .marks .now)) (s .args .source .id) ≡ ready tree

@@ -9,7 +9,7 @@ use Rattle.dma.specs.Translation.{Reachable, through, fault, widthRules}
 use Rattle.dma.proofs.Forks.{reachable}
 use Rattle.dma.proofs.Lookups.{no-context-told, context-told, context-usable}
 use Rattle.cache.specs.Engine.{rulesOf}
-use Rattle.cache.specs.Numbers.{kept}
+use Rattle.cache.specs.Numbers.{stateKept}
 use Rattle.cache.proofs.Looked.{context-domain, stopped-kept}
 use borrow.Author.Needs.{needs}
 use Rattle.cache.proofs.translate_and_keep.Statement.{statement}
@@ -76,7 +76,7 @@ returns-2 c =
     let a = f .before .before .before .before .args in
     let m = ofWindows (now (a .windows)) (now (a .image)) in
     let found = sym (f .find-context .ensures .0) ∙ ap lookupOf (t .before .before .found .given .1) in
-    let kept-so = c .before .before .keep .ensures ∙ ap₂ (λ r d. kept (now (a .state)) (a .request) r d) (told t .0) (sym (context-domain (a .registers) (a .request) m _ found)) in
+    let kept-so = c .before .before .keep .ensures ∙ ap₂ (λ r d. stateKept (now (a .state)) (a .request) r d) (told t .0) (sym (context-domain (a .registers) (a .request) m _ found)) in
     (told t .0, (told t .1, kept-so))
 
 pub translate-and-keep-spec : {M : Type 1} → statement M

@@ -36,7 +36,7 @@ few-told : (n : ℕ) (answer : Mapped) → Few (toldOf (room n) answer)
 few-told n (mapping.refused number) = tt
 few-told n mapping.passed = tt
 few-told n (mapping.faulted reason) = tt
-few-told n (mapping.mapped spans) = omega arith
+few-told n (mapping.spansMapped spans) = omega arith
 
 listing-status-requires : tie.Need-listing-status-requires
 listing-status-requires c κs =

@@ -1,10 +1,10 @@
 use borrow.Author.Needs.{needs}
-use Rattle.galitzaf_scalable.specs.Scalable.{requestOf}
+use Rattle.galitzaf_scalable.specs.Scalable.{scalableRequestOf}
 use Rattle.galitzaf_scalable.proofs.request_of.Statement.{statement}
 use Rattle.galitzaf_scalable.proofs.request_of.Tie as tie
 
 returns : tie.Need-returns
-unfolding requestOf
+unfolding scalableRequestOf
 returns c = rw (c .bit2 .ensures, c .before .bit .ensures, c .before .before .from-number .ensures)
 
 pub request-of-spec : {M : Type 1} → statement M

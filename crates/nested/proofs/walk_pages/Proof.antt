@@ -9,8 +9,8 @@ use Rattle.image.specs.Spans.{Opened}
 use Rattle.image.specs.Windows.{ofWindows}
 use Rattle.nested.specs.Answers.{PagesNames}
 use Rattle.nested.specs.Pages.{Pages}
-use Rattle.nested.specs.Stages.{kindRules, stageRules, StageFits}
-use Rattle.nested.specs.declared.stage.Walk.{Walk}
+use Rattle.nested.specs.Positions.{kindRules, positionRules, PositionFits}
+use Rattle.nested.specs.declared.position.Walk.{Walk}
 use borrow.Author.Needs.{needs}
 use Rattle.nested.proofs.walk_pages.Statement.{statement}
 use Rattle.nested.proofs.walk_pages.Tie as tie
@@ -22,24 +22,24 @@ begun : (m : Memory) {last at : ℕ} {q q′ : Rules Pages} → last ≡ at → 
 begun m {last} {at} {q} same rules = ap (λ (place : ℕ). lastTried (entryAt place) q m) same ∙ ap (λ q. lastTried (entryAt at) q m) rules
 
 abbrev Inv-loop : tie.InvT-loop
-Inv-loop windows image walk at flags₀ stage₀ flags stage =
+Inv-loop windows image walk at flags₀ position₀ flags position =
     Opened (walk .space .first) windows (length image)
-    × StageFits (walk .space .entry) stage
+    × PositionFits (walk .space .entry) position
     × (length flags ≡ length flags₀)
     × (47 ≤ length flags₀)
-    × (run (stageRules walk stage flags) (ofWindows windows image) ≡ run (whole walk) (ofWindows windows image))
-    × (lastTried (entryAt (stage .last)) (stageRules walk stage flags) (ofWindows windows image)
+    × (run (positionRules walk position flags) (ofWindows windows image) ≡ run (whole walk) (ofWindows windows image))
+    × (lastTried (entryAt (position .last)) (positionRules walk position flags) (ofWindows windows image)
     ≡ lastTried (entryAt at) (whole walk) (ofWindows windows image))
 
 abbrev μ-loop : tie.MeasureT-loop
-μ-loop windows image walk at flags₀ stage₀ flags stage = stage .level
+μ-loop windows image walk at flags₀ position₀ flags position = position .level
 
 loop-holds : tie.Need-loop-holds Inv-loop μ-loop
 loop-holds c =
     let s = c .before .before .before .before in
     let a = s .args in
     let m = ofWindows (a .windows .now) (a .image .now) in
-    let first = c .first-stage .ensures in
+    let first = c .first-position .ensures in
     let rules = first .1 (a .walk .space .registers) (a .walk .asked .write) (a .flags .now) in (
       s .pre .0,
       first .0 .0,
@@ -49,8 +49,8 @@ loop-holds c =
       begun m (first .0 .1) rules,
     )
 
-first-stage-requires : tie.Need-first-stage-requires Inv-loop μ-loop
-first-stage-requires c κs = c .before .before .before .pre .1
+first-position-requires : tie.Need-first-position-requires Inv-loop μ-loop
+first-position-requires c κs = c .before .before .before .pre .1
 
 take-turn-requires : tie.Need-take-turn-requires Inv-loop μ-loop
 take-turn-requires c κs = let i = c .before .loop .inv in (i .0, i .1, omega (arith, i .2, i .3))
@@ -80,7 +80,7 @@ walk-pages-spec =
     (tie.spec
     Inv-loop
     μ-loop
-    first-stage-requires
+    first-position-requires
     loop-holds
     take-turn-requires
     (λ c. search needs)

@@ -3,7 +3,7 @@ use mathlib.Core.Path.{_≡_, refl, ap, sym, _∙_, subst}
 use denote.Ref.{now}
 use Rattle.dma.specs.Answers.{translationOf}
 use Rattle.dma.specs.Translation.{Reachable}
-use Rattle.cache.specs.Numbers.{kept}
+use Rattle.cache.specs.Numbers.{stateKept}
 use borrow.Author.Needs.{needs}
 use Rattle.cache.proofs.state.keep.Statement.{statement}
 use Rattle.cache.proofs.state.keep.Tie as tie
@@ -31,7 +31,7 @@ returns : tie.Need-returns
 returns c =
     let a = c .before .before .before .before .before .before .before .before .args in
     c .before .before .keep-page .ensures
-    ∙ sym (ap (λ t. kept (now (a .state)) (a .request) (translationOf t) (a .domain)) (c .before .before .before .before .before .translated .given .1))
+    ∙ sym (ap (λ t. stateKept (now (a .state)) (a .request) (translationOf t) (a .domain)) (c .before .before .before .before .before .translated .given .1))
 
 returns-2 : tie.Need-returns-2
 returns-2 c = search needs

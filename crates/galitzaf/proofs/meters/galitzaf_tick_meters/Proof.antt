@@ -5,7 +5,7 @@ use native.Mathlib.Omega.{arith}
 use lib.Dec.{eqb}
 use lib.ListN.{length, length-set}
 use Rattle.meter.proofs.Rows.{steps, marks}
-use Rattle.galitzaf.specs.Meters.{rowOf, loadsOf, malformed}
+use Rattle.galitzaf.specs.Meters.{rowOf, loadsOf, malformedMeters}
 use Rattle.galitzaf.proofs.Arrays.{Matched, matched, row-loads, bad-row, uneven, unfit, loads-next, bytes-next, loads-all, bytes-all, all-ticked, taken, not-taken}
 use borrow.Author.Needs.{needs}
 use Rattle.galitzaf.proofs.meters.galitzaf_tick_meters.Statement.{statement}
@@ -34,7 +34,7 @@ one-per-meter-requires : tie.Need-one-per-meter-requires Inv-loop μ-loop
 one-per-meter-requires c κs = search needs
 
 -- past the first condition, and past the second
-well-formed : (c : tie.Else1 Inv-loop μ-loop) → let a = c .before .before .before .before .before .before .before .before .before .args in malformed (a .kinds .now) (a .lows .now) (a .highs .now) (a .loads .now) ≡ false
+well-formed : (c : tie.Else1 Inv-loop μ-loop) → let a = c .before .before .before .before .before .before .before .before .before .args in malformedMeters (a .kinds .now) (a .lows .now) (a .highs .now) (a .loads .now) ≡ false
 well-formed c = sym (c .before .malformed-row .ensures) ∙ c .if1 .left
 
 even : (c : tie.Else2 Inv-loop μ-loop) → let a = c .before .before .before .before .before .before .before .before .before .before .before .args in eqb (length (a .counts .now)) (length (a .loads .now)) && eqb (length (a .bytes .now)) (length (a .loads .now)) ≡ true

@@ -17,7 +17,7 @@ module _ (s : tie.Start) where
   memory = ofWindows (s .args .windows .now) (s .args .image .now)
 
   abbrev given : FirstHanded
-  given = record { top = s .args .stage .top; writable = s .args .writable; flags = take (s .args .count) (s .args .flags .now) }
+  given = record { top = s .args .position .top; writable = s .args .writable; flags = take (s .args .count) (s .args .flags .now) }
 
   -- an entry at its address in a page
   there : (s .args .at - s .args .at % 4096) + s .args .at % 4096 ≡ s .args .at
@@ -45,7 +45,7 @@ returns-2 c =
     let a = s .args in
     let l = c .before .before .level-step in
     let got = (rw (c .before .before .before .before .before .e .given .1) at (c .before .before .before .before .before .before .before .page-entry8-by .ensures .0)) ∙ ap (entry 1 (memory s)) (there s) in
-    (rw (← got) (l .ensures .0 (a .stage .top)), (l .ensures .1 .0, (l .ensures .1 .1 .0, l .ensures .1 .1 .1)))
+    (rw (← got) (l .ensures .0 (a .position .top)), (l .ensures .1 .0, (l .ensures .1 .1 .0, l .ensures .1 .1 .1)))
 
 pub level-entry-spec : {M : Type 1} → statement M
 level-entry-spec =

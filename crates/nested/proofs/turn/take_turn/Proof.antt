@@ -10,7 +10,7 @@ use Rattle.image.specs.Windows.{ofWindows}
 use Rattle.dma.specs.Walk.{Step}
 use Rattle.nested.specs.Answers.{levelOf, levelPlace}
 use Rattle.nested.specs.Pages.{Pages, FirstHanded, firstHanded}
-use Rattle.nested.specs.Stages.{entryOver}
+use Rattle.nested.specs.Positions.{entryOver}
 use Rattle.nested.proofs.Firsts.{levelOver, entered, entered-at, grows-more}
 use Rattle.nested.proofs.Rests.{onward, onward-at}
 use Rattle.nested.proofs.Turns.{turned}
@@ -51,14 +51,14 @@ returns c =
     let told = rw (c .before .before .before .before .before .before .at .given .1) at (l .ensures) in
     let e = c .before .before .before .level-entry in
     let n = c .after-level in
-    let handed-in = firstHanded (a .stage .top) (take (a .stage .count) (a .flags .now)) in
-    let this : a .stage .level ≡ suc (a .stage .level - 1) = omega (arith, told .0) in
-    let over = entered (w .space .registers) (w .space .entry) (w .asked .address) (w .asked .write) m (a .stage .level - 1) (a .stage .at) handed-in (told .4) in
+    let handed-in = firstHanded (a .position .top) (take (a .position .count) (a .flags .now)) in
+    let this : a .position .level ≡ suc (a .position .level - 1) = omega (arith, told .0) in
+    let over = entered (w .space .registers) (w .space .entry) (w .asked .address) (w .asked .write) m (a .position .level - 1) (a .position .at) handed-in (told .4) in
     let stepped = rw this at (e .ensures .0) in
-    let there = entered-at (w .space .registers) (w .space .entry) (w .asked .address) (w .asked .write) m (a .stage .level - 1) (a .stage .at) handed-in (told .4) (entryAt (a .stage .last)) in
-    turned (n .result) w (a .stage) m (a .flags .now) (e .last .1 .1 .1 .1 .1 .1 .0) _ (levelPlace (e .result)) (n .ensures .0 _) (n .ensures .1 .0) (n .ensures .1 .1)
-    (onward (w .space .registers) (w .space .entry) (w .asked .address) (w .asked .write) m (a .stage .level) (a .stage .at) handed-in (told .0) _ (stepped ∙ over))
-    (onward-at (w .space .registers) (w .space .entry) (w .asked .address) (w .asked .write) m (a .stage .level) (a .stage .at) handed-in (told .0) (entryAt (a .stage .last)) (e .ensures .1 .0 ∙ there) _ (stepped ∙ over))
+    let there = entered-at (w .space .registers) (w .space .entry) (w .asked .address) (w .asked .write) m (a .position .level - 1) (a .position .at) handed-in (told .4) (entryAt (a .position .last)) in
+    turned (n .result) w (a .position) m (a .flags .now) (e .last .1 .1 .1 .1 .1 .1 .0) _ (levelPlace (e .result)) (n .ensures .0 _) (n .ensures .1 .0) (n .ensures .1 .1)
+    (onward (w .space .registers) (w .space .entry) (w .asked .address) (w .asked .write) m (a .position .level) (a .position .at) handed-in (told .0) _ (stepped ∙ over))
+    (onward-at (w .space .registers) (w .space .entry) (w .asked .address) (w .asked .write) m (a .position .level) (a .position .at) handed-in (told .0) (entryAt (a .position .last)) (e .ensures .1 .0 ∙ there) _ (stepped ∙ over))
 
 same-length-2 : tie.Need-same-length-2
 same-length-2 c = search needs

@@ -13,22 +13,22 @@ use Rattle.image.specs.Windows.{ofWindows}
 use Rattle.image.proofs.Choices.{neither, above-zero}
 use Rattle.pasid.specs.declared.table.PasidEntry.{PasidEntry}
 use Rattle.nested.specs.Pages.{FirstHanded, firstHanded, locate, SecondWalkable}
-use Rattle.nested.specs.Stages.{StageFits}
-use Rattle.nested.specs.declared.stage.Stage.{Stage}
+use Rattle.nested.specs.Positions.{PositionFits}
+use Rattle.nested.specs.declared.position.Position.{Position}
 use Rattle.nested.proofs.Leads.{PageTells, page-tells, fault-tells}
 use Rattle.nested.proofs.Nested.{itself}
 use Rattle.nested.proofs.Rests.{entry-place}
 use Rattle.nested.proofs.way.locate.Statement.{statement}
 use Rattle.nested.proofs.way.locate.Tie as tie
 
-few : (p : PasidEntry) (s : Stage) → StageFits p s → s .level ≤ 5
+few : (p : PasidEntry) (s : Position) → PositionFits p s → s .level ≤ 5
 few p s fits = by (s .level) (λ more. fits .0 more .1)
   where
     by : (level : ℕ) → (0 < level → level ≤ 5) → level ≤ 5
     by zero h = omega arith
     by (suc n) h = h (omega arith)
 
-asks : (p : PasidEntry) (s : Stage) → StageFits p s → (eqb (s .level) 0 || eqb (p .kind) 3) ≡ true → SecondWalkable p × (s .count ≤ 41)
+asks : (p : PasidEntry) (s : Position) → PositionFits p s → (eqb (s .level) 0 || eqb (p .kind) 3) ≡ true → SecondWalkable p × (s .count ≤ 41)
 asks p s fits second = by (eqb (s .level) 0) refl
   where
     by : (t : Bool) → eqb (s .level) 0 ≡ t → SecondWalkable p × (s .count ≤ 41)
@@ -43,13 +43,13 @@ module _ (s : tie.Start) where
   memory = ofWindows (s .args .windows .now) (s .args .image .now)
 
   abbrev given : FirstHanded
-  given = firstHanded (s .args .stage .top) (take (s .args .stage .count) (s .args .flags .now))
+  given = firstHanded (s .args .position .top) (take (s .args .position .count) (s .args .flags .now))
 
 place-of-requires : tie.Need-place-of-requires
 place-of-requires c κs =
     let s = c .before .before .before in
     let fits = s .pre .1 in
-    (few (s .args .walk .space .entry) (s .args .stage) fits, λ more. (fits .0 more .2, fits .0 more .3))
+    (few (s .args .walk .space .entry) (s .args .position) fits, λ more. (fits .0 more .2, fits .0 more .3))
 
 -- an entry, which stands at its address itself
 returns : tie.Need-returns
@@ -58,8 +58,8 @@ returns c =
     let w = s .args .walk in
     let at = c .before .before .place-of in
     let other = neither _ _ (sym (c .before .through-second .ensures) ∙ not-true (c .before .through-second .result) (c .if1 .taken)) in
-    let more = above-zero (s .args .stage .level) (other .0) in
-    let place = entry-place (w .space .registers) (w .space .entry) (w .asked .address) (w .asked .write) (memory s) (s .args .stage .level) (s .args .stage .at) (at .result) (given s) (at .ensures .0) more in
+    let more = above-zero (s .args .position .level) (other .0) in
+    let place = entry-place (w .space .registers) (w .space .entry) (w .asked .address) (w .asked .write) (memory s) (s .args .position .level) (s .args .position .at) (at .result) (given s) (at .ensures .0) more in
     let fine = at .ensures .1 more in (
       more,
       fine .0,
@@ -74,13 +74,13 @@ module _ (e : tie.Else1) where
   abbrev start : tie.Start
   start = e .before .before .before .before .before .before
 
-  second : (eqb (start .args .stage .level) 0 || eqb (start .args .walk .space .entry .kind) 3) ≡ true
+  second : (eqb (start .args .position .level) 0 || eqb (start .args .walk .space .entry .kind) 3) ≡ true
   second = sym (e .before .through-second .ensures) ∙ not-false (e .before .through-second .result) (e .if1 .left)
 
 intermediate-requires : tie.Need-intermediate-requires
 intermediate-requires c κs =
     let s = start (c .before) in
-    let may = asks (s .args .walk .space .entry) (s .args .stage) (s .pre .1) (second (c .before)) in
+    let may = asks (s .args .walk .space .entry) (s .args .position) (s .pre .1) (second (c .before)) in
     (s .pre .0, may .0, omega (arith, may .1, s .pre .2))
 
 host-address-requires : tie.Need-host-address-requires
@@ -99,14 +99,14 @@ told : (h : tie.After-host-address) → let k = h .before .before .before .befor
     let e = k .before .before in
     let a = start e .args in
     let n = h .before .before .frame .given .0 in
-    PageTells (a .walk) (a .stage) (memory (start e)) (a .flags .now) (after k) (e .before .before .place-of .result) (n .0) (n .1 .0) (h .host-address .result) (n .1 .1 .0) (n .1 .1 .1 .0)
+    PageTells (a .walk) (a .position) (memory (start e)) (a .flags .now) (after k) (e .before .before .place-of .result) (n .0) (n .1 .0) (h .host-address .result) (n .1 .1 .0) (n .1 .1 .1 .0)
 told h =
     let k = h .before .before .before .before .before .before in
     let e = k .before .before in
     let s = start e in
     let at = e .before .before .place-of in
     let said = rw (h .before .before .frame .given .1) at (k .intermediate .ensures) in
-    page-tells (s .args .walk) (s .args .stage) (memory s) (s .args .flags .now) (after k) (at .result) (at .ensures .0) (second e) (s .pre .1) (λ more. at .ensures .1 more .0)
+    page-tells (s .args .walk) (s .args .position) (memory s) (s .args .flags .now) (after k) (at .result) (at .ensures .0) (second e) (s .pre .1) (λ more. at .ensures .1 more .0)
     (h .host-address .ensures) (said .0) (said .1 .1 .0) (said .1 .1 .1 .1)
 
 returns-2 : tie.Need-returns-2
@@ -128,7 +128,7 @@ returns-4 c =
     let s = start e in
     let at = e .before .before .place-of in
     let said = rw (c .before .reason .given .1) at (k .intermediate .ensures) in
-    fault-tells (s .args .walk) (s .args .stage) (memory s) (s .args .flags .now) (after k) (at .result) (at .ensures .0) (second e) (c .before .reason .given .0 .0) (said .0) (said .1 .0)
+    fault-tells (s .args .walk) (s .args .position) (memory s) (s .args .flags .now) (after k) (at .result) (at .ensures .0) (second e) (c .before .reason .given .0 .0) (said .0) (said .1 .0)
 
 pub locate-spec : {M : Type 1} → statement M
 locate-spec =

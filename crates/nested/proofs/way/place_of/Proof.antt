@@ -4,7 +4,7 @@ use native.Mathlib.Omega.{arith}
 use borrow.Author.Needs.{needs}
 use borrow.Author.Tests.{eq-eqb, ne-eqb}
 use Rattle.dma.proofs.Steps.{index-lt}
-use Rattle.nested.specs.Stages.{placeAt}
+use Rattle.nested.specs.Positions.{placeAt}
 use Rattle.nested.proofs.way.place_of.Statement.{statement}
 use Rattle.nested.proofs.way.place_of.Tie as tie
 

@@ -2,7 +2,7 @@ use mathlib.Core.Path.{_≡_}
 use borrow.Author.Tests.{eq-eqb, ne-eqb}
 use Rattle.nested.proofs.way.wanted_at.Statement.{statement}
 use Rattle.nested.proofs.way.wanted_at.Tie as tie
-use Rattle.nested.specs.Stages.{wantedAt}
+use Rattle.nested.specs.Positions.{wantedAt}
 
 returns : tie.Need-returns
 unfolding wantedAt

@@ -14,7 +14,7 @@ use Rattle.pasid.specs.declared.table.PasidEntry.{PasidEntry}
 use Rattle.first.specs.First.{notCanonical}
 use Rattle.nested.specs.Answers.{PagesNames}
 use Rattle.nested.specs.Pages.{Pages, wantedOfPage, toPage}
-use Rattle.nested.specs.Stages.{kindRules}
+use Rattle.nested.specs.Positions.{kindRules}
 use Rattle.nested.proofs.Nested.{within}
 use Rattle.scalable.specs.Requests.{secondPages, pagedRules}
 use borrow.Author.Needs.{needs}

@@ -1,4 +1,4 @@
--- What a walk's stages and turns say: for the code's contracts, the rules don't use it.
+-- What a walk's positions and turns say: for the code's contracts, the rules don't use it.
 use Prim.Native.Nat.{ℕ, _+_, _-_, _*_, _%_, _^_, _<_, _≤_}
 use mathlib.Core.Bool.{Bool}
 use mathlib.Core.List.{List, []}
@@ -18,8 +18,8 @@ use Rattle.nested.specs.Pages.{Pages, FirstHanded, firstHanded, noFirstE
 use Rattle.nested.specs.Then.{thenRules}
 use Rattle.nested.specs.Way.{located}
 use Rattle.nested.specs.declared.Pages.{Pages as PagesCode}
-use Rattle.nested.specs.declared.stage.Stage.{Stage}
-use Rattle.nested.specs.declared.stage.Walk.{Walk}
+use Rattle.nested.specs.declared.position.Position.{Position}
+use Rattle.nested.specs.declared.position.Walk.{Walk}
 use Rattle.nested.specs.declared.turn.Turn.{Turn}
 use Rattle.nested.specs.declared.turn.Turn.the-variants as turn
 use Rattle.nested.specs.declared.way.Way.{Way}
@@ -52,20 +52,20 @@ abbrev pub PagesTell : PagesCode → Rules Pages → Memory → Place → (flags
 PagesTell r q m before flags =
     (pagesOf r flags ≡ run q m) × PagesNames r (lastTried before q m) × Reachable (pagesOf r flags) × PagesGrows r 47
 
--- the rules that are left at a stage
-abbrev pub stageRules : Walk → Stage → (flags : List ℕ) → Rules Pages
-stageRules w s flags =
+-- the rules that are left at a position
+abbrev pub positionRules : Walk → Position → (flags : List ℕ) → Rules Pages
+positionRules w s flags =
     restRules (w .space .registers) (w .space .entry) (w .asked .address) (w .asked .write) (s .level) (s .at) (firstHanded (s .top) (take (s .count) flags))
 
--- a stage as a walk comes to it. A level of the first level adds at most 8 flags: 5 + 1 of the second level, where D is one, and A and EA;
+-- a position as a walk comes to it. A level of the first level adds at most 8 flags: 5 + 1 of the second level, where D is one, and A and EA;
 -- 5 levels make 40, D of the page's entry 1 more. The page adds 5 + 1, so that 47 is the most
-abbrev pub StageFits : PasidEntry → Stage → Type 0
-StageFits p s =
+abbrev pub PositionFits : PasidEntry → Position → Type 0
+PositionFits p s =
     (0 < s .level → FirstWalkable p × (s .level ≤ 5) × (s .at % 4096 ≡ 0) × (s .at < 2 ^ 52) × (s .count + 8 * s .level ≤ 40))
     × (s .level ≡ 0 → SecondWalkable p × (s .count ≤ 41))
 
--- what a way tells of a stage, over the flags before it and after it: where the entry is, or what the walk ends with
-abbrev pub WayTells : Way → Walk → Stage → Memory → (before after : List ℕ) → Type 0
+-- what a way tells of a position, over the flags before it and after it: where the entry is, or what the walk ends with
+abbrev pub WayTells : Way → Walk → Position → Memory → (before after : List ℕ) → Type 0
 WayTells (way.Entry at writable count) w s m before after =
     (0 < s .level)
     × (at % 8 ≡ 0)
@@ -73,20 +73,20 @@ WayTells (way.Entry at writable count) w s m before after =
     × (count ≤ s .count + 6)
     × (located at (record { top = s .top; writable = writable; flags = take count after })
     ≡ run (locate (w .space .registers) (w .space .entry) (firstHanded (s .top) (take (s .count) before)) (placeIn (w .asked .address) (s .at) (s .level - 1))) m)
-WayTells (way.Done r) w s m before after = PagesTell r (stageRules w s before) m (entryAt (s .last)) after
+WayTells (way.Done r) w s m before after = PagesTell r (positionRules w s before) m (entryAt (s .last)) after
 
 -- a turn leaves the same to be answered, and the same entry to stop at
-abbrev pub TurnTells : Turn → Walk → Stage → Memory → (before after : List ℕ) → Type 0
+abbrev pub TurnTells : Turn → Walk → Position → Memory → (before after : List ℕ) → Type 0
 TurnTells (turn.On next) w s m before after =
-    StageFits (w .space .entry) next
+    PositionFits (w .space .entry) next
     × (next .level < s .level)
-    × (run (stageRules w next after) m ≡ run (stageRules w s before) m)
-    × (lastTried (entryAt (next .last)) (stageRules w next after) m ≡ lastTried (entryAt (s .last)) (stageRules w s before) m)
-TurnTells (turn.Done r) w s m before after = PagesTell r (stageRules w s before) m (entryAt (s .last)) after
+    × (run (positionRules w next after) m ≡ run (positionRules w s before) m)
+    × (lastTried (entryAt (next .last)) (positionRules w next after) m ≡ lastTried (entryAt (s .last)) (positionRules w s before) m)
+TurnTells (turn.Done r) w s m before after = PagesTell r (positionRules w s before) m (entryAt (s .last)) after
 
 -- the rules that follow a turn, and the entry that it tried last: of a fault the one it names
 abbrev pub turnRules : Turn → Walk → (flags : List ℕ) → Rules Pages
-turnRules (turn.On next) w flags = stageRules w next flags
+turnRules (turn.On next) w flags = positionRules w next flags
 turnRules (turn.Done r) w flags = answer (pagesOf r flags)
 
 abbrev pub TurnLast : Turn → Place → Type 0
@@ -94,5 +94,5 @@ TurnLast (turn.On next) place = entryAt (next .last) ≡ place
 TurnLast (turn.Done r) place = PagesNames r place
 
 abbrev pub TurnFits : Turn → PasidEntry → (level : ℕ) → Type 0
-TurnFits (turn.On next) p level = StageFits p next × (next .level < level)
+TurnFits (turn.On next) p level = PositionFits p next × (next .level < level)
 TurnFits (turn.Done r) p level = Reachable (pagesOf r []) × PagesGrows r 47

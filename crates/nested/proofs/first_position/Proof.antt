@@ -4,8 +4,8 @@ use mathlib.Core.List.{List, []}
 use mathlib.Core.Path.{_≡_, refl}
 use native.Mathlib.Omega.{arith}
 use Rattle.nested.proofs.Rests.{second-alone, first-too}
-use Rattle.nested.proofs.first_stage.Statement.{statement}
-use Rattle.nested.proofs.first_stage.Tie as tie
+use Rattle.nested.proofs.first_position.Statement.{statement}
+use Rattle.nested.proofs.first_position.Tie as tie
 
 returns : tie.Need-returns
 returns c =
@@ -24,5 +24,5 @@ returns-2 c =
       λ registers write flags. first-too registers (s .args .entry) (s .args .address) write other (first .0) [] refl,
     )
 
-pub first-stage-spec : {M : Type 1} → statement M
-first-stage-spec = tie.close (tie.spec returns returns-2)
+pub first-position-spec : {M : Type 1} → statement M
+first-position-spec = tie.close (tie.spec returns returns-2)

@@ -13,7 +13,7 @@ pub struct Walk {
     pub asked: Asked,
 }
 
-pub struct Stage {
+pub struct Position {
     // The level of the first-level entry that comes next; 0 for the page itself, which is at an intermediate address.
     pub level: u32,
     // The entry's table; the page's address.
