@@ -1,17 +1,17 @@
 -- The claims on listed spans.
-use Prim.Native.Nat.{ℕ, suc, _+_, _-_, _*_, _/_, _%_, _^_, _≤_, _<_, min}
-use mathlib.Core.Bool.{Bool, true, false, not, _&&_, _||_}
-use mathlib.Core.List.{List, [], _∷_, _++_, List·Memᴰ, List·Memᴰ·append-cases, List·Memᴰ·not-nil}
-use mathlib.Core.Logic.{_⊎_, inl, inr, ⊎-elim}
+use Prim.Native.Nat.{ℕ, _+_, _-_, _*_, _/_, _%_, _^_, _≤_, _<_, min}
+use mathlib.Core.Bool.{Bool, true, false, not}
+use mathlib.Core.List.{List, [], _∷_, List·Memᴰ, List·Memᴰ·append-cases, List·Memᴰ·not-nil}
+use mathlib.Core.Logic.{_⊎_, ⊎-elim}
 use mathlib.Core.Path.{_≡_, refl, ap, sym, _∙_, subst}
 use native.Mathlib.Nat.{mod-lt, mul-assoc, mul-comm, add-zero}
 use native.Mathlib.Omega.{arith}
-use borrow.Author.Tests.{lt-leb, ltb-false, not-true, lt-ltb, le-leb, leb-true}
-use lib.Dec.{eqb, leb, ltb}
+use borrow.Author.Tests.{lt-leb, not-true, lt-ltb, leb-true}
+use lib.Dec.{leb, ltb}
 use lib.ListN.{length, take, drop, take-append-drop, drop-of-length-le}
 use lib.Pow.{split, high, low, pow-pos, pow-add}
 use Rattle.image.specs.Choice.{if_then_else_}
-use Rattle.image.specs.Memory.{Memory, missing, entry}
+use Rattle.image.specs.Memory.{Memory, entry}
 use Rattle.image.specs.Rules.{run}
 use Rattle.image.specs.Windows.{Window, windowsOf, endOf, holdsAll, nowhere, spotIn, overlap, entryIn, ofWindows}
 use Rattle.image.proofs.Choices.{both as both-true, neither}
@@ -31,16 +31,16 @@ use Rattle.dma.proofs.Lookups.{looked-up, Finds, finds}
 use Rattle.dma.proofs.Steps.{offset-of}
 use Rattle.translation.specs.Rights.{both, rightOf}
 use Rattle.translation.proofs.Agree.{both-right}
-use Rattle.regions.specs.Outside.{touchedByAny, tableOutside}
+use Rattle.regions.specs.Outside.{touchedByAny}
 use Rattle.regions.specs.Region.{What, Region, isListed}
 use Rattle.regions.specs.Region as region
 use Rattle.regions.proofs.Regions.{same-region}
 use Rattle.mapping.specs.Mapping.{spaceEnd, regionAt, spans, mappingRules}
-use Rattle.mapping.specs.Spans.{Span, spanOf, spansFrom}
+use Rattle.mapping.specs.Spans.{Span, spanOf}
 use Rattle.mapping.proofs.Outcomes.{page-power, source-context, translates}
 use Rattle.mapping.proofs.SpanLaws.{same-block, offset-in}
 use Rattle.agreement.specs.Claims.{NoEntryOutside, WindowsTell, WalkedTables, ListedWhereWalked, In, request, answerAt, lacking, toldBy, SpansAgree, Before, OthersLack, InOrder, SpansInOrder}
-use Rattle.agreement.proofs.Members.{first-part, Begun, begun, there, ordered}
+use Rattle.agreement.proofs.Members.{first-part, begun, there, ordered}
 use Rattle.agreement.proofs.RegionAnswers.{said, answered, region-alike}
 
 -- a window that holds a word of a table touches it

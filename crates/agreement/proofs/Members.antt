@@ -1,21 +1,20 @@
 -- The spans of a listing: where each begins, that none is left out, and their order; over any account of an address space in which every
 -- address of a region has it.
-use Prim.Native.Nat.{ℕ, zero, suc, _+_, _-_, _*_, _/_, _%_, _^_, _≤_, _<_, min}
+use Prim.Native.Nat.{ℕ, zero, suc, _+_, _-_, _*_, _/_, _%_, _≤_, _<_, min}
 use mathlib.Core.Bool.{Bool, true, false, _&&_}
 use mathlib.Core.List.{List, [], _∷_, _++_, List·Memᴰ, List·Memᴰ·head, List·Memᴰ·tail, List·Memᴰ·append-cases, List·Memᴰ·cases-cons, List·Memᴰ·eq-of-singleton, List·Memᴰ·not-nil}
-use mathlib.Core.Logic.{_⊎_, inl, inr, ⊎-elim}
+use mathlib.Core.Logic.{_⊎_, ⊎-elim}
 use mathlib.Core.Path.{_≡_, refl, ap, sym, _∙_, subst}
 use native.Mathlib.Decide.{decLe}
 use native.Mathlib.Omega.{arith}
 use borrow.Author.Tests.{eq-eqb, eqb-true}
 use lib.Dec.{eqb}
-use lib.ListN.{length, take, drop, take-append-drop}
-use lib.Pow.{split, high, low, pow-pos, pow-add}
+use lib.Pow.{low, pow-pos}
 use Rattle.image.specs.Choice.{if_then_else_}
 use Rattle.image.proofs.Choices.{both as both-true}
 use Rattle.dma.specs.InterruptRange.{spanAt}
 use Rattle.regions.specs.Region.{Region, isListed}
-use Rattle.mapping.specs.Spans.{Span, spanOf, begins, spanHere, spansFrom, spansAfter}
+use Rattle.mapping.specs.Spans.{Span, spanOf, begins, spanHere, spansFrom}
 use Rattle.mapping.proofs.SpanLaws.{same-block, offset-in}
 use Rattle.agreement.specs.Claims.{InOrder}
 

@@ -1,6 +1,6 @@
 -- The region of an address beside the walk of an untranslated request there.
-use Prim.Native.Nat.{ℕ, zero, suc, _+_, _*_, _/_, _%_, _^_, _<_, _≤_}
-use mathlib.Core.Bool.{Bool, true, false, _&&_}
+use Prim.Native.Nat.{ℕ, zero, suc, _+_, _*_, _/_, _^_, _<_}
+use mathlib.Core.Bool.{Bool, true, false}
 use mathlib.Core.Path.{_≡_, refl, ap, sym, _∙_, subst}
 use native.Mathlib.Nat.{mod-lt}
 use native.Mathlib.Omega.{arith}
@@ -14,14 +14,14 @@ use Rattle.dma.specs.InterruptRange.{meetsInterruptRange, spanAt}
 use Rattle.dma.specs.Page.{denied, ownRight, leafAt, pageReserved, pageCheck, hostAddress}
 use Rattle.dma.specs.Requests.{MemoryOutcome, granted, blocked, refused, memoryOutcome}
 use Rattle.dma.specs.Translation as plain
-use Rattle.dma.specs.Walk.{Step, done, down, onStep, placeIn, walkRules, stepOver}
+use Rattle.dma.specs.Walk.{Step, done, onStep, placeIn, walkRules, stepOver}
 use Rattle.dma.specs.declared.MemoryRequest.{MemoryRequest}
 use Rattle.dma.proofs.Steps.{index-of}
 use Rattle.dma.proofs.Walks.{walk-step}
 use Rattle.faults.specs.Record.{memoryFault}
 use Rattle.translation.specs.Completion.{Completion, entryStep}
 use Rattle.translation.specs.Completion as completion
-use Rattle.translation.specs.Rights.{both, neither, joined, rightOf, someLeft}
+use Rattle.translation.specs.Rights.{neither, joined, rightOf}
 use Rattle.translation.specs.declared.Rights.{Rights}
 use Rattle.translation.proofs.Entries.{step-cases, joined-right, none-left, check-clear, check-lost, check-own}
 use Rattle.regions.specs.Region.{What, Region, ended, regionIn}

@@ -20,7 +20,7 @@ use Rattle.image.proofs.Choices.{either, chosen}
 use Rattle.image.proofs.Fields.{fits}
 use Rattle.image.proofs.Stages.{run-cases}
 use Rattle.image.proofs.Trees.{run-map}
-use Rattle.registers.specs.Admission.{Admitted, refusal, admission, onAdmission, inInterruptRange}
+use Rattle.registers.specs.Admission.{Admitted, admission, onAdmission, inInterruptRange}
 use Rattle.registers.specs.Registers.{registersBad}
 use Rattle.registers.specs.declared.Registers.{Registers}
 use Rattle.faults.specs.Record.{indexField, interruptRecord, interruptFault}

@@ -17,7 +17,7 @@ use Rattle.image.specs.Windows.{badWindows, ofWindows}
 use Rattle.image.proofs.Choices.{either}
 use Rattle.image.proofs.Forks.{Every, every-answer, every-more, every-run}
 use Rattle.image.proofs.Trees.{run-map}
-use Rattle.registers.specs.Admission.{Admitted, refusal, admission, onAdmission, inInterruptRange}
+use Rattle.registers.specs.Admission.{Admitted, admission, onAdmission, inInterruptRange}
 use Rattle.registers.specs.Registers.{registersBad}
 use Rattle.registers.specs.declared.Registers.{Registers}
 use Rattle.faults.specs.Record.{memoryRecord, memoryFault}

@@ -1,9 +1,9 @@
 -- A block that was finished is framed: its parts, one by one.
-use Prim.Native.Nat.{ℕ, zero, suc, _+_, _*_, _-_, _/_, _^_, _≤_, _<_}
+use Prim.Native.Nat.{ℕ, zero, suc, _+_, _*_, _-_, _^_, _≤_, _<_}
 use mathlib.Core.Path.{_≡_, refl, ap, sym, _∙_}
 use mathlib.Core.List.{List, [], _∷_, _++_, append-assoc}
 use mathlib.Core.Bool.{true}
-use native.Mathlib.Nat.{mod-lt, mod-eq-of-lt, mul-le-mul-left, mul-le-mul-right, mul-suc}
+use native.Mathlib.Nat.{mod-eq-of-lt, mul-le-mul-left, mul-le-mul-right, mul-suc}
 use native.Mathlib.Omega.{arith}
 use borrow.Author.Tests.{eq-eqb, le-leb}
 use lib.Dec.{eqb, lit<}

@@ -2,7 +2,7 @@
 use Prim.Native.Nat.{ℕ, _/_}
 use mathlib.Core.Bool.{Bool, true, false}
 use mathlib.Core.Path.{_≡_, refl, ap, sym, _∙_}
-use mathlib.Core.List.{List, [], _∷_}
+use mathlib.Core.List.{List}
 use mathlib.Core.Logic.{_⊎_, ⊎-elim}
 use native.Mathlib.Omega.{arith}
 use borrow.Author.Tests.{eq-eqb, ne-eqb}
@@ -10,14 +10,14 @@ use lib.ListN.{length}
 use denote.Enum.Declared.{tagOf}
 use Rattle.image.specs.Windows.{ofWindows}
 use Rattle.registers.specs.declared.Registers.{Registers}
-use Rattle.marking.specs.Marking.{Marked, markAll}
+use Rattle.marking.specs.Marking.{markAll}
 use Rattle.region.specs.Copy.{copiedIn, copiedOut}
 use Rattle.tables.specs.Tables.{Tables, tables}
 use Rattle.tables.specs.declared.Tree.{Tree}
 use Rattle.builder.specs.Answers.{readinessOf, unready}
-use Rattle.builder.specs.Build.{Built, allTaken, notReady, atItem, LentBuffers, lent, afterItems, fromCopy, whenReady, built}
+use Rattle.builder.specs.Build.{Built, allTaken, notReady, atItem, lent, afterItems, fromCopy, whenReady, built}
 use Rattle.builder.specs.Items.{takeItems}
-use Rattle.builder.specs.Ready.{Readiness, refusal, notYet, ready, readiness}
+use Rattle.builder.specs.Ready.{ready, readiness}
 use Rattle.builder.specs.declared.items.Taken.{Taken}
 use Rattle.builder.specs.declared.ready.Ready.{Ready}
 use Rattle.builder.specs.declared.ready.Ready.the-variants as code

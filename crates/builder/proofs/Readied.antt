@@ -1,9 +1,8 @@
 -- Laws of what comes before any item.
-use Prim.Native.Nat.{ℕ, _+_, _-_, _*_, _/_, _%_, _^_, _<_, _≤_}
-use mathlib.Core.Bool.{Bool, true, false, not, _&&_, _||_}
+use Prim.Native.Nat.{ℕ, _+_, _-_, _/_, _%_, _^_, _<_, _≤_}
+use mathlib.Core.Bool.{Bool, true, false, not, _||_}
 use mathlib.Core.Path.{_≡_, refl, ap, sym, _∙_, subst}
 use mathlib.Core.List.{List}
-use mathlib.Core.Logic.{_⊎_, ⊎-elim}
 use native.Mathlib.Omega.{arith}
 use borrow.Author.Tests.{eqb-true, ltb-false, leb-false, lt-ltb, le-ltb, eq-eqb, ne-eqb, not-false}
 use lib.Dec.{eqb, leb, ltb}
@@ -16,12 +15,12 @@ use Rattle.image.proofs.Choices.{both, neither}
 use Rattle.registers.specs.Registers.{registersBad}
 use Rattle.registers.specs.declared.Registers.{Registers}
 use Rattle.dma.specs.Context.{Usable as UsableContext}
-use Rattle.dma.specs.Lookup.{Lookup, context, noContext, onLookup, lookupRules}
+use Rattle.dma.specs.Lookup.{Lookup, onLookup, lookupRules}
 use Rattle.dma.specs.declared.context.Context.{Context}
 use Rattle.region.specs.Region.{notPages, pagesShown, badRegion}
 use Rattle.region.specs.Shared.{sharesTables}
 use Rattle.tables.specs.declared.Tree.{Tree}
-use Rattle.builder.specs.Ready.{Readiness, refusal, notYet, ready, sized, topOutside, treeOf, inContext, readiness, TablesReady, IfReady}
+use Rattle.builder.specs.Ready.{Readiness, refusal, notYet, ready, sized, topOutside, treeOf, inContext, readiness, TablesReady}
 
 pub top-below : (start size top : ℕ) → top < start → true ≡ topOutside start size top
 top-below start size top h = rw (lt-ltb top start h)

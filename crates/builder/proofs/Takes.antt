@@ -1,6 +1,6 @@
 -- Items taken, one and the next: for the code.
-use Prim.Native.Nat.{ℕ, _+_, _-_, _/_, _<_, _≤_}
-use mathlib.Core.Bool.{Bool, true, false}
+use Prim.Native.Nat.{ℕ, _+_, _-_, _<_, _≤_}
+use mathlib.Core.Bool.{true, false}
 use mathlib.Core.Path.{_≡_, refl, ap, sym, _∙_}
 use mathlib.Core.List.{List}
 use native.Mathlib.Omega.{arith}
@@ -12,7 +12,7 @@ use Rattle.tables.specs.Tables.{Tables}
 use Rattle.tables.specs.Unmapped.{unmapped}
 use Rattle.tables.specs.declared.Tree.{Tree}
 use Rattle.tables.proofs.Folds.{again, none-left}
-use Rattle.builder.specs.Items.{itemAt, changed, takeItem, thenTake, takeItems}
+use Rattle.builder.specs.Items.{itemAt, takeItem, thenTake, takeItems}
 use Rattle.builder.specs.Reasons.{unmaps, levelsBelow, leafOf, itemReason}
 use Rattle.builder.specs.declared.items.Item.{Item}
 use Rattle.builder.specs.declared.items.Taken.{Taken}

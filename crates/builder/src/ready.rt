@@ -1,7 +1,7 @@
 // Before any item: refusal 1, TE, the context and the region.
 ghost use mathlib.Core.Bool.{false};
 ghost use mathlib.Core.Path.{_≡_};
-ghost use Prim.Native.Nat.{_*_, _%_, _^_, _<_, _≤_};
+ghost use Prim.Native.Nat.{_<_};
 ghost use lib.ListN.{length};
 ghost use Rattle.image.specs.Windows.{badWindows};
 ghost use Rattle.dma.specs.Context.{Usable as UsableContext};

@@ -2,7 +2,7 @@
 ghost use mathlib.Core.Path.{_≡_};
 ghost use Prim.Native.Nat.{_^_, _<_, _≤_};
 ghost use Rattle.dma.specs.InterruptRange.{meetsInterruptRange};
-ghost use Rattle.builder.specs.Reasons.{unmaps as asksUnmap, rights, isLarge as large, levelsBelow, leafOf, badSize, badAlignment, badPlace, badFrame, placeReason, mapReason, itemReason};
+ghost use Rattle.builder.specs.Reasons.{unmaps as asksUnmap, isLarge as large, levelsBelow, leafOf, badSize, badAlignment, badPlace, badFrame, placeReason, mapReason, itemReason};
 use crate::items::Item;
 use dma::overflows;
 use image::field;

@@ -6,11 +6,10 @@ use mathlib.Core.Logic.{_⊎_, inl, inr, ⊎-elim}
 use native.Mathlib.Decide.{decLe}
 use native.Mathlib.Nat.{le-refl, mod-lt}
 use native.Mathlib.Omega.{arith}
-use borrow.Author.Tests.{leb-true, leb-false, le-leb, lt-leb, ltb-true, lt-ltb, eqb-true, eq-eqb, not-false}
+use borrow.Author.Tests.{leb-true, leb-false, le-leb, lt-leb, ltb-true, lt-ltb, eqb-true, not-false}
 use lib.Dec.{eqb, leb, ltb}
 use lib.Pow.{pow-add, pow-mono}
 use Rattle.image.specs.Bits.{bits, bit, anySet, inPlace}
-use Rattle.image.specs.Choice.{if_then_else_}
 use Rattle.image.proofs.Choices.{both, neither}
 use Rattle.image.proofs.Fields.{past-top}
 use Rattle.registers.specs.Admission.{inInterruptRange}
@@ -20,7 +19,7 @@ use Rattle.dma.specs.Page.{pageReserved, hostAddress}
 use Rattle.dma.specs.Translation.{overflows}
 use Rattle.dma.proofs.Reserved.{small, at-2}
 use Rattle.dma.proofs.Steps.{offset-of}
-use Rattle.builder.specs.Reasons.{unmaps, rights, isLarge, levelsBelow, leafOf, badSize, badAlignment, badPlace, badFrame, placeReason, mapReason, orElse, itemReason}
+use Rattle.builder.specs.Reasons.{unmaps, rights, isLarge, levelsBelow, leafOf, badSize, badAlignment, badPlace, badFrame, placeReason, mapReason, itemReason}
 use Rattle.builder.specs.declared.items.Item.{Item}
 use Rattle.builder.proofs.ItemLaws.{none-of, both-0}
 use Rattle.leaves.specs.Leaves.{holds}

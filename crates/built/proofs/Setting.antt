@@ -49,7 +49,7 @@ use Rattle.built.specs.Claims.{Unlisted}
 use Rattle.built.proofs.Apart.{Beside}
 use Rattle.built.proofs.Builds.{Readied, Completed, copyOf, markedOf, endOf, afterOf}
 use Rattle.built.proofs.Copies.{entry-below, bytes-in, word-in, entry-out, word-out}
-use Rattle.built.proofs.Inside.{copy-length, end-length, starts}
+use Rattle.built.proofs.Inside.{copy-length, end-length}
 use Rattle.built.proofs.Items.{items-keep}
 use Rattle.built.proofs.Stores.{bytes-word}
 use Rattle.built.proofs.Through.{word-below, word-of-page}

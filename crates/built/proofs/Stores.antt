@@ -1,15 +1,14 @@
 -- A word stored in a run of bytes.
-use Prim.Native.Nat.{ℕ, zero, suc, _+_, _/_, _^_, _≤_, _<_}
+use Prim.Native.Nat.{ℕ, _+_, _≤_}
 use mathlib.Core.Path.{_≡_, ap, _∙_}
-use mathlib.Core.List.{List, [], _∷_, _++_, append-assoc}
+use mathlib.Core.List.{List, _++_, append-assoc}
 use native.Mathlib.Decide.{decLe}
-use native.Mathlib.Nat.{mod-lt}
 use native.Mathlib.Omega.{arith}
-use lib.ListN.{length, getD, take, drop, List·getD-eq-default}
+use lib.ListN.{length, getD, take, drop}
 use lib.Seq.{length-take-le, take-at, drop-at, getD-drop}
 use Rattle.image.specs.Bytes.{bytesOf}
 use Rattle.image.specs.Memory.{withWord}
-use Rattle.image.proofs.Bytes.{AreBytes, length-bytesOf, byteOf, bytes-taken, bytes-append, bytes-number}
+use Rattle.image.proofs.Bytes.{AreBytes, length-bytesOf, bytes-taken, bytes-append, bytes-number}
 use Rattle.image.proofs.Stores.{stored, not-stored}
 
 module _ (bytes : List ℕ) (at word : ℕ) where

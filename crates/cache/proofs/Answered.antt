@@ -1,22 +1,20 @@
 -- The second engine over a lent state, by what becomes of a request at admission and by whether something held answers.
-use Prim.Native.Nat.{ℕ, _^_, _<_, _≤_}
-use mathlib.Core.Bool.{Bool, true, false}
+use Prim.Native.Nat.{ℕ, _<_, _≤_}
+use mathlib.Core.Bool.{Bool}
 use mathlib.Core.List.{List}
 use mathlib.Core.Path.{_≡_, refl, ap, ap₂, sym, _∙_}
 use borrow.Author.Tests.{lt-ltb, le-ltb}
 use lib.Dec.{ltb}
-use Rattle.image.specs.Choice.{if_then_else_}
 use Rattle.image.specs.Memory.{Memory}
 use Rattle.image.specs.Place.{Place, noEntry, stoppedAt}
-use Rattle.image.specs.Rules.{Rules, answer, run, mapRules}
+use Rattle.image.specs.Rules.{Rules, run}
 use Rattle.image.proofs.Places.{tried-map}
 use Rattle.image.proofs.Trees.{run-map}
-use Rattle.registers.specs.Admission.{Admitted, refusal, pass, takenUp, admission, onAdmission, inInterruptRange}
+use Rattle.registers.specs.Admission.{refusal, pass, takenUp, admission, inInterruptRange}
 use Rattle.registers.specs.declared.Registers.{Registers}
 use Rattle.dma.specs.Requests.{MemoryOutcome, granted, refused, memoryOutcome, concerned}
-use Rattle.dma.specs.Translation.{Translation, through, leaf, fault, translationRules}
 use Rattle.dma.specs.declared.MemoryRequest.{MemoryRequest}
-use Rattle.cache.specs.Engine.{admitted, rulesOf, domainOver, ifTaken}
+use Rattle.cache.specs.Engine.{rulesOf, domainOver}
 use Rattle.cache.specs.Numbers.{newest, heldAddress, stateKept, stateRules, stateAfter}
 
 -- an answer, the entry concerned in it and the state left

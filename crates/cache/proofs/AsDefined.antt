@@ -1,7 +1,7 @@
 -- The code's answers and what it leaves, over a state that holds a list, are those of the second engine as it is defined.
-use Prim.Native.Nat.{ℕ, zero, suc, _+_, _-_, _*_, _/_, _%_, _^_, _<_, _≤_, min}
-use mathlib.Core.Bool.{Bool, true, false, _&&_}
-use mathlib.Core.List.{List, [], _∷_, _++_}
+use Prim.Native.Nat.{ℕ, _+_, _-_, _*_, _%_, _^_, _<_, _≤_, min}
+use mathlib.Core.Bool.{Bool, true, false}
+use mathlib.Core.List.{List, [], _∷_}
 use mathlib.Core.Path.{_≡_, refl, ap, ap₂, sym, _∙_, subst}
 use native.Mathlib.Omega.{arith}
 use native.Mathlib.Nat.{lt-of-lt-of-le}
@@ -19,20 +19,20 @@ use Rattle.registers.proofs.Good.{taken-good}
 use Rattle.dma.specs.InterruptRange.{meetsInterruptRange, spanAt}
 use Rattle.dma.specs.Lookup.{Lookup, context, noContext, onLookup, lookupRules}
 use Rattle.dma.specs.Page.{hostAddress}
-use Rattle.dma.specs.Requests.{MemoryOutcome, granted, refused, memoryOutcome, memoryRules}
+use Rattle.dma.specs.Requests.{MemoryOutcome, granted, refused, memoryOutcome}
 use Rattle.dma.specs.Translation.{Translation, through, leaf, fault, pageRules, widthRules, translationRules}
 use Rattle.dma.specs.declared.context.Context.{Context}
 use Rattle.dma.specs.declared.MemoryRequest.{MemoryRequest}
 use Rattle.dma.proofs.Forks.{reachable}
 use Rattle.dma.proofs.Lookups.{looked-up}
 use Rattle.dma.proofs.Steps.{offset-of}
-use Rattle.places.specs.Layout.{words, headOf, keyIn, frameIn, placeOfAge, keyLevel}
-use Rattle.places.specs.Changes.{holding, sifted}
-use Rattle.cache.specs.Held.{Held, Hit, miss, hit, onHit, lookup, insert, without}
-use Rattle.cache.specs.Engine.{Operation, request, edit, invalidateAll, invalidateDomain, State, from, onGrant, ifTaken, admitted, rulesOf, heldAnswer, domainOver, cachedRules, cachedAs, heldAfter, step, answers, plainAnswers}
+use Rattle.places.specs.Layout.{words, headOf}
+use Rattle.places.specs.Changes.{holding}
+use Rattle.cache.specs.Held.{Held, Hit, miss, onHit, lookup, insert, without}
+use Rattle.cache.specs.Engine.{onGrant, ifTaken, admitted, rulesOf, heldAnswer, domainOver, cachedRules, cachedAs, heldAfter, step, answers, plainAnswers}
 use Rattle.cache.specs.Keys.{keyFor}
 use Rattle.cache.specs.Lent.{CacheCall, ask, change, dropAll, dropDomain, callAnswers, plainCalls, operations, Fair, AsDefined, EqualCalls}
-use Rattle.cache.specs.Numbers.{caches, newest, heldAddress, stateKept, stateRules, stateAfter, cachedAnswer, cachedState, stateWithout}
+use Rattle.cache.specs.Numbers.{caches, newest, heldAddress, stateKept, stateRules, stateAfter, stateWithout}
 use Rattle.cache.proofs.Found.{Finds, found, nothing, finds}
 use Rattle.cache.proofs.Holds.{Holdable, holdable-key, HeldAt, Holds, empty-holds, hold-holds}
 use Rattle.cache.proofs.Runs.{equal}

@@ -1,6 +1,6 @@
 -- Over a state that holds a list, the newest place that fits is where the list's newest that fits is held.
-use Prim.Native.Nat.{ℕ, zero, suc, _+_, _-_, _*_, _/_, _%_, _^_, _<_, _≤_, min}
-use mathlib.Core.Bool.{Bool, true, false, _&&_, Bool·beq}
+use Prim.Native.Nat.{ℕ, zero, suc, _+_, _-_, _*_, _/_, _^_, _<_, _≤_, min}
+use mathlib.Core.Bool.{Bool, true, false}
 use mathlib.Core.List.{List, [], _∷_}
 use mathlib.Core.Path.{_≡_, refl, ap, sym, _∙_, subst}
 use native.Mathlib.Omega.{arith}
@@ -8,16 +8,14 @@ use native.Mathlib.Decide.{decLt, decLe}
 use borrow.Author.Tests.{eq-eqb, eqb-true, lt-leb, le-leb, lt-ltb, le-ltb}
 use lib.Dec.{eqb, ltb, leb}
 use lib.ListN.{length}
-use Rattle.image.specs.Choice.{if_then_else_}
 use Rattle.dma.specs.declared.MemoryRequest.{MemoryRequest}
-use Rattle.places.specs.Layout.{words, keyIn, placeOfAge}
+use Rattle.places.specs.Layout.{words}
 use Rattle.places.specs.Chain.{ageOfKey}
 use Rattle.places.proofs.Linked.{First, age-of-key-first}
-use Rattle.cache.specs.Held.{Held, Hit, miss, hit, pageOf, fits, lookup}
-use Rattle.cache.specs.Keys.{keyNumber, keyOf, keyFor}
-use Rattle.cache.specs.Numbers.{caches, newest}
-use Rattle.cache.proofs.Caches.{newest-caches}
-use Rattle.cache.proofs.Holds.{Holdable, holdable-key, used-key, Slot, free, of, slotAt, HeldAt, Slots, Holds, slot-past}
+use Rattle.cache.specs.Held.{Held, miss, hit, pageOf, fits, lookup}
+use Rattle.cache.specs.Keys.{keyOf, keyFor}
+use Rattle.cache.specs.Numbers.{newest}
+use Rattle.cache.proofs.Holds.{Holdable, holdable-key, Slot, free, of, slotAt, HeldAt, Slots, Holds, slot-past}
 use Rattle.cache.proofs.Lists.{fitting}
 use Rattle.cache.proofs.Numbered.{key-level, key-same}
 use Rattle.cache.proofs.Page.{alike-test}

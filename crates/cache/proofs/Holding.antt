@@ -1,24 +1,22 @@
 -- What is cached, held and answered.
-use Prim.Native.Nat.{ℕ, zero, suc, _≤_, _<_}
+use Prim.Native.Nat.{ℕ, zero, suc, _≤_}
 use mathlib.Core.Bool.{Bool, true, false}
 use mathlib.Core.Path.{_≡_, refl, ap, sym, _∙_}
-use mathlib.Core.List.{List, [], _∷_, _++_, List·Memᴰ, List·Memᴰ·head, List·Memᴰ·tail, List·Memᴰ·not-nil, List·Memᴰ·cases-cons}
+use mathlib.Core.List.{List, [], _∷_, List·Memᴰ, List·Memᴰ·head, List·Memᴰ·tail, List·Memᴰ·not-nil, List·Memᴰ·cases-cons}
 use mathlib.Core.Logic.{_⊎_, inl, inr, ⊎-elim}
 use native.Mathlib.Omega.{arith}
-use borrow.Author.Tests.{eqb-true, ne-eqb, eq-eqb}
+use borrow.Author.Tests.{eqb-true}
 use lib.Dec.{eqb}
 use lib.ListN.{length, length-take, take as firsts}
 use Rattle.image.specs.Choice.{if_then_else_}
-use Rattle.image.specs.Memory.{Memory}
-use Rattle.image.specs.Rules.{Rules, answer, run, named, mapRules}
+use Rattle.image.specs.Rules.{Rules, answer, run, named}
 use Rattle.registers.specs.Admission.{Admitted, refusal, pass, takenUp, onAdmission}
 use Rattle.registers.specs.declared.Registers.{Registers}
 use Rattle.dma.specs.InterruptRange.{meetsInterruptRange, spanAt}
-use Rattle.dma.specs.Requests.{granted, refused, memoryOutcome}
+use Rattle.dma.specs.Requests.{granted, refused}
 use Rattle.dma.specs.Translation.{Translation, through, leaf, fault}
-use Rattle.dma.specs.declared.MemoryRequest.{MemoryRequest}
-use Rattle.cache.specs.Held.{Held, Hit, miss, hit, onHit, fits, lookup, insert, without}
-use Rattle.cache.specs.Engine.{Operation, request, edit, invalidateAll, invalidateDomain, State, from, onGrant, ifTaken, admitted, rulesOf, heldAnswer, cachedRules, cachedAs, heldAfter, step, left}
+use Rattle.cache.specs.Held.{Held, Hit, miss, hit, fits, lookup, insert, without}
+use Rattle.cache.specs.Engine.{Operation, request, edit, invalidateAll, invalidateDomain, State, from, admitted, rulesOf, heldAnswer, cachedRules, cachedAs, heldAfter, step, left}
 use Rattle.cache.specs.Claims.{OnlyPages, AtMost64, Held64, PushedOut, ByDomain, Newest, MustAnswer, JustThose}
 use Rattle.cache.proofs.Lists.{mem-without, mem-lookup}
 

@@ -1,21 +1,17 @@
 -- The numbers of a state that hold a list of translations, and what each change of them makes of the list.
-use Prim.Native.Nat.{ℕ, zero, suc, _+_, _-_, _*_, _/_, _%_, _^_, _<_, _≤_}
-use mathlib.Core.Bool.{Bool, true, false, _||_}
-use mathlib.Core.List.{List, [], _∷_, _++_, append-nil, append-assoc}
+use Prim.Native.Nat.{ℕ, zero, suc, _+_, _-_, _/_, _^_, _<_, _≤_}
+use mathlib.Core.List.{List, [], _∷_, _++_}
 use mathlib.Core.Path.{_≡_, refl, ap, sym, _∙_, subst}
 use native.Mathlib.Omega.{arith}
 use native.Mathlib.Decide.{decLe, ℕ-discrete}
-use borrow.Author.Tests.{eq-eqb, ne-eqb}
-use lib.Dec.{eqb}
-use lib.ListN.{length, length-append, length-take, getD, replicate, take}
-use Rattle.image.specs.Choice.{if_then_else_}
-use Rattle.places.specs.Layout.{words, headOf, keyIn, frameIn, domainIn, placeOfAge, keyLevel}
-use Rattle.places.specs.Changes.{beforeOf, holding, freed, resettled, sifted}
+use lib.ListN.{length, length-take, replicate, take}
+use Rattle.places.specs.Layout.{words, keyIn, frameIn, domainIn, placeOfAge}
+use Rattle.places.specs.Changes.{holding, freed}
 use Rattle.places.proofs.Lengths.{length-holding, length-freed}
 use Rattle.places.proofs.Linked.{Linked, Flagged}
-use Rattle.places.proofs.Kept.{head-new, newest-key, newest-frame, newest-domain, older-key, older-frame, older-domain, hold-linked, hold-flagged, freed-head, freed-place, freed-key, freed-there, freed-elsewhere, freed-linked, freed-flagged, zero-at}
-use Rattle.cache.specs.Held.{Held, insert, without}
-use Rattle.cache.specs.Keys.{keyNumber, keyOf}
+use Rattle.places.proofs.Kept.{newest-key, newest-frame, newest-domain, older-key, older-frame, older-domain, hold-linked, hold-flagged, freed-place, freed-key, freed-there, freed-elsewhere, freed-linked, freed-flagged, zero-at}
+use Rattle.cache.specs.Held.{Held, insert}
+use Rattle.cache.specs.Keys.{keyOf}
 use Rattle.cache.proofs.Numbered.{key-level}
 
 -- what a word can hold: what a walk that is granted reaches is so

@@ -1,9 +1,8 @@
 -- A translation is settled by the words that it named: a leaf stays while they do.
-use Prim.Native.Nat.{ℕ, zero, suc, _≤_}
-use mathlib.Core.Bool.{Bool, true, false}
+use Prim.Native.Nat.{ℕ, _≤_}
+use mathlib.Core.Bool.{Bool}
 use mathlib.Core.Path.{_≡_, refl, ap, sym, _∙_}
 use mathlib.Core.List.{List, [], _∷_}
-use mathlib.Core.Logic.{_⊎_, inl, inr}
 use native.Mathlib.Omega.{arith}
 use native.Mathlib.Decide.{ℕ-discrete}
 use Rattle.image.specs.EntryKind.{EntryKind}
@@ -12,11 +11,9 @@ use Rattle.image.specs.Rules.{Rules, answer, run, named, SameIn}
 use Rattle.image.proofs.Forks.{Every, every-answer, every-more, every-outside}
 use Rattle.image.proofs.Local.{local}
 use Rattle.image.proofs.Trees.{Outside, met}
-use Rattle.registers.specs.Registers.{registersBad}
-use Rattle.registers.specs.Admission.{Admitted, refusal, pass, takenUp, admission}
+use Rattle.registers.specs.Admission.{takenUp, admission}
 use Rattle.registers.specs.declared.Registers.{Registers}
 use Rattle.registers.proofs.Good.{taken-good}
-use Rattle.image.specs.Choice.{if_then_else_}
 use Rattle.dma.specs.Translation.{Translation, through, leaf, fault, pageStep, widthRules, translationRules}
 use Rattle.dma.proofs.Cases.{width-cases}
 use Rattle.dma.proofs.Lookups.{every-lookup}

@@ -6,10 +6,8 @@ use native.Mathlib.Omega.{arith}
 use native.Mathlib.Decide.{ℕ-discrete}
 use borrow.Author.Tests.{eq-eqb, ne-eqb}
 use lib.Dec.{eqb}
-use Rattle.image.specs.Choice.{if_then_else_}
-use Rattle.dma.specs.declared.MemoryRequest.{MemoryRequest}
-use Rattle.cache.specs.Held.{Held, pageOf, fits}
-use Rattle.cache.specs.Keys.{writeNumber, keyNumber, keyOf, keyFor}
+use Rattle.cache.specs.Held.{pageOf}
+use Rattle.cache.specs.Keys.{writeNumber, keyNumber}
 
 -- a test that is three tests
 module _ (x y s t p q : ℕ) (w v : Bool) where

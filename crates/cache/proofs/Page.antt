@@ -1,21 +1,19 @@
 -- All addresses of a page go by the same entries: a leaf that one of them reaches, each of them reaches.
-use Prim.Native.Nat.{ℕ, zero, suc, _+_, _-_, _*_, _/_, _^_, _<_, _≤_, min}
-use mathlib.Core.Bool.{Bool, true, false, not, _&&_}
+use Prim.Native.Nat.{ℕ, zero, suc, _+_, _-_, _*_, _/_, _^_, _≤_, min}
+use mathlib.Core.Bool.{Bool, true, false, not}
 use mathlib.Core.Path.{_≡_, refl, ap, sym, _∙_}
 use native.Mathlib.Omega.{arith}
-use native.Mathlib.Decide.{decLe}
-use borrow.Author.Tests.{le-leb, eqb-true, leb-true}
 use lib.Dec.{eqb, leb}
 use lib.Pow.{shr-shr}
-use Rattle.image.specs.Bits.{bits, bit, anySet}
+use Rattle.image.specs.Bits.{bits, bit}
 use Rattle.image.specs.Check.{Check, stop, go, onCheck}
 use Rattle.image.specs.Choice.{if_then_else_}
 use Rattle.image.specs.Memory.{Memory, Fetched, missing, found, entry, onFetch}
-use Rattle.image.specs.Rules.{Rules, answer, fetch, run}
+use Rattle.image.specs.Rules.{Rules, answer, run}
 use Rattle.registers.specs.declared.Registers.{Registers}
 use Rattle.registers.proofs.Powers.{shifted}
 use Rattle.dma.specs.Lookup.{Lookup, context, noContext, onLookup, lookupRules}
-use Rattle.dma.specs.Page.{denied, pageCheck, pageReserved, leafAt}
+use Rattle.dma.specs.Page.{pageCheck, leafAt}
 use Rattle.dma.specs.Translation.{Translation, through, leaf, fault, pageStep, pageRules, widthRules, translationRules}
 use Rattle.dma.specs.Walk.{Step, done, down, onStep, placeIn, walkRules}
 use Rattle.dma.specs.declared.context.Context.{Context}

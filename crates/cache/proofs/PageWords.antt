@@ -1,21 +1,21 @@
 -- All addresses of a page name the same words.
-use Prim.Native.Nat.{ℕ, zero, suc, _+_, _-_, _*_, _/_, _^_, _<_, _≤_, min}
+use Prim.Native.Nat.{ℕ, zero, suc, _+_, _-_, _*_, _^_, _≤_, min}
 use mathlib.Core.Bool.{Bool, true, false}
-use mathlib.Core.List.{List, [], _∷_, _++_}
+use mathlib.Core.List.{List, [], _++_}
 use mathlib.Core.Path.{_≡_, refl, ap, sym, _∙_}
 use native.Mathlib.Omega.{arith}
 use lib.Dec.{eqb, leb}
 use Rattle.image.specs.Check.{Check, stop, go, onCheck}
 use Rattle.image.specs.Choice.{if_then_else_}
 use Rattle.image.specs.Memory.{Memory, Fetched, missing, found, entry, onFetch}
-use Rattle.image.specs.Rules.{Rules, answer, fetch, run, named, wordsFrom}
+use Rattle.image.specs.Rules.{Rules, answer, run, named, wordsFrom}
 use Rattle.registers.specs.Source.{busOf, devfnOf}
 use Rattle.registers.specs.declared.Registers.{Registers}
 use Rattle.dma.specs.Context.{contextCheck, faultProcessingDisabled}
 use Rattle.dma.specs.Lookup.{contextRules, rootRules}
 use Rattle.dma.specs.Page.{pageCheck, leafAt}
 use Rattle.dma.specs.Root.{rootCheck}
-use Rattle.dma.specs.Translation.{Translation, through, leaf, fault, pageStep, pageRules, widthRules, translationRules}
+use Rattle.dma.specs.Translation.{Translation, through, leaf, fault, pageStep, pageRules, widthRules}
 use Rattle.dma.specs.Walk.{Step, done, down, onStep, placeIn, walkRules}
 use Rattle.dma.specs.declared.context.Context.{Context}
 use Rattle.cache.specs.Claims.{PageWords}

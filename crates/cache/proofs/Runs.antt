@@ -1,17 +1,17 @@
 -- Ask 11's claims over any run of operations.
-use Prim.Native.Nat.{ℕ, _≤_}
+use Prim.Native.Nat.{ℕ}
 use mathlib.Core.Bool.{Bool, true, false}
 use mathlib.Core.Path.{_≡_, refl, ap, sym, _∙_, subst}
 use mathlib.Core.List.{List, [], _∷_, List·Memᴰ, List·Memᴰ·not-nil}
 use mathlib.Core.Logic.{_⊎_, inl, inr, ⊎-elim}
 use native.Mathlib.Omega.{arith}
 use Rattle.image.specs.Memory.{Memory}
-use Rattle.image.specs.Rules.{Rules, answer, run, named, mapRules, SameIn}
-use Rattle.registers.specs.Admission.{Admitted, refusal, pass, takenUp, admission, onAdmission, inInterruptRange}
+use Rattle.image.specs.Rules.{Rules, answer, run, mapRules, SameIn}
+use Rattle.registers.specs.Admission.{Admitted, refusal, pass, takenUp, onAdmission, inInterruptRange}
 use Rattle.registers.specs.declared.Registers.{Registers}
 use Rattle.image.specs.Choice.{if_then_else_}
 use Rattle.dma.specs.InterruptRange.{meetsInterruptRange, spanAt}
-use Rattle.dma.specs.Requests.{MemoryOutcome, granted, refused, memoryOutcome, memoryRules}
+use Rattle.dma.specs.Requests.{granted, refused, memoryOutcome, memoryRules}
 use Rattle.dma.specs.Translation.{Translation, through, leaf, fault, translationRules}
 use Rattle.dma.specs.declared.MemoryRequest.{MemoryRequest}
 use Rattle.dma.proofs.Admissions.{takes}

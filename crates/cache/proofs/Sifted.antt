@@ -1,20 +1,20 @@
 -- Sifting takes out what is of a domain and leaves the others in their order.
-use Prim.Native.Nat.{ℕ, zero, suc, _+_, _-_, _%_, _<_, _≤_}
+use Prim.Native.Nat.{ℕ, zero, suc, _+_, _-_, _%_, _≤_}
 use mathlib.Core.Bool.{Bool, true, false, _||_}
 use mathlib.Core.List.{List, [], _∷_, _++_, append-nil, append-assoc}
 use mathlib.Core.Path.{_≡_, refl, ap, sym, _∙_, subst}
 use native.Mathlib.Omega.{arith}
-use native.Mathlib.Decide.{decLe, ℕ-discrete}
+use native.Mathlib.Decide.{ℕ-discrete}
 use borrow.Author.Tests.{eq-eqb, ne-eqb}
 use lib.Dec.{eqb}
-use lib.ListN.{length, length-append, getD, take}
+use lib.ListN.{length, length-append, take}
 use Rattle.image.specs.Choice.{if_then_else_}
-use Rattle.places.specs.Layout.{words, headOf, keyIn, frameIn, domainIn, placeOfAge}
-use Rattle.places.specs.Changes.{beforeOf, holding, freed, resettled, sifted}
+use Rattle.places.specs.Layout.{headOf, keyIn, frameIn, domainIn, placeOfAge}
+use Rattle.places.specs.Changes.{holding, freed, resettled, sifted}
 use Rattle.places.proofs.Kept.{head-new, freed-head}
-use Rattle.cache.specs.Held.{Held, insert, without}
+use Rattle.cache.specs.Held.{Held, without}
 use Rattle.cache.specs.Keys.{keyOf}
-use Rattle.cache.proofs.Holds.{Holdable, holdable-key, used-key, Slot, free, of, slotAt, HeldAt, Slots, Holds, slot-past, slot-seam, hold-holds, freed-holds}
+use Rattle.cache.proofs.Holds.{holdable-key, used-key, Slot, free, of, slotAt, HeldAt, Slots, Holds, slot-past, slot-seam, hold-holds, freed-holds}
 use Rattle.cache.proofs.Holding.{held64}
 
 -- a list that isn't empty has a last one

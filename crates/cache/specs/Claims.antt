@@ -11,11 +11,11 @@ use Rattle.registers.specs.Admission.{takenUp}
 use Rattle.registers.specs.declared.Registers.{Registers}
 use Rattle.dma.specs.InterruptRange.{meetsInterruptRange, spanAt}
 use Rattle.dma.specs.Lookup.{context, lookupRules}
-use Rattle.dma.specs.Requests.{MemoryOutcome, memoryRules}
+use Rattle.dma.specs.Requests.{memoryRules}
 use Rattle.dma.specs.declared.context.Context.{Context}
 use Rattle.dma.specs.Translation.{leaf, translationRules}
 use Rattle.dma.specs.declared.MemoryRequest.{MemoryRequest}
-use Rattle.cache.specs.Held.{Held, Hit, miss, hit, pageOf, fits, lookup, insert, without}
+use Rattle.cache.specs.Held.{Held, miss, hit, pageOf, fits, lookup, insert, without}
 use Rattle.cache.specs.Engine.{Operation, request, edit, invalidateAll, invalidateDomain, State, from, cachedRules, cachedAs, heldAfter, rulesOf, heldWords, admitted, step, left, answers, plainAnswers, TakenOut}
 
 module _ (registers : Registers) where

@@ -14,7 +14,7 @@ use Rattle.dma.specs.Page.{hostAddress}
 use Rattle.dma.specs.Requests.{MemoryOutcome, granted, refused, memoryOutcome, memoryRules}
 use Rattle.dma.specs.Translation.{Translation, through, leaf, fault, translationRules}
 use Rattle.dma.specs.declared.MemoryRequest.{MemoryRequest}
-use Rattle.cache.specs.Held.{Held, Hit, miss, hit, onHit, lookup, insert, without}
+use Rattle.cache.specs.Held.{Held, Hit, miss, onHit, lookup, insert, without}
 
 -- a page that a walk ended with and that is granted: one that meets the interrupt range is refusal 4
 abbrev pub onGrant {ℓ} : {A : Type ℓ} → Translation → A → (ℕ → ℕ → A) → A

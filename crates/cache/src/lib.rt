@@ -1,5 +1,4 @@
 // A cache of 64 translations in front of the walk: a second engine for memory requests. Its state is lent as numbers.
-ghost use mathlib.Core.Bool.{false};
 ghost use mathlib.Core.Path.{_≡_};
 ghost use Prim.Native.Nat.{_%_};
 ghost use lib.ListN.{length, replicate};

@@ -1,5 +1,5 @@
 // What a lent state answers and takes in.
-ghost use Prim.Native.Nat.{_<_, _^_, min};
+ghost use Prim.Native.Nat.{_<_, min};
 ghost use mathlib.Core.Path.{_≡_};
 ghost use lib.ListN.{length};
 ghost use Rattle.dma.specs.Answers.{translationOf};

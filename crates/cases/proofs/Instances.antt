@@ -1,12 +1,12 @@
 -- Demand 3 at the bench image and at memories with a hole: its premises can be met.
-use Prim.Native.Nat.{ℕ, zero, suc, _+_, _-_, _*_, _%_, _^_, _≤_, _<_}
+use Prim.Native.Nat.{ℕ, zero, suc, _+_, _-_, _^_, _≤_, _<_}
 use mathlib.Core.Bool.{Bool, true, false}
 use mathlib.Core.Path.{_≡_, refl, ap, sym, _∙_, fun-ext, subst}
-use mathlib.Core.List.{List, [], _∷_, _++_, List·Memᴰ, List·Memᴰ·head, List·Memᴰ·tail, List·Memᴰ·not-nil, List·Memᴰ·cases-cons}
-use mathlib.Core.Logic.{_⊎_, inl, inr, ⊎-elim}
+use mathlib.Core.List.{List, [], _∷_, List·Memᴰ, List·Memᴰ·head, List·Memᴰ·tail, List·Memᴰ·not-nil, List·Memᴰ·cases-cons}
+use mathlib.Core.Logic.{_⊎_, inr, ⊎-elim}
 use native.Mathlib.Omega.{arith}
 use native.Mathlib.Decide.{decLe}
-use borrow.Author.Tests.{le-leb, lt-leb, leb-true}
+use borrow.Author.Tests.{leb-true}
 use lib.Dec.{leb, lit≤}
 use lib.ListN.{length, getD, set, take, drop, take-append-drop, length-set, length-take, length-drop, List·getD-append}
 use lib.Seq.{getD-set-same, getD-set-other, take-append-le, drop-append-le}
@@ -15,7 +15,7 @@ use Rattle.image.specs.Bytes.{littleEndian, bytesOf}
 use Rattle.image.specs.Choice.{if_then_else_}
 use Rattle.image.specs.Memory.{Memory, Fetched, missing, found, wordAt, ofImage, entry}
 use Rattle.image.specs.Rules.{run, mapRules, named, entriesOf, wordsFrom}
-use Rattle.image.specs.Windows.{Window, windowsOf, holdsAll, Spot, nowhere, here, onSpot, spotIn, entryIn, ofWindows, badWithAny, badList, badWindows, flat}
+use Rattle.image.specs.Windows.{Window, windowsOf, Spot, nowhere, here, onSpot, spotIn, entryIn, ofWindows, badWithAny, badList, badWindows, flat}
 use Rattle.image.proofs.FlatWindow.{flat-is, flat-fine}
 use Rattle.image.proofs.GoodWindows.{holding, past-it}
 use Rattle.image.proofs.Longer.{SameWord, SameWords, longer}
@@ -24,10 +24,10 @@ use Rattle.registers.specs.Registers.{registersBad}
 use Rattle.registers.specs.declared.Registers.{Registers}
 use Rattle.faults.specs.Record.{memoryFault}
 use Rattle.dma.specs.Context.{contextReserved, contextInvalid, contextCheck}
-use Rattle.dma.specs.Isolation.{answerOver, accessFault, walkedByAny, Disjoint, Apart, SwitchedEntry, BothFetched}
+use Rattle.dma.specs.Isolation.{answerOver, accessFault, walkedByAny, Disjoint, SwitchedEntry, BothFetched}
 use Rattle.dma.specs.Lookup.{contextRules, rootRules}
 use Rattle.dma.specs.Page.{pageReserved, pageCheck}
-use Rattle.dma.specs.Requests.{MemoryOutcome, granted, memoryRules, memoryAnswer, tableEntries}
+use Rattle.dma.specs.Requests.{granted, memoryRules, memoryAnswer, tableEntries}
 use Rattle.dma.specs.Root.{rootReserved, rootCheck}
 use Rattle.dma.specs.Translation.{widthRules}
 use Rattle.dma.specs.Walk.{walkRules}
@@ -44,7 +44,7 @@ use Rattle.interrupts.specs.declared.InterruptRequest.{InterruptRequest}
 use Rattle.irte.specs.Irte.{reservedIrte, irteCheck}
 use Rattle.irte.specs.Source.{sourceAllowed}
 use Rattle.unit.specs.Isolation.{memoryOver, translationOver, interruptOver}
-use Rattle.unit.specs.Lent.{Lent, memoryOf, spotOf, byteOf, SameWordAt, SameWordsAt, SwitchedAt, ShowsAll}
+use Rattle.unit.specs.Lent.{Lent, spotOf, SameWordAt, SameWordsAt, SwitchedAt}
 use Rattle.unit.proofs.Demand3.{isolation, flat-images}
 use Rattle.cases.specs.Bench.{layout, onward, inWords, bench, benchRegisters}
 use Rattle.cases.specs.Instances.{

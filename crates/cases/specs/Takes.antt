@@ -1,6 +1,6 @@
 -- Ask 13's claims at concrete images: their premises can be met, and their bounds can't be lowered. Proved in proofs/Takes.antt.
 use Prim.Native.Nat.{ℕ, _+_, _-_, _*_, _^_, _<_}
-use mathlib.Core.Bool.{true, false}
+use mathlib.Core.Bool.{true}
 use mathlib.Core.List.{List, [], _∷_, _++_}
 use mathlib.Core.Path.{_≡_}
 use lib.ListN.{getD, replicate}

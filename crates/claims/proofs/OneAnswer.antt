@@ -4,7 +4,6 @@ use mathlib.Core.Path.{_≡_, refl}
 use native.Mathlib.Omega.{arith}
 use Rattle.faults.proofs.Numbers.{numberOf-injective, answerOf-injective}
 use Rattle.dma.proofs.Injective as memory
-use Rattle.dma.specs.declared.MemoryAnswer.the-variants.{Granted, Blocked, Refused}
 use Rattle.translation.proofs.Injective as translation
 use Rattle.interrupts.proofs.Injective as interrupts
 use Rattle.takes.specs.declared.TakeAnswer.the-variants.{Vector, Nothing, Refused as Untaken}

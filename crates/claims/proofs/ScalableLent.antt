@@ -1,16 +1,14 @@
 -- Demand 3 for requests in scalable mode, over lent memory.
-use Prim.Native.Nat.{ℕ, _≤_}
-use mathlib.Core.List.{List, [], _∷_}
+use Prim.Native.Nat.{_≤_}
 use mathlib.Core.Path.{_≡_, sym}
-use Rattle.image.specs.Rules.{named, SameIn}
-use Rattle.image.specs.Windows.{ofWindows, entryIn}
+use Rattle.image.specs.Rules.{named}
 use Rattle.scalable.specs.Requests.{scalableRules}
 use Rattle.scalable.proofs.Isolation.{scalable-locality}
 use Rattle.rights.specs.Rights.{walkedByAny}
 use Rattle.rights.proofs.Aligned.{aligned-walked}
 use Rattle.rights.proofs.More.{scalable-more-memory}
 use Rattle.rights.proofs.Rights.{scalable-rights-on, scalable-rights-off}
-use Rattle.unit.specs.Lent.{Lent, memoryOf, SameWordAt, SameWordsAt}
+use Rattle.unit.specs.Lent.{memoryOf}
 use Rattle.unit.proofs.Demand3.{same-words}
 use Rattle.unit.proofs.HostBytes.{words-switched, words-kept}
 use Rattle.claims.specs.ScalableLent.{ScalableIsolation}

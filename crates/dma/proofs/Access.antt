@@ -5,7 +5,6 @@ use mathlib.Core.Bool.{Bool, true, false}
 use mathlib.Core.Path.{_≡_, ap, ap₂, sym, _∙_}
 use native.Mathlib.Omega.{arith}
 use Rattle.image.specs.Place.{noEntry}
-use Rattle.image.specs.Rules.{run}
 use Rattle.image.proofs.Forks.{every-outside}
 use Rattle.image.proofs.Local.{local}
 use Rattle.image.proofs.Places.{local-place}

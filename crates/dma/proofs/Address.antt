@@ -1,12 +1,12 @@
 -- Address bits from HAW up, for any HAW.
-use Prim.Native.Nat.{ℕ, suc, _^_, _≤_, _<_}
+use Prim.Native.Nat.{ℕ, suc, _^_, _≤_}
 use mathlib.Core.Path.{_≡_, ap, sym, _∙_}
 use native.Mathlib.Omega.{arith}
 use native.Mathlib.Decide.{decLe}
 use native.Mathlib.Nat.{sub-zero}
 use lib.Dec.{leb}
 use Rattle.image.specs.Bits.{bits, anySet}
-use Rattle.image.proofs.Fields.{fits, whole, upside-down}
+use Rattle.image.proofs.Fields.{fits, upside-down}
 use Rattle.registers.proofs.Powers.{field-above, beyond}
 
 -- some bit from HAW up to high is set exactly when what stands in high:0 is at or above 2^HAW

@@ -1,5 +1,5 @@
 -- What every fork of a memory request's rules satisfies, and every answer: the one traversal of its tree.
-use Prim.Native.Nat.{ℕ, zero, suc, _%_, _^_, _<_, _≤_}
+use Prim.Native.Nat.{ℕ, suc, _%_, _<_, _≤_}
 use mathlib.Core.Bool.{Bool, true, false}
 use mathlib.Core.Path.{_≡_, refl, sym, _∙_, subst}
 use native.Mathlib.Omega.{arith}
@@ -17,8 +17,7 @@ use Rattle.dma.specs.Isolation.{accessFault}
 use Rattle.dma.specs.Page.{pageCheck, leafAt}
 use Rattle.dma.specs.Requests.{MemoryOutcome, granted, refused, memoryOutcome, memoryRules}
 use Rattle.dma.specs.Translation.{Translation, through, leaf, fault, Reachable, pageStep, pageRules, widthRules, translationRules}
-use Rattle.dma.specs.Walk.{Step, done, down, placeIn}
-use Rattle.dma.specs.declared.context.Context.{Context}
+use Rattle.dma.specs.Walk.{Step, done, down}
 use Rattle.dma.specs.declared.MemoryRequest.{MemoryRequest}
 use Rattle.dma.proofs.Admissions.{taken-root}
 use Rattle.dma.proofs.Cases.{width-cases}

@@ -6,7 +6,6 @@ use Rattle.image.proofs.Places.{placeOf-injective}
 use Rattle.faults.specs.Answers.{faultOf}
 use Rattle.faults.proofs.Contents.{faultOf-injective}
 use Rattle.dma.specs.Answers.{outcomeOf, entryOf}
-use Rattle.dma.specs.Requests.{MemoryOutcome, granted, blocked, refused}
 use Rattle.dma.specs.declared.MemoryAnswer.{MemoryAnswer}
 use Rattle.dma.specs.declared.MemoryAnswer.the-variants.{Granted, Blocked, Refused}
 

@@ -7,7 +7,7 @@ use Rattle.image.specs.Choice.{if_then_else_}
 use Rattle.dma.specs.InterruptRange.{meetsInterruptRange, spanAt}
 use Rattle.dma.specs.Isolation.{accessFault}
 use Rattle.dma.specs.Page.{hostAddress}
-use Rattle.dma.specs.Requests.{MemoryOutcome, granted, refused, memoryOutcome}
+use Rattle.dma.specs.Requests.{granted, refused, memoryOutcome}
 use Rattle.dma.specs.Translation.{leaf}
 use Rattle.dma.specs.declared.MemoryRequest.{MemoryRequest}
 

@@ -1,16 +1,12 @@
 -- Document 01: never more than nine words for a memory request; and with TE off, or refused by 1 or 2, none.
-use Prim.Native.Nat.{ℕ}
-use mathlib.Core.Bool.{Bool, true, false}
 use mathlib.Core.Path.{_≡_, refl, ap, sym, _∙_}
-use mathlib.Core.List.{List, [], _∷_, _++_}
+use mathlib.Core.List.{[]}
 use Rattle.image.specs.Rules.{mapRules, named}
 use Rattle.image.proofs.Forks.{every-named}
 use Rattle.registers.specs.Admission.{Admitted, refusal, pass, takenUp, admission, onAdmission, inInterruptRange}
-use Rattle.registers.specs.declared.Registers.{Registers}
 use Rattle.dma.specs.Named.{AtMostNine, NoneUntaken}
-use Rattle.dma.specs.Requests.{MemoryOutcome, granted, refused, memoryOutcome, memoryRules}
+use Rattle.dma.specs.Requests.{granted, refused, memoryOutcome, memoryRules}
 use Rattle.dma.specs.Translation.{translationRules}
-use Rattle.dma.specs.declared.MemoryRequest.{MemoryRequest}
 use Rattle.dma.proofs.Forks.{Fork, Ends, memory-forks}
 
 pub at-most-nine : AtMostNine

@@ -1,5 +1,5 @@
 -- No granted host address lies in the interrupt range.
-use Prim.Native.Nat.{ℕ, suc, _+_, _-_, _*_, _^_, _≤_, _<_}
+use Prim.Native.Nat.{ℕ, _+_, _-_, _≤_, _<_}
 use mathlib.Core.Bool.{Bool, true, false, _&&_}
 use mathlib.Core.Path.{_≡_, refl, ap, sym, _∙_, subst}
 use native.Mathlib.Decide.{decLe}
@@ -14,9 +14,9 @@ use Rattle.registers.specs.Registers.{registersBad}
 use Rattle.registers.specs.declared.Registers.{Registers}
 use Rattle.dma.specs.InterruptRange.{meetsInterruptRange, spanAt}
 use Rattle.dma.specs.Isolation.{answerOver}
-use Rattle.dma.specs.NoInterrupt.{NoInterruptGranted, Clear, TestedExactly, WholeFrameTested}
+use Rattle.dma.specs.NoInterrupt.{NoInterruptGranted, Clear, WholeFrameTested}
 use Rattle.dma.specs.Page.{hostAddress}
-use Rattle.dma.specs.Requests.{MemoryOutcome, granted, refused, memoryOutcome}
+use Rattle.dma.specs.Requests.{granted, refused, memoryOutcome}
 use Rattle.dma.specs.Translation.{Translation, through, leaf, fault, translationRules}
 use Rattle.dma.specs.declared.MemoryRequest.{MemoryRequest}
 use Rattle.dma.proofs.Admissions.{refuses, passes, takes}

@@ -2,16 +2,14 @@
 use Prim.Native.Nat.{ℕ}
 use mathlib.Core.Path.{_≡_, sym, _∙_, subst}
 use native.Mathlib.Omega.{arith}
-use Rattle.image.specs.Place.{Place, noEntry, entryAt, stoppedAt}
+use Rattle.image.specs.Place.{noEntry, stoppedAt}
 use Rattle.image.specs.Rules.{Rules, run, mapRules}
 use Rattle.image.proofs.Places.{Some, some-fetch, tried-map}
 use Rattle.registers.specs.Admission.{Admitted, refusal, pass, takenUp, admission, onAdmission, inInterruptRange}
-use Rattle.registers.specs.declared.Registers.{Registers}
 use Rattle.dma.specs.Isolation.{AlwaysAnEntry}
 use Rattle.dma.specs.Lookup.{rootRules}
 use Rattle.dma.specs.Requests.{MemoryOutcome, granted, blocked, refused, memoryOutcome, concerned, memoryRules}
 use Rattle.dma.specs.Translation.{Translation, translationRules}
-use Rattle.dma.specs.declared.MemoryRequest.{MemoryRequest}
 
 pub always-an-entry : AlwaysAnEntry
 unfolding memoryRules run rootRules

@@ -1,15 +1,15 @@
 -- A page entry with rights switched on goes on where it went on before, to the same frame; so does a whole walk.
-use Prim.Native.Nat.{ℕ, zero, suc, _+_, _-_, _*_, _/_, _%_, _^_, _≤_, _<_}
+use Prim.Native.Nat.{ℕ, _+_, _-_, _*_, _/_, _%_, _^_, _≤_}
 use mathlib.Core.Bool.{Bool, true, false, not}
 use mathlib.Core.Path.{_≡_, refl, ap, sym, _∙_}
 use native.Mathlib.Omega.{arith}
-use borrow.Author.Tests.{eq-eqb, ne-eqb, eqb-true, not-true, not-false}
+use borrow.Author.Tests.{eq-eqb, ne-eqb, eqb-true, not-false}
 use lib.Dec.{eqb}
 use lib.Pow.{shr-shr}
-use Rattle.image.specs.Bits.{bits, bit, anySet, inPlace}
+use Rattle.image.specs.Bits.{bits, bit, anySet}
 use Rattle.image.specs.Check.{Check, stop, go, onCheck}
 use Rattle.image.specs.Choice.{if_then_else_}
-use Rattle.image.specs.Memory.{Memory, Fetched, entry}
+use Rattle.image.specs.Memory.{Memory, Fetched}
 use Rattle.image.specs.Rules.{run}
 use Rattle.image.proofs.Choices.{past}
 use Rattle.registers.specs.declared.Registers.{Registers}

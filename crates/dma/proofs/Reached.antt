@@ -1,14 +1,13 @@
 -- A granted request was let through, or its own walk reached the page.
-use Prim.Native.Nat.{ℕ, zero, suc, _+_, _-_, _*_, _^_, _≤_, _<_, min}
-use mathlib.Core.Bool.{Bool, true, false, not, _&&_}
+use Prim.Native.Nat.{ℕ, zero, suc, _+_, _-_, _*_, _^_, min}
+use mathlib.Core.Bool.{Bool, true, false, not}
 use mathlib.Core.Path.{_≡_, refl, ap, sym, _∙_, subst}
-use mathlib.Core.List.{List, [], _∷_, _++_, List·Memᴰ, List·Memᴰ·not-nil, List·Memᴰ·cases-cons}
+use mathlib.Core.List.{List, [], _∷_, List·Memᴰ, List·Memᴰ·not-nil, List·Memᴰ·cases-cons}
 use mathlib.Core.Logic.{_⊎_, inl, inr, ⊎-elim}
 use native.Mathlib.Omega.{arith}
-use borrow.Author.Tests.{le-leb, eqb-true, ne-eqb, not-false}
+use borrow.Author.Tests.{eqb-true, not-false}
 use lib.Dec.{eqb, leb}
-use lib.ListN.{length}
-use Rattle.image.specs.Bits.{bit, bits, anySet, inPlace}
+use Rattle.image.specs.Bits.{anySet}
 use Rattle.image.specs.Check.{Check, stop, go, onCheck}
 use Rattle.image.specs.Choice.{if_then_else_}
 use Rattle.image.specs.EntryKind.{EntryKind, isPage}
@@ -26,8 +25,8 @@ use Rattle.dma.specs.Context.{contextCheck, faultProcessingDisabled}
 use Rattle.dma.specs.Isolation.{answerOver}
 use Rattle.dma.specs.Lookup.{Lookup, context, noContext, onLookup, contextRules, rootRules, lookupRules}
 use Rattle.dma.specs.Page.{denied, ownRight, leafAt, pageReserved, pageCheck, hostAddress}
-use Rattle.dma.specs.Reached.{Path, frameOf, Reached, PassesThrough, Unchanged, GrantedByOwnWalk}
-use Rattle.dma.specs.Requests.{MemoryOutcome, granted, blocked, refused, memoryOutcome, memoryRules, walked}
+use Rattle.dma.specs.Reached.{Path, frameOf, Reached, Unchanged, GrantedByOwnWalk}
+use Rattle.dma.specs.Requests.{granted, refused, memoryOutcome, memoryRules, walked}
 use Rattle.dma.specs.Root.{rootCheck}
 use Rattle.dma.specs.Translation.{Translation, through, leaf, fault, pageStep, pageRules, widthRules, translationRules}
 use Rattle.dma.specs.Walk.{Step, done, down, onStep, placeIn, walkRules}

@@ -1,8 +1,8 @@
 -- Demand 3, claims 2 and 3: rights switched on never take back a grant, and rights switched off never give one.
-use Prim.Native.Nat.{ℕ, _+_, _*_, _%_, _≤_, _<_}
+use Prim.Native.Nat.{ℕ, _+_, _%_, _≤_, _<_}
 use mathlib.Core.Bool.{Bool, true, false}
 use mathlib.Core.Path.{_≡_, refl, ap, sym, _∙_}
-use mathlib.Core.List.{List, [], _∷_, _++_, List·Memᴰ, List·Memᴰ·head, List·Memᴰ·tail, List·Memᴰ·not-nil, List·Memᴰ·cases-cons}
+use mathlib.Core.List.{List, [], _∷_, List·Memᴰ, List·Memᴰ·head, List·Memᴰ·tail, List·Memᴰ·not-nil, List·Memᴰ·cases-cons}
 use mathlib.Core.Logic.{_⊎_, inl, inr, ⊎-elim}
 use native.Mathlib.Omega.{arith}
 use native.Mathlib.Decide.{decLe, ℕ-discrete}
@@ -10,7 +10,7 @@ use Rattle.image.specs.Check.{go}
 use Rattle.image.specs.Choice.{if_then_else_}
 use Rattle.image.specs.EntryKind.{isRootOrContext}
 use Rattle.image.specs.Memory.{Memory, Fetched, missing, found, join, entry}
-use Rattle.image.specs.Rules.{Rules, run, entriesOf, mapRules}
+use Rattle.image.specs.Rules.{Rules, run, entriesOf}
 use Rattle.image.proofs.Trees.{entries-map}
 use Rattle.registers.specs.Admission.{Admitted, refusal, pass, takenUp, admission, inInterruptRange}
 use Rattle.registers.specs.Registers.{registersBad}
@@ -18,7 +18,7 @@ use Rattle.registers.proofs.Good.{good}
 use Rattle.registers.specs.declared.Registers.{Registers}
 use Rattle.dma.specs.Isolation.{answerOver, walkedByAny, Disjoint, Apart, SwitchedEntry, BothFetched, Switched, RightsOn, RightsOff, Unshared}
 use Rattle.dma.specs.Lookup.{contextRules, rootRules}
-use Rattle.dma.specs.Requests.{MemoryOutcome, granted, memoryOutcome, memoryRules, tableEntries}
+use Rattle.dma.specs.Requests.{granted, memoryOutcome, memoryRules, tableEntries}
 use Rattle.dma.specs.Root.{rootCheck}
 use Rattle.dma.specs.Translation.{Translation, through, leaf, fault, translationRules}
 use Rattle.dma.specs.declared.MemoryRequest.{MemoryRequest}

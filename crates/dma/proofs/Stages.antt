@@ -1,16 +1,16 @@
 -- The stages before the page walk: where a root entry leads, and what a context entry's check ensures.
-use Prim.Native.Nat.{ℕ, _+_, _-_, _*_, _%_, _≤_, _<_}
+use Prim.Native.Nat.{ℕ, _-_, _%_, _≤_}
 use mathlib.Core.Bool.{Bool, true, false, not, _||_}
 use mathlib.Core.Path.{_≡_, refl, ap, sym, _∙_}
 use native.Mathlib.Omega.{arith}
 use borrow.Author.Tests.{eqb-true}
 use lib.Dec.{eqb}
-use Rattle.image.specs.Bits.{bits, bit, inPlace}
-use Rattle.image.specs.Check.{Check, stop, go, onCheck}
+use Rattle.image.specs.Bits.{bit, inPlace}
+use Rattle.image.specs.Check.{Check, go}
 use Rattle.image.specs.Choice.{if_then_else_}
 use Rattle.image.proofs.Choices.{past}
 use Rattle.registers.specs.declared.Registers.{Registers}
-use Rattle.dma.specs.Context.{addressWidth, levelsOf, translationType, widthSupported, contextReserved, contextInvalid, contextOf, contextCheck, Usable}
+use Rattle.dma.specs.Context.{addressWidth, levelsOf, translationType, contextReserved, contextInvalid, contextOf, contextCheck, Usable}
 use Rattle.dma.specs.Root.{rootReserved, rootCheck}
 use Rattle.dma.specs.declared.context.Context.{Context}
 

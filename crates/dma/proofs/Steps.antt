@@ -1,14 +1,13 @@
 -- Laws of page entries.
-use Prim.Native.Nat.{ℕ, zero, suc, _+_, _*_, _-_, _/_, _%_, _^_, _<_, _≤_}
-use mathlib.Core.Bool.{Bool, true, false, not}
+use Prim.Native.Nat.{ℕ, suc, _+_, _*_, _-_, _/_, _%_, _^_, _<_, _≤_}
+use mathlib.Core.Bool.{Bool, true, not}
 use mathlib.Core.Path.{_≡_, refl, ap, sym, _∙_, subst}
 use native.Mathlib.Omega.{arith}
 use native.Mathlib.Nat.{div-one}
 use lib.Dec.{lit≤}
 use lib.Pow.{pow-mono}
 use Rattle.image.specs.Bits.{bits, inPlace, anySet}
-use Rattle.image.specs.Check.{Check, stop, go}
-use Rattle.image.specs.Choice.{if_then_else_}
+use Rattle.image.specs.Check.{Check, go}
 use Rattle.image.proofs.Choices.{past}
 use Rattle.image.proofs.Fields.{fits, in-place-lt}
 use Rattle.registers.specs.declared.Registers.{Registers}

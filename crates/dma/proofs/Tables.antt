@@ -1,12 +1,10 @@
 -- A request granted over one memory is granted over another that has the same root and context entry and page entries with rights
 -- switched on.
-use Prim.Native.Nat.{ℕ, _+_, _*_, _^_, _%_, _≤_, min}
-use mathlib.Core.Bool.{Bool, true, false}
+use Prim.Native.Nat.{ℕ, _+_, _*_, _%_, _≤_}
+use mathlib.Core.Bool.{false}
 use mathlib.Core.Path.{_≡_, refl, ap, sym, _∙_}
 use native.Mathlib.Omega.{arith}
-use lib.Dec.{eqb, leb}
 use Rattle.image.specs.Check.{Check, stop, go, onCheck}
-use Rattle.image.specs.Choice.{if_then_else_}
 use Rattle.image.specs.Memory.{Memory, Fetched, missing, found, entry, onFetch}
 use Rattle.image.specs.Rules.{Rules, answer, run}
 use Rattle.registers.specs.Source.{busOf, devfnOf}

@@ -1,8 +1,7 @@
 -- Laws of a walk by levels, over any format of its entries.
-use Prim.Native.Nat.{ℕ, zero, suc, _+_, _*_, _%_, _<_, _≤_}
+use Prim.Native.Nat.{ℕ, zero, suc, _%_, _<_, _≤_}
 use mathlib.Core.Path.{_≡_, refl}
 use native.Mathlib.Omega.{arith}
-use Rattle.image.specs.Bits.{bits}
 use Rattle.image.specs.EntryKind.{EntryKind, pageEntry}
 use Rattle.image.specs.Memory.{Memory, Fetched, missing, found, entry, onFetch}
 use Rattle.image.specs.Place.{Place, entryAt, lastTried}

@@ -1,5 +1,5 @@
 -- How many words a memory request names. Proved in proofs/Nine.antt.
-use Prim.Native.Nat.{ℕ, _≤_}
+use Prim.Native.Nat.{_≤_}
 use mathlib.Core.Path.{_≡_}
 use mathlib.Core.List.{[]}
 use lib.ListN.{length}

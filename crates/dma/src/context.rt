@@ -3,7 +3,7 @@ ghost use mathlib.Core.Path.{_≡_};
 ghost use Prim.Native.Nat.{_<_};
 ghost use Rattle.image.specs.Bits.{bits};
 ghost use Rattle.image.specs.Answers.{number16};
-ghost use Rattle.dma.specs.Context.{addressWidth, levelsOf, translationType, widthSupported, contextReserved, contextInvalid, contextOf, faultProcessingDisabled};
+ghost use Rattle.dma.specs.Context.{addressWidth, translationType, widthSupported, contextReserved, contextInvalid, contextOf, faultProcessingDisabled};
 ghost use Rattle.image.specs.Place.{entryAt};
 ghost use Rattle.dma.specs.Answers.{lookupOf, lookupPlace};
 ghost use Rattle.dma.specs.Lookup.{checkedContext};

@@ -1,7 +1,7 @@
 // What entries have in common.
 ghost use mathlib.Core.Path.{_≡_};
 ghost use Prim.Native.Nat.{_<_};
-ghost use Rattle.image.specs.Bits.{bit, anySet, inPlace};
+ghost use Rattle.image.specs.Bits.{bit, inPlace};
 ghost use Rattle.image.specs.Answers.{number16};
 ghost use Rattle.dma.specs.Walk.{offsetIn};
 use image::Entry16;

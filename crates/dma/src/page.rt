@@ -2,8 +2,7 @@
 ghost use mathlib.Core.Bool.{false};
 ghost use mathlib.Core.Path.{_≡_};
 ghost use lib.ListN.{length};
-ghost use Prim.Native.Nat.{_+_, _*_, _-_, _%_, _^_, _<_, _≤_};
-ghost use Rattle.image.specs.Bits.{bits};
+ghost use Prim.Native.Nat.{_+_, _*_, _-_, _%_, _<_, _≤_};
 ghost use Rattle.image.specs.Answers.{fetched8};
 ghost use Rattle.image.specs.Memory.{entry};
 ghost use Rattle.image.specs.Place.{entryAt};

@@ -1,5 +1,4 @@
 // From the root entry to a page or a fault.
-ghost use mathlib.Core.Bool.{false};
 ghost use mathlib.Core.Path.{_≡_};
 ghost use lib.ListN.{length};
 ghost use Prim.Native.Nat.{_%_, _≤_, min};

@@ -1,5 +1,4 @@
 // The walk through the page tables, from the top level down.
-ghost use mathlib.Core.Bool.{false};
 ghost use mathlib.Core.Path.{_≡_};
 ghost use lib.ListN.{length};
 ghost use Rattle.image.specs.Place.{Place, lastTried};

@@ -11,7 +11,7 @@ use lib.Dec.{leb, eqb, lit<}
 use lib.ListN.{length, getD, set, take, drop, length-drop}
 use lib.Seq.{take-add, set-split, append-snoc, getD-drop}
 use Rattle.image.specs.Bits.{bits, bit}
-use Rattle.image.specs.Bytes.{littleEndian, bytesOf, spell}
+use Rattle.image.specs.Bytes.{littleEndian, spell}
 use Rattle.faults.specs.Slots.{recordAt, withRecord, standing, clear127, set127}
 use Rattle.image.specs.Memory.{withWord}
 use Rattle.image.proofs.Fields.{above-digit}

@@ -11,7 +11,7 @@ use Rattle.faults.specs.declared.fault.Fault.{Fault}
 use Rattle.faults.specs.Answers.{faultOf, highWord}
 use Rattle.faults.specs.Reason.{numberOf}
 use Rattle.faults.proofs.Numbers.{numberOf-injective}
-use Rattle.faults.specs.Record.{FaultAnswer, fromBit64, recordable, silenced, memoryRecord, memoryFault, translationRecord, translationFault, indexField, interruptRecord, interruptFault}
+use Rattle.faults.specs.Record.{FaultAnswer, fromBit64, recordable, memoryRecord, memoryFault, translationRecord, translationFault, indexField, interruptRecord, interruptFault}
 
 spread : (w s n a r t : ℕ) → w * (s + n * a + r + t) ≡ s * w + n * (w * a) + w * r + w * t
 spread w s n a r t =

@@ -10,7 +10,7 @@ use lib.Seq.{take-nil, drop-nil}
 use Rattle.image.specs.Bits.{bits}
 use Rattle.image.specs.Bytes.{littleEndian}
 use Rattle.image.specs.Choice.{if_then_else_, one-if}
-use Rattle.faults.specs.Recorder.{State, After, leaves, outOfPlace, recording, clearing, clearingOverflow, written, slotCleared, refused, notRecordable, dropped, overflowed, slotClear, overflowClear, overflowCleared}
+use Rattle.faults.specs.Recorder.{State, After, leaves, outOfPlace, recording, clearing, clearingOverflow, written, slotCleared, slotClear}
 use Rattle.faults.specs.Slots.{slotsIn, recordAt, standing, standingIn, set127, clear127}
 use Rattle.faults.specs.Total.{Call, recordFault, clearSlot, clearOverflow, call, left, answered, zeroed, OneLength, Total}
 use Rattle.faults.proofs.Recording.{neither, in-place, counted}

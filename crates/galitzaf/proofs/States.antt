@@ -1,12 +1,12 @@
 -- The recorder's two state bytes, and the answer that is handed to it.
 use Prim.Native.Nat.{ℕ, _+_, _≤_}
 use mathlib.Core.Bool.{Bool, true, false, not, _||_}
-use mathlib.Core.List.{List, [], _∷_}
+use mathlib.Core.List.{List}
 use mathlib.Core.Path.{_≡_, refl}
 use native.Mathlib.Omega.{arith}
 use borrow.Author.Tests.{eq-eqb, ne-eqb, eqb-true, not-false}
 use lib.Dec.{eqb, ltb}
-use lib.ListN.{length, set}
+use lib.ListN.{length}
 use Rattle.image.specs.Memory.{wordAt, ofImage, entry, onFetch}
 use Rattle.image.proofs.Words.{word-inside}
 use Rattle.faults.specs.Recorder.{outOfPlace}

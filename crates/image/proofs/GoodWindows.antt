@@ -1,34 +1,15 @@
 -- What windows that aren't refused are, one window's tests, and where a byte of a host address stands in the run.
 use Prim.Native.Nat.{ℕ, zero, suc, _+_, _-_, _*_, _%_, _^_, _≤_, _<_}
-use mathlib.Core.Bool.{Bool, true, false, not, _&&_, _||_, and-false}
+use mathlib.Core.Bool.{Bool, true, false, not, and-false}
 use mathlib.Core.Path.{_≡_, refl, ap, sym, _∙_}
 use mathlib.Core.List.{List, [], _∷_, _++_, append-nil}
 use native.Mathlib.Omega.{arith}
 use native.Mathlib.Decide.{decLe}
-use borrow.Author.Tests.{leb-true, leb-false, le-leb, lt-leb, ltb-true, ltb-false, lt-ltb, le-ltb, eq-eqb, ne-eqb, eqb-true, eqb-false, not-false}
+use borrow.Author.Tests.{leb-true, le-leb, lt-leb, ltb-false, lt-ltb, le-ltb, eq-eqb, ne-eqb, eqb-true, not-false}
 use lib.Dec.{leb, ltb, eqb}
-use lib.ListN.{length, drop, getD, length-drop, drop-of-length-le}
+use lib.ListN.{length, drop, length-drop, drop-of-length-le}
 use lib.Seq.{drop-cons}
-use Rattle.image.specs.Choice.{if_then_else_}
-use Rattle.image.specs.Windows.{
-  Window,
-  windowsOf,
-  windowAt,
-  endOf,
-  holdsAll,
-  Spot,
-  nowhere,
-  here,
-  onSpot,
-  spotIn,
-  badWindow,
-  overlap,
-  badPair,
-  badWithAny,
-  badList,
-  badNumbers,
-  badWindows,
-}
+use Rattle.image.specs.Windows.{Window, windowsOf, windowAt, endOf, holdsAll, nowhere, here, spotIn, badWindow, overlap, badPair, badWithAny, badList, badNumbers, badWindows}
 use Rattle.image.proofs.Choices.{neither, both, above-zero, nor}
 
 -- a window that isn't refused

@@ -1,5 +1,5 @@
 -- An entry of 32 bytes, by its two halves.
-use Prim.Native.Nat.{ℕ, zero, suc, _+_, _*_, _^_}
+use Prim.Native.Nat.{ℕ, zero, _+_, _*_, _^_}
 use mathlib.Core.List.{[], _∷_}
 use mathlib.Core.Path.{_≡_, refl, ap, sym, _∙_}
 use native.Mathlib.Nat.{mul-add, mul-zero, add-zero, add-assoc}

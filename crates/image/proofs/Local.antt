@@ -1,8 +1,8 @@
 -- What the rules answer is settled by the words that they name.
-use Prim.Native.Nat.{ℕ, zero, suc, _+_, _*_}
+use Prim.Native.Nat.{ℕ, zero, suc, _+_}
 use mathlib.Core.Path.{_≡_, refl, ap, sym, _∙_, subst}
 use mathlib.Core.List.{List, [], _∷_, _++_}
-use Rattle.image.specs.EntryKind.{EntryKind, wordsOf}
+use Rattle.image.specs.EntryKind.{wordsOf}
 use Rattle.image.specs.Memory.{Memory, Fetched, missing, found, entry, onFetch}
 use Rattle.image.specs.Rules.{Rules, answer, fetch, run, named, wordsFrom, SameIn}
 use Rattle.image.proofs.Trees.{Complete}

@@ -1,13 +1,13 @@
 -- Laws of where the rules stopped, for every rules tree.
 use Prim.Native.Nat.{ℕ}
 use mathlib.Core.Path.{_≡_, refl, ap, sym, _∙_}
-use mathlib.Core.List.{List, [], _∷_, _++_}
+use mathlib.Core.List.{[], _++_}
 use Rattle.image.specs.Check.{Check, stop, go, onCheck}
 use Rattle.image.specs.Answers.{placeOf}
 use Rattle.image.specs.EntryKind.{EntryKind, wordsOf}
-use Rattle.image.specs.Memory.{Memory, Fetched, missing, found, ofImage, entry, onFetch}
+use Rattle.image.specs.Memory.{Memory, Fetched, missing, found, entry, onFetch}
 use Rattle.image.specs.Place.{Place, noEntry, entryAt, lastTried, stoppedAt}
-use Rattle.image.specs.Rules.{Rules, answer, fetch, run, named, mapRules, wordsFrom, SameIn}
+use Rattle.image.specs.Rules.{Rules, answer, fetch, named, mapRules, wordsFrom, SameIn}
 use Rattle.image.specs.Stage.{stage}
 use Rattle.image.specs.declared.EntryAddress.{EntryAddress}
 use Rattle.image.specs.declared.EntryAddress.the-variants as address

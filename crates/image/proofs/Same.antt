@@ -1,15 +1,14 @@
 -- Entries that are the same: one of one word, and one whose bytes are the same in two images of one length.
 use Prim.Native.Nat.{ℕ, zero, suc, _+_, _*_, _≤_, _<_}
 use mathlib.Core.Path.{_≡_, refl, ap, sym, _∙_}
-use mathlib.Core.List.{List, [], _∷_}
+use mathlib.Core.List.{List}
 use native.Mathlib.Nat.{mul-zero, add-zero}
 use native.Mathlib.Omega.{arith}
 use native.Mathlib.Decide.{decLe}
 use borrow.Author.Tests.{le-leb, lt-leb}
 use lib.ListN.{length, getD}
-use Rattle.image.specs.Bytes.{littleEndian}
 use Rattle.image.specs.Memory.{Memory, Fetched, missing, found, join, wordAt, ofImage, entry}
-use Rattle.image.proofs.Words.{bytesFrom, part, outside}
+use Rattle.image.proofs.Words.{bytesFrom, part}
 
 -- an entry of one word is that word
 pub one-word : (m : Memory) (at : ℕ) → entry 1 m at ≡ m at

@@ -4,7 +4,7 @@ use mathlib.Core.Path.{_≡_, refl, ap, sym, _∙_}
 use Rattle.image.specs.Check.{Check, stop, go, onCheck}
 use Rattle.image.specs.EntryKind.{EntryKind, wordsOf}
 use Rattle.image.specs.Memory.{Memory, Fetched, missing, found, entry, onFetch}
-use Rattle.image.specs.Rules.{Rules, answer, fetch, run, named, wordsFrom}
+use Rattle.image.specs.Rules.{Rules, answer, fetch, run}
 use Rattle.image.specs.Stage.{stage}
 
 -- rules that only answer

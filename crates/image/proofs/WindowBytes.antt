@@ -7,9 +7,9 @@ use native.Mathlib.Omega.{arith}
 use native.Mathlib.Decide.{decLe}
 use lib.ListN.{length, take, drop, getD}
 use Rattle.image.specs.Choice.{if_then_else_}
-use Rattle.image.specs.Windows.{Window, windowsOf, endOf, holdsAll, Spot, nowhere, here, onSpot, spotIn, byteAt, badWindows}
+use Rattle.image.specs.Windows.{Window, windowsOf, endOf, holdsAll, here, spotIn, byteAt, badWindows}
 use Rattle.image.proofs.GoodWindows.{GoodWithAll, Good, good, not-over, held, holding, past-it, spot-first, spot-next}
-use Rattle.image.proofs.WindowEntries.{AllFrom, all-after, spot-in, spot-none}
+use Rattle.image.proofs.WindowEntries.{all-after, spot-in, spot-none}
 use Rattle.image.proofs.Words.{bytesFrom, part}
 
 -- a place in one window's part of the run is in none of the others'

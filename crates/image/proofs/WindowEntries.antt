@@ -1,6 +1,6 @@
 -- Entries through windows: one that doesn't leave its page is fetched exactly where it lies whole in a single window. Windows begin at
 -- multiples of 4096, so that none of its words can stand in one window and the next in another, also where the two touch.
-use Prim.Native.Nat.{ℕ, zero, suc, _+_, _-_, _*_, _%_, _^_, _≤_, _<_, min}
+use Prim.Native.Nat.{ℕ, zero, suc, _+_, _-_, _*_, _%_, _≤_, _<_, min}
 use mathlib.Core.Bool.{Bool, true, false}
 use mathlib.Core.Path.{_≡_, refl, ap, sym, subst, _∙_}
 use mathlib.Core.List.{List, [], _∷_}
@@ -20,9 +20,9 @@ use Rattle.image.specs.declared.entries.Held.{Held}
 use Rattle.image.specs.declared.entries.Held.the-variants as found-in
 use Rattle.image.specs.declared.entries.Placed.{Placed}
 use Rattle.image.specs.declared.entries.Placed.the-variants as placed
-use Rattle.image.proofs.GoodWindows.{GoodWindow, GoodWithAll, Good, good, good-window, held, holding, before-it, past-it, spot-first, spot-next}
+use Rattle.image.proofs.GoodWindows.{GoodWithAll, Good, good, good-window, held, holding, before-it, past-it, spot-first, spot-next}
 use Rattle.image.proofs.Pages.{in-page}
-use Rattle.image.proofs.Words.{wordsIn, inside, outside, join-missing, spell-run, whole-image}
+use Rattle.image.proofs.Words.{wordsIn, inside, join-missing, spell-run, whole-image}
 
 -- what was spotted lies in the run, with all that its window has from there on
 pub spot-in : (run : ℕ) (ws : List Window) (size at : ℕ) {place left : ℕ} → Good ws run → spotIn ws size at ≡ here place left

@@ -1,5 +1,5 @@
 -- Refusal 1's part on windows as the code tells it: the tests of a window and of two, and why tests of neighbours are enough.
-use Prim.Native.Nat.{ℕ, zero, suc, _+_, _-_, _*_, _%_, _^_, _≤_, _<_}
+use Prim.Native.Nat.{ℕ, zero, _+_, _-_, _%_, _^_, _≤_, _<_}
 use mathlib.Core.Bool.{Bool, true, false, not, _&&_, _||_, or-false, or-assoc}
 use mathlib.Core.Path.{_≡_, refl, ap, sym, _∙_}
 use mathlib.Core.List.{List, [], _∷_}
@@ -8,9 +8,9 @@ use native.Mathlib.Decide.{decLe}
 use borrow.Author.Tests.{leb-true, leb-false, le-leb, lt-leb, ltb-false, lt-ltb, le-ltb, eq-eqb, ne-eqb, eqb-true, not-false}
 use lib.Dec.{leb, ltb, eqb}
 use lib.ListN.{length, drop, drop-of-length-le}
-use Rattle.image.specs.Windows.{Window, windowsOf, windowAt, endOf, badWindow, overlap, badList, badNumbers, badWindows}
+use Rattle.image.specs.Windows.{Window, windowsOf, windowAt, endOf, badWindow, badList, badNumbers, badWindows}
 use Rattle.image.specs.WindowRow.{badPart, badNext, badRow, share, sharesAny, sharing, rises, rising}
-use Rattle.image.proofs.GoodWindows.{ends-before, GoodWindow, GoodPair, GoodWithAll, Good, window-good, good-window, good-list, list-good, windowsFrom, first-of, whole}
+use Rattle.image.proofs.GoodWindows.{ends-before, GoodWindow, GoodWithAll, Good, window-good, good-window, good-list, list-good, windowsFrom, first-of, whole}
 use Rattle.image.proofs.Choices.{neither, nor, both, above-zero}
 
 -- a window alone

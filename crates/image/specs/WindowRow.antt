@@ -1,6 +1,6 @@
 -- Refusal 1's part on windows, as their neighbours tell it: in a row in which each window ends before the next begins, all are sorted
 -- and apart in host addresses, and only the last can end past 2^64.
-use Prim.Native.Nat.{ℕ, _+_, _%_, _^_}
+use Prim.Native.Nat.{ℕ, _+_, _%_}
 use mathlib.Core.Bool.{Bool, true, false, not, _&&_, _||_}
 use mathlib.Core.List.{List, [], _∷_}
 use lib.Dec.{ltb, leb, eqb}

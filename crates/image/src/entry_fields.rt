@@ -1,7 +1,6 @@
 // Fields of entries by their bit numbers in the whole entry, as VT-d writes them: 83:82 of an entry of 16 bytes. Each field
 // that the rules read lies in one word; one that doesn't is answered 0, or not set.
 ghost use mathlib.Core.Bool.{false};
-ghost use mathlib.Core.List.{[], _∷_};
 ghost use mathlib.Core.Path.{_≡_};
 ghost use Prim.Native.Nat.{_%_};
 ghost use lib.ListN.{getD};

@@ -1,5 +1,5 @@
 -- What every fork of an interrupt request's rules satisfies, and every answer: the one traversal of its tree.
-use Prim.Native.Nat.{ℕ, _+_, _*_, _^_}
+use Prim.Native.Nat.{ℕ, _+_, _^_}
 use mathlib.Core.Bool.{Bool, true, false, not, _||_}
 use mathlib.Core.Path.{_≡_, refl, sym, _∙_, subst}
 use native.Mathlib.Omega.{arith}
@@ -7,8 +7,7 @@ use borrow.Author.Tests.{eqb-true}
 use lib.Dec.{eqb, leb}
 use Rattle.image.specs.Bits.{bit}
 use Rattle.image.specs.Check.{Check, stop, go, onCheck}
-use Rattle.image.specs.Choice.{if_then_else_}
-use Rattle.image.specs.EntryKind.{EntryKind, wordsOf, remappingEntry, postedDescriptor}
+use Rattle.image.specs.EntryKind.{EntryKind, wordsOf, postedDescriptor}
 use Rattle.image.specs.Rules.{Rules, answer, fetch, mapRules}
 use Rattle.image.proofs.Choices.{either}
 use Rattle.image.proofs.Forks.{Every, every-answer, every-fetch, every-map, every-weaken}

@@ -10,11 +10,11 @@ use Rattle.image.specs.Choice.{if_then_else_}
 use Rattle.image.specs.Memory.{withWord}
 use Rattle.tables.specs.Mapped.{newTable, withLeaf, mapped}
 use Rattle.tables.specs.Pages.{lowest, freePages}
-use Rattle.tables.specs.Tables.{Tables, tables, heldEntry, present, mapsPage}
+use Rattle.tables.specs.Tables.{Tables, heldEntry, present, mapsPage}
 use Rattle.tables.specs.Way.{way}
 use Rattle.tables.specs.declared.Tree.{Tree}
 use Rattle.tables.specs.declared.way.Stop.{Stop}
-use Rattle.leaves.specs.Leaves.{Leaf, none, leaf, leafOver}
+use Rattle.leaves.specs.Leaves.{Leaf, leaf, leafOver}
 use Rattle.leaves.specs.WellBuilt.{leadsOn, WellBuilt, NoneEmpty}
 use Rattle.leaves.proofs.Addresses.{above, number, index-small, placed}
 use Rattle.leaves.proofs.Filled.{FilledBut, all-but, and-it, stored-in, stored-but, made-but}

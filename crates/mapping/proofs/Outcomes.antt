@@ -10,7 +10,7 @@ use lib.Pow.{pow-add}
 use Rattle.image.specs.Memory.{Memory}
 use Rattle.image.specs.Rules.{answer, run}
 use Rattle.image.specs.Windows.{ofWindows, badWindows}
-use Rattle.registers.specs.Admission.{Admitted, refusal, pass, takenUp, admission}
+use Rattle.registers.specs.Admission.{refusal, pass, takenUp, admission}
 use Rattle.registers.specs.declared.Registers.{Registers}
 use Rattle.dma.specs.Lookup.{Lookup, context, noContext, onLookup, lookupRules}
 use Rattle.dma.specs.declared.context.Context.{Context}

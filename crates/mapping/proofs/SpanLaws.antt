@@ -13,7 +13,7 @@ use Rattle.image.specs.Choice.{if_then_else_}
 use Rattle.dma.specs.InterruptRange.{spanAt}
 use Rattle.regions.specs.Region.{Region, isListed}
 use Rattle.mapping.specs.Search.{Fresh}
-use Rattle.mapping.specs.Spans.{Span, spanOf, begins, spanHere, spansFrom, spansAfter}
+use Rattle.mapping.specs.Spans.{Span, spanOf, spanHere, spansFrom, spansAfter}
 
 -- from a multiple of 2^k on, up to the next
 module _ (k at x : ℕ) (aligned : at % 2 ^ k ≡ 0) (from : at ≤ x) (to : x < at + 2 ^ k) where

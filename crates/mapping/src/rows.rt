@@ -1,8 +1,8 @@
 // The lent rows, four numbers a span.
-ghost use mathlib.Core.List.{List, [], _∷_, _++_};
+ghost use mathlib.Core.List.{[], _∷_, _++_};
 ghost use mathlib.Core.Path.{_≡_};
 ghost use lib.ListN.{length, take, drop};
-ghost use Prim.Native.Nat.{_+_, _*_, _<_, _≤_, _^_, min};
+ghost use Prim.Native.Nat.{_+_, _*_, _<_, _≤_, min};
 ghost use Rattle.regions.specs.Answers.{whatOf, regionOf};
 ghost use Rattle.mapping.specs.Rows.{valueOf, whatKind, spanRow};
 ghost use Rattle.mapping.specs.Spans.{spanOf};

@@ -5,11 +5,9 @@ use mathlib.Core.Path.{_≡_, refl, ap, sym, _∙_}
 use mathlib.Core.List.{List, [], _∷_, _++_, append-assoc, append-nil}
 use native.Mathlib.Omega.{arith}
 use native.Mathlib.Numerals.{add-one}
-use borrow.Author.Tests.{eq-eqb, ne-eqb}
 use lib.Dec.{eqb}
 use lib.ListN.{length, getD, set, drop, replicate, length-replicate, replicate-append-replicate}
 use lib.Seq.{drop-cons, drop-length, set-at}
-use Rattle.image.specs.Choice.{if_then_else_}
 use Rattle.tables.specs.Tables.{heldEntry, present, mapsPage, tableOf, emptyTable}
 use Rattle.tables.specs.declared.Tree.{Tree}
 use Rattle.tables.proofs.Folds.{again, none-left}

@@ -1,18 +1,18 @@
 -- A load from 0 to 131,070 stays there, whatever is rounded: rounding keeps the order, and 65,535 and 131,070 are not rounded.
-use Prim.Native.Nat.{ℕ, zero, suc, _+_, _-_, _*_, _/_, _^_, _≤_, _<_}
+use Prim.Native.Nat.{ℕ, zero, suc, _+_, _-_, _*_, _^_, _≤_, _<_}
 use mathlib.Core.Bool.{Bool, true, false, not, cond, _&&_, _||_}
 use mathlib.Core.Logic.{_⊎_, inl, inr}
 use mathlib.Core.Path.{_≡_, refl, ap, ap₂, sym, _∙_, subst}
-use native.Mathlib.Nat.{zero-mul, mul-zero, mul-one, one-mul, le-of-lt, le-of-eq, mul-pos, mul-le-mul-right}
+use native.Mathlib.Nat.{zero-mul, mul-one, one-mul, le-of-lt, le-of-eq, mul-pos, mul-le-mul-right}
 use native.Mathlib.Omega.{arith}
 use borrow.Author.Tests.{ltb-false, le-ltb}
 use lib.Dec.{T, lit<, lit≤, ltb, eqb, ltb→lt, eqb→eq}
-use lib.IntN.{ℤ, pos, negsuc}
+use lib.IntN.{ℤ, pos}
 use lib.Pow.{pow-pos}
-use lib.Ieee.{Float, nan, inf, fin, Format, binary64, prec, emax, low, up, down, units, round, sum, add, sub, neg, mul, lt, eq, le, ofInt, ofBits, ofFields, odd, size, span, climb}
+use lib.Ieee.{Float, nan, inf, fin, binary64, prec, emax, low, up, down, units, round, sum, add, sub, neg, mul, lt, eq, le, ofInt, ofBits, ofFields, odd, size, span, climb}
 use lib.Ieee.Exact.{HasValue}
-use lib.Ieee.Fits.{core, round-is, and-l, and-r, up-pos, down-pos}
-use lib.Ieee.Order.{transfer, round-mono, le-of-values}
+use lib.Ieee.Fits.{round-is, and-l, down-pos}
+use lib.Ieee.Order.{transfer, round-mono}
 use lib.Ieee.Scale.{round-same, round-val, round-under, grid, finite}
 use Rattle.meter.specs.Meter.{nought, oneHalf, most, tickLoad}
 use Rattle.meter.specs.Refused.{finite as isFinite}

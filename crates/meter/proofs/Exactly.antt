@@ -1,18 +1,18 @@
 -- The load's arithmetic: no rounding in the first 32 ticks after a reset, and never above 131,070.
-use Prim.Native.Nat.{ℕ, zero, suc, _+_, _-_, _*_, _/_, _^_, _≤_, _<_}
-use mathlib.Core.Bool.{Bool, true, false}
+use Prim.Native.Nat.{ℕ, zero, suc, _+_, _-_, _*_, _^_, _≤_, _<_}
+use mathlib.Core.Bool.{true, false}
 use mathlib.Core.Path.{_≡_, refl, ap, ap₂, sym, _∙_, subst}
-use mathlib.Core.List.{List, [], _∷_, _++_}
-use native.Mathlib.Nat.{zero-mul, mul-assoc, mul-comm, mul-left-comm, mul-right-comm, mul-one, one-mul, add-comm, add-mul, mul-pos, eq-of-mul-eq-mul-right, lt-of-lt-of-le, mul-le-mul-right}
+use mathlib.Core.List.{List, [], _∷_}
+use native.Mathlib.Nat.{zero-mul, mul-assoc, mul-comm, mul-left-comm, mul-right-comm, mul-one, add-comm, add-mul, mul-pos, eq-of-mul-eq-mul-right, lt-of-lt-of-le, mul-le-mul-right}
 use native.Mathlib.Omega.{arith}
 use lib.Dec.{T, lit<, lit≤}
-use lib.IntN.{ℤ, pos, negsuc}
+use lib.IntN.{pos}
 use lib.ListN.{length}
 use lib.Pow.{pow-add, pow-pos, pow-mono, shl-lt}
-use lib.Ieee.{Float, nan, inf, fin, Format, binary64, prec, emax, low, up, down, round, sum, add, mul, ofInt, ofBits, ofFields, odd}
+use lib.Ieee.{Float, nan, inf, fin, Format, binary64, up, down, round, sum, add, mul, ofInt, ofBits, ofFields, odd}
 use lib.Ieee.Back.{round-whole}
 use lib.Ieee.Exact.{HasValue, round-exact}
-use lib.Ieee.Fits.{up-pos, down-pos}
+use lib.Ieee.Fits.{down-pos}
 use lib.Ieee.Scale.{round-same}
 use Rattle.meter.specs.Meter.{nought, oneHalf, tickLoad}
 use Rattle.meter.specs.Runs.{weighedByHalving, quiet}

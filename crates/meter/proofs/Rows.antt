@@ -9,7 +9,7 @@ use lib.Dec.{T, eqb, eqb→eq}
 use lib.ListN.{length, getD, set}
 use Rattle.meter.specs.declared.Meter.{Meter}
 use Rattle.meter.specs.Meter.{ticked, meterByte}
-use Rattle.meter.specs.Refused.{some, badCount, badMeter, tickRefused}
+use Rattle.meter.specs.Refused.{some, badCount, badMeter}
 use Rattle.meter.specs.Row.{tickedAll, tickRow}
 use Rattle.meter.proofs.Exactly.{never}
 

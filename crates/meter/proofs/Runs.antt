@@ -1,20 +1,20 @@
 -- The claims over runs of ticks: each meter's load goes by its own counts.
-use Prim.Native.Nat.{ℕ, zero, suc, _*_, _^_, _≤_, _<_}
+use Prim.Native.Nat.{ℕ, zero, suc, _^_, _≤_, _<_}
 use mathlib.Core.Path.{_≡_, refl, ap, ap₂, sym, _∙_, subst}
 use mathlib.Core.Bool.{Bool, true, false, cond, not, _&&_, _||_}
 use mathlib.Core.List.{List, [], _∷_, map}
 use native.Mathlib.Omega.{arith}
 use borrow.Author.Tests.{ltb-false}
-use lib.Dec.{T, lit≤, ltb, eqb, leb, eqb→eq}
+use lib.Dec.{T, ltb, eqb, eqb→eq}
 use lib.ListN.{length, getD}
 use lib.Ieee.{Float, le, ofBits, ofFields, odd}
 use lib.Ieee.Exact.{HasValue}
 use Rattle.meter.specs.declared.Gate.the-variants.{Off}
 use Rattle.meter.specs.declared.Meter.{Meter}
-use Rattle.meter.specs.Meter.{nought, most, tickLoad, tripsOf, ticked, meterByte, cleared}
+use Rattle.meter.specs.Meter.{nought, most, tickLoad, ticked, meterByte, cleared}
 use Rattle.meter.specs.Refused.{some, badCount, badLoad, badGate, badMeter, tickRefused}
-use Rattle.meter.specs.Row.{tickedAll, tickRow, resetRow}
-use Rattle.meter.specs.Runs.{Tick, rowAfter, countsAt, meterAt, weighedByHalving, quiet, FirstTicks, Decays, InRange, NeverAbove, StaysInRange, BytesTell}
+use Rattle.meter.specs.Row.{tickedAll}
+use Rattle.meter.specs.Runs.{Tick, rowAfter, countsAt, meterAt, weighedByHalving, FirstTicks, Decays, InRange, NeverAbove, StaysInRange, BytesTell}
 use Rattle.meter.proofs.Exactly.{never, loadAfter, Counts, first-32, decays}
 use Rattle.meter.proofs.Bounded.{stays-bounded}
 

@@ -16,7 +16,7 @@ use Rattle.dma.specs.Walk.{Step, done, down, onStep, placeIn, walkRules}
 use Rattle.dma.proofs.Walks.{every-walk}
 use Rattle.pasid.specs.declared.ScalableRegisters.{ScalableRegisters}
 use Rattle.pasid.specs.declared.table.PasidEntry.{PasidEntry}
-use Rattle.second.specs.Second.{fault as noPage, atTop, noSecondEntry, secondStep, secondRules}
+use Rattle.second.specs.Second.{fault as noPage, atTop, noSecondEntry, secondStep}
 use Rattle.second.specs.declared.step.Wanted.{Wanted}
 use Rattle.nested.specs.Pages.{Pages, reached, fault, FirstHanded, firstHanded, noFirstEntry, wantedOfEntry, wantedOfPage, toEntry, toPage, intermediateRules, locate, hostPageRules, walkStep, firstRules, pagesRules}
 use Rattle.nested.specs.Then.{thenRules}

@@ -1,6 +1,6 @@
 -- What a first-level entry's step says, told as a step of the walk, and where it leads.
-use Prim.Native.Nat.{ℕ, suc, _+_, _-_, _*_, _<_, _≤_}
-use mathlib.Core.Bool.{Bool, true, false, not, _&&_}
+use Prim.Native.Nat.{ℕ, suc, _+_, _-_, _<_, _≤_}
+use mathlib.Core.Bool.{Bool, true, false, not}
 use mathlib.Core.List.{List, [], _∷_, _++_, map}
 use mathlib.Core.Path.{_≡_, refl, ap, sym, _∙_, subst}
 use native.Mathlib.Omega.{arith}
@@ -17,7 +17,7 @@ use Rattle.dma.proofs.Stepped.{more-levels}
 use Rattle.pasid.specs.declared.ScalableRegisters.{ScalableRegisters}
 use Rattle.pasid.specs.declared.table.PasidEntry.{PasidEntry}
 use Rattle.flags.specs.Flags.{flag}
-use Rattle.first.specs.First.{FirstStep, down as downTo, page, fault as stop, onFirst, firstFlags, firstReserved, flagClear, notSnooped, userDenied, writeDenied, firstFrame, firstStep}
+use Rattle.first.specs.First.{FirstStep, down as downTo, page, fault as stop, onFirst, firstFlags, firstReserved, flagClear, notSnooped, userDenied, writeDenied, firstStep}
 use Rattle.nested.specs.Pages.{Pages, reached, fault, FirstHanded, firstHanded, entryFlags, noFirstEntry, locate, walkStep, firstRules}
 use Rattle.nested.specs.Way.{Located, located, lost}
 use Rattle.nested.specs.Answers.{LevelGrows}

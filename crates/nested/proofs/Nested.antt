@@ -1,5 +1,5 @@
 -- Laws of intermediate addresses, of the way to a first-level entry, and of the page at the end.
-use Prim.Native.Nat.{ℕ, zero, suc, _+_, _*_, _-_, _%_, _^_, _<_, _≤_}
+use Prim.Native.Nat.{ℕ, zero, suc, _-_, _%_, _^_, _<_, _≤_}
 use mathlib.Core.Bool.{Bool, true, false}
 use mathlib.Core.List.{List, []}
 use mathlib.Core.Path.{_≡_, refl, ap, sym, _∙_, subst}
@@ -26,7 +26,6 @@ use Rattle.second.specs.declared.step.Wanted.{Wanted}
 use Rattle.second.specs.declared.walk.Walked.{Walked as WalkedCode}
 use Rattle.second.specs.declared.walk.Walked.the-variants as walked
 use Rattle.nested.specs.Pages.{Pages, reached, fault, FirstHanded, firstHanded, noFirstEntry, wantedOfEntry, wantedOfPage, toEntry, toPage, intermediateRules, locate, hostPageRules, walkStep, firstRules, pagesRules}
-use Rattle.nested.specs.Then.{thenRules}
 use Rattle.nested.specs.Way.{Located, located, lost}
 use Rattle.nested.proofs.Thens.{outside-then}
 use Rattle.nested.proofs.Ways.{IsLost, outside-way, outside-walk}

@@ -1,15 +1,14 @@
 -- What is left of a translation, by what a level's entry says of it.
-use Prim.Native.Nat.{ℕ, zero, suc, _-_, _<_}
+use Prim.Native.Nat.{ℕ, zero, _-_, _<_}
 use mathlib.Core.Bool.{Bool, true, false, _||_}
 use mathlib.Core.List.{List, []}
 use mathlib.Core.Path.{_≡_, refl, ap, sym, _∙_, subst}
 use native.Mathlib.Omega.{arith}
 use borrow.Author.Tests.{eq-eqb, ne-eqb, eqb-true}
 use lib.Dec.{eqb}
-use Rattle.image.specs.Choice.{if_then_else_}
 use Rattle.image.specs.Memory.{Memory}
 use Rattle.image.specs.Place.{Place, lastTried}
-use Rattle.image.specs.Rules.{Rules, answer, run, mapRules}
+use Rattle.image.specs.Rules.{Rules, answer, run}
 use Rattle.image.proofs.Choices.{above-zero}
 use Rattle.image.proofs.Places.{tried-map}
 use Rattle.image.proofs.Trees.{Outside, run-map}

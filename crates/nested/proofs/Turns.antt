@@ -4,7 +4,7 @@ use mathlib.Core.List.{List, []}
 use mathlib.Core.Path.{_≡_, refl, ap, sym, _∙_, subst}
 use Rattle.image.specs.Memory.{Memory}
 use Rattle.image.specs.Place.{Place, entryAt, lastTried}
-use Rattle.image.specs.Rules.{Rules, answer, run}
+use Rattle.image.specs.Rules.{Rules, run}
 use Rattle.nested.specs.Answers.{pagesOf, PagesNames}
 use Rattle.nested.specs.Pages.{Pages, Reachable}
 use Rattle.nested.specs.Positions.{positionRules, TurnTells, turnRules, TurnLast, TurnFits}

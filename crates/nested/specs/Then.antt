@@ -1,5 +1,4 @@
 -- Rules that go on with others: what follows an answer is chosen by it. An entry that can't be fetched ends them all.
-use Prim.Native.Nat.{ℕ}
 use Rattle.image.specs.Rules.{Rules, answer, fetch}
 
 unfoldable pub thenRules : {A B : Type 0} → (ended : A → B) → (next : A → Rules B) → Rules A → Rules B

@@ -1,15 +1,14 @@
 -- The registers' fields in the first word of their 24 bytes.
-use Prim.Native.Nat.{ℕ, _+_, _*_, _≤_, _<_}
+use Prim.Native.Nat.{ℕ, _+_, _*_, _<_}
 use mathlib.Core.Path.{_≡_, refl, ap, sym, _∙_}
-use mathlib.Core.Bool.{Bool, true, false, not, _||_}
-use mathlib.Core.List.{List, [], _∷_}
+use mathlib.Core.Bool.{true, false, not, _||_}
+use mathlib.Core.List.{List}
 use native.Mathlib.Omega.{arith}
 use borrow.Author.Tests.{eq-eqb, ne-eqb, eqb-true, not-false}
 use lib.Dec.{eqb, lit<}
 use lib.ListN.{length, take, drop, getD}
 use lib.Seq.{getD-take, getD-drop}
-use Rattle.image.specs.Bits.{bits, bit, anySet}
-use Rattle.image.specs.Bytes.{littleEndian}
+use Rattle.image.specs.Bits.{bits, bit}
 use Rattle.image.specs.Memory.{wordAt}
 use Rattle.image.proofs.Bytes.{AreBytes, bytes-taken, bytes-below, from-byte, in-byte}
 use Rattle.image.proofs.Fields.{whole}

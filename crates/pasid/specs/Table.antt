@@ -1,7 +1,7 @@
 -- The PASID table entry: table + 64 × PASID bits 5:0, 64 bytes. P 0, FPD 1, AW 4:2, PGTT 8:6, SLADE 9, SLPTPTR 63:12, PWSNP 87, SRE 128,
 -- FLPM 131:130, WPE 132, NXE 133, EAFE 135, FLPTPTR 191:140. Not looked at: SLEE 5, DID 79:64, memory types 95:88 and 127:96, ERE 129,
 -- SMEP 134.
-use Prim.Native.Nat.{ℕ, _+_, _*_, _%_, _^_, _<_, _≤_}
+use Prim.Native.Nat.{ℕ, _+_, _*_, _^_}
 use mathlib.Core.Bool.{Bool, false, not, _&&_, _||_}
 use mathlib.Core.Path.{_≡_}
 use lib.Dec.{eqb}

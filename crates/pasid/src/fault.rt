@@ -3,7 +3,7 @@ ghost use mathlib.Core.Path.{_≡_};
 ghost use Prim.Native.Nat.{_+_, _^_, _<_};
 ghost use Rattle.pasid.specs.Answers.{faultOf};
 ghost use Rattle.pasid.specs.Reason.{numberOf};
-ghost use Rattle.pasid.specs.Record.{silenced, recordable, pasidWord, scalableFault};
+ghost use Rattle.pasid.specs.Record.{recordable, pasidWord, scalableFault};
 use crate::Pasid;
 use crate::reason::ScalableReason;
 use faults::high_word;

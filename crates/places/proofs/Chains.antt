@@ -1,14 +1,12 @@
 -- A chain step by step, as the loop takes it.
-use Prim.Native.Nat.{ℕ, zero, suc, _+_, _-_, _%_, _<_, _≤_}
-use mathlib.Core.Bool.{Bool, true, false, _&&_}
+use Prim.Native.Nat.{ℕ, zero, suc, _+_, _-_, _<_, _≤_}
 use mathlib.Core.List.{List}
 use mathlib.Core.Path.{_≡_, refl, ap, sym, _∙_}
 use native.Mathlib.Omega.{arith}
 use native.Mathlib.Decide.{decLt, decLe, ℕ-discrete}
 use borrow.Author.Tests.{lt-ltb, le-ltb, le-leb, lt-leb, eq-eqb, ne-eqb}
 use lib.Dec.{eqb, ltb, leb}
-use Rattle.image.specs.Choice.{if_then_else_}
-use Rattle.places.specs.Layout.{headOf, keyIn, linkIn, ageOf}
+use Rattle.places.specs.Layout.{keyIn, linkIn, ageOf}
 use Rattle.places.specs.Chain.{chained}
 
 pub age-lt : (state : List ℕ) (place : ℕ) → ageOf state place < 64

@@ -1,6 +1,5 @@
 -- Chains lead to every place in use after each change.
-use Prim.Native.Nat.{ℕ, zero, suc, _+_, _-_, _/_, _%_, _^_, _<_, _≤_}
-use mathlib.Core.Bool.{Bool, true, false}
+use Prim.Native.Nat.{ℕ, zero, suc, _+_, _-_, _%_, _^_, _<_}
 use mathlib.Core.List.{List}
 use mathlib.Core.Path.{_≡_, refl, ap, sym, _∙_, subst}
 use native.Mathlib.Omega.{arith}
@@ -9,7 +8,6 @@ use lib.ListN.{length, getD, set, replicate}
 use lib.Seq.{getD-set-same, getD-set-other}
 use Rattle.places.specs.Layout.{words, headOf, flagIn, keyIn, frameIn, domainIn, linkIn, bucketIn, placeOfAge, ageOf, bucketOf, keyLevel}
 use Rattle.places.specs.Changes.{beforeOf, released, holding, freed}
-use Rattle.places.proofs.Chains.{age-lt}
 use Rattle.places.proofs.Linked.{Reach, here, next, reach-near, reach-first, reach-least, reach-fewer, reach-same, Linked, Flagged}
 use Rattle.places.proofs.Stored.{new-head, new-key, new-frame, new-domain, new-link, new-bucket, new-flag, old-key, old-frame, old-domain, old-link, old-bucket, old-flag, bucket-lt, released-kept}
 

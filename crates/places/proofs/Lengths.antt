@@ -1,13 +1,10 @@
 -- No change alters the length of the state.
-use Prim.Native.Nat.{ℕ, zero, suc, _+_, _%_}
-use mathlib.Core.Bool.{Bool, true, false, _||_}
+use Prim.Native.Nat.{ℕ, _+_}
 use mathlib.Core.List.{List}
 use mathlib.Core.Path.{_≡_, refl, sym, _∙_}
-use lib.Dec.{eqb}
 use lib.ListN.{length, length-set, set}
-use Rattle.image.specs.Choice.{if_then_else_}
-use Rattle.places.specs.Layout.{keyIn, frameIn, domainIn, bucketIn, bucketOf, keyLevel}
-use Rattle.places.specs.Changes.{beforeOf, unless, released, linked, filled, holding, freed, resettled, sifted}
+use Rattle.places.specs.Layout.{keyIn, bucketOf}
+use Rattle.places.specs.Changes.{beforeOf, released, linked, filled, holding, freed}
 
 pub length-released : (state : List ℕ) (place : ℕ) → length (released state place) ≡ length state
 unfolding released

@@ -1,13 +1,11 @@
 -- Chains that lead to every place in use: then looking a key up finds the newest place that has it.
-use Prim.Native.Nat.{ℕ, zero, suc, _+_, _-_, _%_, _^_, _<_, _≤_}
-use mathlib.Core.Bool.{Bool, true, false}
+use Prim.Native.Nat.{ℕ, zero, suc, _+_, _-_, _^_, _<_, _≤_}
 use mathlib.Core.List.{List}
 use mathlib.Core.Path.{_≡_, refl, ap, sym, _∙_, subst}
 use native.Mathlib.Omega.{arith}
 use native.Mathlib.Decide.{decLt, decLe, ℕ-discrete}
 use borrow.Author.Tests.{eq-eqb, ne-eqb}
 use lib.Dec.{eqb}
-use lib.ListN.{getD}
 use Rattle.image.specs.Choice.{if_then_else_}
 use Rattle.places.specs.Layout.{headOf, flagIn, keyIn, linkIn, bucketIn, placeOfAge, ageOf, bucketOf, keyLevel}
 use Rattle.places.specs.Chain.{chained, firstAge, ageOfKey}

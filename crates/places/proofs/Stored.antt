@@ -1,16 +1,14 @@
 -- What stands where after one more is held.
-use Prim.Native.Nat.{ℕ, zero, suc, _+_, _-_, _*_, _/_, _%_, _^_, _<_, _≤_}
-use mathlib.Core.Bool.{Bool, true, false}
+use Prim.Native.Nat.{ℕ, _+_, _-_, _^_, _<_, _≤_}
 use mathlib.Core.List.{List}
 use mathlib.Core.Path.{_≡_, refl, ap, sym, _∙_}
 use native.Mathlib.Omega.{arith}
 use native.Mathlib.Decide.{ℕ-discrete}
-use borrow.Author.Tests.{eq-eqb, ne-eqb}
+use borrow.Author.Tests.{ne-eqb}
 use lib.Dec.{eqb}
 use lib.ListN.{length, length-set, getD, set}
 use lib.Seq.{getD-set-same, getD-set-other}
-use Rattle.image.specs.Choice.{if_then_else_}
-use Rattle.places.specs.Layout.{words, headOf, flagIn, keyIn, frameIn, domainIn, linkIn, bucketIn, bucketOf, keyLevel}
+use Rattle.places.specs.Layout.{words, flagIn, keyIn, frameIn, domainIn, linkIn, bucketIn, bucketOf, keyLevel}
 use Rattle.places.specs.Changes.{beforeOf, unless, released, linked, filled, holding}
 use Rattle.places.proofs.Lengths.{length-released, length-linked}
 

@@ -1,6 +1,6 @@
 -- Looking a key up: along the links of its bucket, from its newest place to older ones.
 use Prim.Native.Nat.{ℕ, zero, suc, _+_}
-use mathlib.Core.Bool.{Bool, _&&_}
+use mathlib.Core.Bool.{_&&_}
 use mathlib.Core.List.{List}
 use lib.Dec.{eqb, ltb, leb}
 use Rattle.image.specs.Choice.{if_then_else_}

@@ -1,6 +1,6 @@
 // The places of a cache of 64 translations, in lent numbers: a ring of places, newest first, and chains of places by a hash of
 // their keys. Which number is what stands in specs/Layout.antt.
-ghost use Prim.Native.Nat.{_≤_, _<_};
+ghost use Prim.Native.Nat.{_<_};
 ghost use mathlib.Core.Path.{_≡_};
 ghost use lib.ListN.{length, replicate};
 ghost use Rattle.places.specs.Layout.{words, headOf, bucketOf};

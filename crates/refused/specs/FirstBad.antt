@@ -1,6 +1,6 @@
 -- Which register or window refusal 1 is for, by number: the first in the order of docs/RULES.md's list, registers before windows.
 use Prim.Native.Nat.{ℕ}
-use mathlib.Core.Bool.{Bool, not, _||_}
+use mathlib.Core.Bool.{not, _||_}
 use mathlib.Core.List.{List}
 use mathlib.Core.Path.{_≡_}
 use lib.Dec.{eqb}

@@ -3,7 +3,7 @@ use Prim.Native.Nat.{ℕ, zero, suc, _+_}
 use mathlib.Core.Bool.{Bool, true, false}
 use mathlib.Core.List.{List}
 use Rattle.image.specs.Memory.{Memory, entry, onFetch, withWord}
-use Rattle.image.specs.Windows.{Spot, onSpot, spotIn, windowsOf, ofWindows}
+use Rattle.image.specs.Windows.{Spot, onSpot, spotIn, windowsOf}
 use Rattle.tables.specs.Tables.{heldEntry}
 
 abbrev pub isWhole : Spot → Bool

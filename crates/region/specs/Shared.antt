@@ -2,7 +2,7 @@
 use Prim.Native.Nat.{ℕ, zero, suc, _+_, _*_, _^_}
 use mathlib.Core.Bool.{Bool, true, false, not, _&&_, _||_}
 use lib.Dec.{eqb}
-use Rattle.image.specs.Bits.{bits, bit, inPlace}
+use Rattle.image.specs.Bits.{bit, inPlace}
 use Rattle.image.specs.Choice.{if_then_else_}
 use Rattle.image.specs.Memory.{Memory, entry, onFetch}
 use Rattle.image.specs.Windows.{overlap}

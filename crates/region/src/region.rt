@@ -4,7 +4,7 @@ ghost use mathlib.Core.Path.{_≡_};
 ghost use Prim.Native.Nat.{_+_, _/_, _^_, _<_, _*_, _≤_};
 ghost use lib.ListN.{length};
 ghost use lib.Dec.{ltb};
-ghost use Rattle.image.specs.Windows.{ofWindows, badWindows};
+ghost use Rattle.image.specs.Windows.{badWindows};
 ghost use Rattle.registers.specs.Registers.{registersBad};
 ghost use Rattle.region.specs.Region.{pagesShown, badRegion};
 use crate::Area;

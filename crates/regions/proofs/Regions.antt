@@ -5,7 +5,7 @@ use mathlib.Core.Bool.{Bool, true, false}
 use mathlib.Core.Path.{_≡_, refl, ap, sym, _∙_, subst}
 use native.Mathlib.Omega.{arith}
 use lib.Dec.{lit≤}
-use lib.Pow.{field, mod-mod-pow, shr-shr}
+use lib.Pow.{field, mod-mod-pow}
 use Rattle.image.specs.Choice.{if_then_else_}
 use Rattle.image.specs.Bits.{inPlace}
 use Rattle.image.proofs.Fields.{in-place-lt}

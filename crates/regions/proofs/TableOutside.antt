@@ -1,13 +1,12 @@
 -- A table wholly outside, told by its first byte: windows begin at multiples of 4096, so a window that has one of the table's bytes has the first.
-use Prim.Native.Nat.{ℕ, zero, suc, _+_, _-_, _%_, _≤_, _<_}
-use mathlib.Core.Bool.{Bool, true, false, not, _&&_, _||_}
+use Prim.Native.Nat.{ℕ, _+_, _-_, _%_, _≤_, _<_}
+use mathlib.Core.Bool.{Bool, true, false, not, _||_}
 use mathlib.Core.List.{List, [], _∷_}
 use mathlib.Core.Path.{_≡_, refl, ap, sym, _∙_}
 use native.Mathlib.Decide.{decLe}
 use native.Mathlib.Omega.{arith}
-use borrow.Author.Tests.{leb-true, le-leb, lt-leb, lt-ltb, le-ltb, eq-eqb, ne-eqb}
-use lib.Dec.{leb, ltb, eqb}
-use lib.ListN.{length, take, drop, length-take, length-drop}
+use borrow.Author.Tests.{le-leb, lt-leb, lt-ltb, le-ltb}
+use lib.Dec.{leb, ltb}
 use Rattle.image.specs.Choice.{if_then_else_}
 use Rattle.image.specs.Windows.{Window, windowsOf, endOf, holdsAll, Spot, nowhere, here, spotIn, overlap, badWindows}
 use Rattle.image.proofs.GoodWindows.{GoodWindow, Good, good}

@@ -1,10 +1,9 @@
 // Tables below which nothing is listed, remembered in lent memory, so that tables which point to each other are not walked again and again.
 // A number for each, at a place that it shares with few others: one that is overwritten is worked out once more.
-ghost use mathlib.Core.Bool.{Bool, true, false, _&&_};
+ghost use mathlib.Core.Bool.{true, false};
 ghost use mathlib.Core.Path.{_≡_};
-ghost use lib.Dec.{eqb, ltb};
-ghost use lib.ListN.{length, replicate, set, getD};
-ghost use Prim.Native.Nat.{ℕ, _+_, _*_, _/_, _%_, _^_, _<_, _≤_};
+ghost use lib.ListN.{length, replicate};
+ghost use Prim.Native.Nat.{_+_, _*_, _/_, _%_, _^_, _<_, _≤_};
 ghost use Rattle.image.specs.Windows.{ofWindows, badWindows};
 ghost use Rattle.regions.specs.Answers.{Walkable};
 ghost use Rattle.regions.specs.Known.{rightsNumber, keyOf, StandsIn, Remembers, Sound, QuietAround, QuietTo};

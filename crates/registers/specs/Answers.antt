@@ -1,5 +1,4 @@
 -- What the code's admission says, in document 01's numbers.
-use Prim.Native.Nat.{ℕ}
 use Rattle.registers.specs.Admission.{Admitted, refusal, pass, takenUp}
 use Rattle.registers.specs.declared.admission.Admission.{Admission}
 use Rattle.registers.specs.declared.admission.Admission.the-variants.{Refused, Passed, Taken}

@@ -1,8 +1,8 @@
 -- Two rules trees, the second of which goes on wherever the first does, as long as the entries of a walk that it is given are so related to
 -- the first one's: their answers over two memories so related are too. Laws of rules that are made of others.
-use Prim.Native.Nat.{ℕ, zero, suc, _+_, _*_, _%_, _≤_, _<_}
+use Prim.Native.Nat.{ℕ, zero, suc, _+_, _%_}
 use mathlib.Core.Bool.{Bool, true, false}
-use mathlib.Core.List.{List, [], _∷_, _++_, List·Memᴰ, List·Memᴰ·head, List·Memᴰ·tail, Memᴰ·append-left, Memᴰ·append-right}
+use mathlib.Core.List.{List, [], List·Memᴰ, List·Memᴰ·head, List·Memᴰ·tail, Memᴰ·append-left, Memᴰ·append-right}
 use mathlib.Core.Path.{_≡_, refl, ap, sym, _∙_}
 use native.Mathlib.Omega.{arith}
 use Rattle.image.specs.Choice.{if_then_else_}
@@ -11,9 +11,7 @@ use Rattle.image.specs.Memory.{Memory, Fetched, missing, found, join, entry, on
 use Rattle.image.specs.Rules.{Rules, answer, fetch, run, mapRules, wordsFrom}
 use Rattle.image.proofs.Same.{one-word}
 use Rattle.dma.specs.Isolation.{BothFetched}
-use Rattle.dma.specs.Walk.{Step, done, down, onStep, placeIn, walkRules}
 use Rattle.nested.specs.Then.{thenRules}
-use Rattle.nested.specs.Way.{Located, located, lost, onLocated, entryRules, ended, wayRules}
 use Rattle.rights.specs.Tables.{isWalked, tableWords}
 
 -- entries of a walk are related, all others the same

@@ -1,11 +1,10 @@
 -- The lookup of a PASID table entry, over two memories with the same tables.
 use Prim.Native.Nat.{ℕ, _+_, _*_, _%_, _≤_}
-use mathlib.Core.Bool.{Bool, true, false, not, _&&_, _||_}
+use mathlib.Core.Bool.{Bool, false, not, _&&_, _||_}
 use mathlib.Core.Path.{_≡_, refl, ap, sym, _∙_}
 use native.Mathlib.Omega.{arith}
 use Rattle.image.specs.Bits.{bits, bit}
 use Rattle.image.specs.Check.{Check, stop, go, onCheck}
-use Rattle.image.specs.Choice.{if_then_else_}
 use Rattle.image.specs.EntryKind.{rootEntry, scalableContextEntry, pasidDirectoryEntry, pasidTableEntry}
 use Rattle.image.specs.Rules.{Rules, answer, fetch}
 use Rattle.image.proofs.Choices.{past}

@@ -1,6 +1,6 @@
 -- First-level and nested translation keep what they reach where rights are switched on: page, host address and flags.
-use Prim.Native.Nat.{ℕ, suc, _+_, _-_, _*_, _%_, _^_, _≤_}
-use mathlib.Core.Bool.{Bool, true, false, not}
+use Prim.Native.Nat.{ℕ, suc, _+_, _-_, _*_, _%_, _≤_}
+use mathlib.Core.Bool.{Bool, true, false}
 use mathlib.Core.List.{List, [], _++_}
 use mathlib.Core.Path.{_≡_, refl, ap, sym, _∙_}
 use native.Mathlib.Omega.{arith}
@@ -21,7 +21,7 @@ use Rattle.first.specs.First.{FirstStep, firstStep, onFirst}
 use Rattle.first.specs.First as first
 use Rattle.second.specs.Second.{Walked, page, fault as noPage, atTop, secondRules}
 use Rattle.second.specs.declared.step.Wanted.{Wanted}
-use Rattle.nested.specs.Pages.{Pages, reached, fault, FirstHanded, firstHanded, entryFlags, noFirstEntry, wantedOfEntry, wantedOfPage, toEntry, toPage, intermediateRules, locate, hostPageRules, walkStep, firstRules, pagesRules}
+use Rattle.nested.specs.Pages.{Pages, reached, fault, FirstHanded, firstHanded, entryFlags, noFirstEntry, wantedOfEntry, wantedOfPage, toEntry, toPage, intermediateRules, locate, hostPageRules, walkStep, pagesRules}
 use Rattle.nested.specs.Way.{Located, located, lost}
 use Rattle.rights.proofs.First.{FirstKept, same-clear, first-kept}
 use Rattle.rights.proofs.Kept.{Keeps, keeps-answer, keeps-dead, keeps-map, keeps-then}

@@ -1,7 +1,7 @@
 -- A whole request in scalable mode keeps its decision, where it is a grant, over memories with the same tables and rights switched on.
 use Prim.Native.Nat.{ℕ, _%_, _≤_}
 use mathlib.Core.Bool.{Bool, true, false}
-use mathlib.Core.List.{List, []}
+use mathlib.Core.List.{[]}
 use mathlib.Core.Path.{_≡_, refl, ap, sym, _∙_}
 use native.Mathlib.Omega.{arith}
 use lib.Dec.{eqb}
@@ -9,7 +9,7 @@ use Rattle.image.specs.Choice.{if_then_else_}
 use Rattle.image.specs.Rules.{Rules, answer, mapRules}
 use Rattle.registers.specs.Admission.{Admitted, refusal, pass, takenUp, admission, onAdmission, inInterruptRange}
 use Rattle.faults.specs.Record.{FaultAnswer}
-use Rattle.dma.specs.Requests.{MemoryOutcome, granted, blocked, refused}
+use Rattle.dma.specs.Requests.{granted, blocked, refused}
 use Rattle.dma.specs.Translation.{overflows}
 use Rattle.registers.proofs.Good.{taken-good}
 use Rattle.dma.proofs.Raised.{Raised}
@@ -18,7 +18,7 @@ use Rattle.pasid.specs.declared.table.PasidEntry.{PasidEntry}
 use Rattle.first.specs.First.{notCanonical}
 use Rattle.second.specs.Second.{secondRules, atTop}
 use Rattle.nested.specs.Pages.{Pages, reached, fault, wantedOfPage, toPage, pagesRules}
-use Rattle.scalable.specs.Lookup.{Lookup, pasidEntry, noPasidEntry, lookupRules}
+use Rattle.scalable.specs.Lookup.{Lookup, pasidEntry, noPasidEntry}
 use Rattle.scalable.specs.Requests.{Translation, through, translated, withoutEntry, secondPages, pagedRules, typeRules, lookedUp, translationRules, Decision, sayOnly, decision, pasidTooWide, takenRules, scalableRules}
 use Rattle.scalable.specs.declared.ScalableRequest.{ScalableRequest}
 use Rattle.rights.proofs.Kept.{Keeps, keeps-answer, keeps-map, keeps-then}

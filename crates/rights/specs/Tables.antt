@@ -1,7 +1,7 @@
 -- Which entries the claims on rights speak of, over any rules tree.
 use Prim.Native.Nat.{ℕ, _+_, _≤_, _<_}
 use mathlib.Core.Bool.{Bool, true, false}
-use mathlib.Core.List.{List, [], _∷_, _++_}
+use mathlib.Core.List.{List, [], _++_}
 use Rattle.image.specs.Choice.{if_then_else_}
 use Rattle.image.specs.EntryKind.{EntryKind, rootEntry, contextEntry, pageEntry, remappingEntry, postedDescriptor, scalableContextEntry, pasidDirectoryEntry, pasidTableEntry, firstLevelEntry, wordsOf}
 use Rattle.image.specs.Memory.{Memory, entry, onFetch}

@@ -10,7 +10,7 @@ use Rattle.image.specs.Rules.{Rules, run}
 use Rattle.image.specs.Windows.{ofWindows, badWindows}
 use Rattle.image.proofs.Places.{tried-map}
 use Rattle.image.proofs.Trees.{run-map}
-use Rattle.registers.specs.Admission.{Admitted, refusal, pass, takenUp, admission, inInterruptRange}
+use Rattle.registers.specs.Admission.{refusal, pass, takenUp, admission, inInterruptRange}
 use Rattle.dma.specs.Requests.{MemoryOutcome, granted, refused, concerned}
 use Rattle.flags.specs.Flags.{setFlags}
 use Rattle.pasid.specs.declared.ScalableRegisters.{ScalableRegisters}

@@ -7,7 +7,7 @@ use native.Mathlib.Omega.{arith}
 use borrow.Author.Tests.{eqb-true, eqb-false}
 use lib.Dec.{eqb}
 use Rattle.image.specs.Choice.{if_then_else_}
-use Rattle.image.specs.Rules.{Rules, answer, mapRules}
+use Rattle.image.specs.Rules.{Rules, answer}
 use Rattle.image.proofs.Forks.{every-named, every-weaken}
 use Rattle.registers.specs.Admission.{Admitted, refusal, pass, takenUp, admission, onAdmission, inInterruptRange}
 use Rattle.registers.proofs.Good.{taken-good}
@@ -22,7 +22,7 @@ use Rattle.nested.specs.Pages.{Pages, fault, wantedOfPage, toPage, pagesRules, 
 use Rattle.nested.proofs.Few.{Few, few-answer, few-more, few-if, few-map, few-then, few-walk, few-pages}
 use Rattle.scalable.specs.Lookup.{Lookup, pasidEntry, noPasidEntry, lookupRules}
 use Rattle.scalable.specs.Named.{AtMostFifty}
-use Rattle.scalable.specs.Requests.{through, translated, pasidTooWide, withoutEntry, secondPages, pagedRules, typeRules, lookedUp, translationRules, Decision, sayOnly, decision, takenRules, scalableRules, Walkable}
+use Rattle.scalable.specs.Requests.{through, translated, pasidTooWide, withoutEntry, secondPages, pagedRules, typeRules, lookedUp, translationRules, sayOnly, decision, takenRules, scalableRules, Walkable}
 use Rattle.scalable.specs.declared.ScalableRequest.{ScalableRequest}
 use Rattle.scalable.proofs.Forks.{Absent, FoundSo, lookup-forks}
 use Rattle.scalable.proofs.Found.{walkable}

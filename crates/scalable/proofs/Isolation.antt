@@ -1,18 +1,18 @@
 -- Every answer to an entry that can't be fetched is an access fault, so any other is settled by the named words.
 use Prim.Native.Nat.{ℕ}
-use mathlib.Core.Bool.{Bool, true, false, _||_}
+use mathlib.Core.Bool.{Bool, true, false}
 use mathlib.Core.List.{[]}
 use mathlib.Core.Path.{_≡_, refl, ap, ap₂, sym, _∙_}
 use native.Mathlib.Omega.{arith}
 use Rattle.image.specs.Choice.{if_then_else_}
 use Rattle.image.specs.Place.{noEntry}
-use Rattle.image.specs.Rules.{Rules, answer, fetch, run, mapRules}
+use Rattle.image.specs.Rules.{Rules, answer, fetch, run}
 use Rattle.image.proofs.Forks.{every-outside}
 use Rattle.image.proofs.Local.{local}
 use Rattle.image.proofs.Places.{local-place}
 use Rattle.image.proofs.Trees.{Outside, met, outside-map, outside-if}
 use Rattle.registers.specs.Admission.{Admitted, refusal, pass, takenUp, admission, onAdmission, inInterruptRange}
-use Rattle.dma.specs.Requests.{MemoryOutcome, granted, blocked, refused, concerned}
+use Rattle.dma.specs.Requests.{granted, refused, concerned}
 use Rattle.dma.specs.Translation.{overflows}
 use Rattle.pasid.specs.Record.{scalableFault}
 use Rattle.pasid.specs.declared.Pasid.{Pasid}

@@ -2,7 +2,7 @@
 use Prim.Native.Nat.{ℕ, _+_, _*_, _/_, _%_, _^_, _≤_, _<_}
 use mathlib.Core.Bool.{Bool, true, false, not, _&&_, _||_}
 use mathlib.Core.Path.{_≡_, refl, ap, sym, _∙_}
-use native.Mathlib.Nat.{div-one, lt-of-lt-of-le, le-trans, mod-lt, mod-add-div}
+use native.Mathlib.Nat.{div-one, lt-of-lt-of-le, mod-lt, mod-add-div}
 use native.Mathlib.Omega.{arith}
 use lib.Dec.{leb, eqb}
 use lib.Pow.{pow-mono, pow-pos}
@@ -11,9 +11,9 @@ use Rattle.image.specs.Bits.{bits, bit, anySet, inPlace}
 use Rattle.image.specs.Check.{go}
 use Rattle.image.specs.Choice.{if_then_else_}
 use Rattle.image.proofs.Choices.{past, neither, same-go}
-use Rattle.image.proofs.Fields.{fits, in-place-le, above-digit}
+use Rattle.image.proofs.Fields.{fits, above-digit}
 use Rattle.dma.proofs.Address.{above}
-use Rattle.pasid.specs.Context.{contextReserved, beyond, contextInvalid, pasidOf, contextOf, contextCheck, Usable}
+use Rattle.pasid.specs.Context.{contextReserved, beyond, contextInvalid, contextOf, contextCheck, Usable}
 use Rattle.pasid.specs.Directory.{directoryReserved, directoryCheck}
 use Rattle.pasid.specs.Root.{half, rootReserved, rootCheck}
 use Rattle.pasid.specs.declared.Pasid.{Pasid}

@@ -6,7 +6,6 @@ use mathlib.Core.Path.{_≡_}
 use lib.Dec.{eqb}
 use Rattle.image.specs.Memory.{Memory}
 use Rattle.image.specs.Rules.{run, named, SameIn}
-use Rattle.faults.specs.Record.{FaultAnswer}
 use Rattle.interrupts.specs.Claims.{bitAt}
 use Rattle.dma.specs.Requests.{MemoryOutcome, granted, blocked, refused}
 use Rattle.pasid.specs.declared.ScalableRegisters.{ScalableRegisters}

@@ -1,7 +1,7 @@
 -- The claims on rights are given premises that hold.
 use Prim.Native.Nat.{ℕ, _≤_}
 use mathlib.Core.Bool.{Bool, true, false, _&&_}
-use mathlib.Core.List.{List, [], _∷_, _++_, List·Memᴰ, List·Memᴰ·head, List·Memᴰ·tail, List·Memᴰ·not-nil, List·Memᴰ·cases-cons}
+use mathlib.Core.List.{List, [], _∷_, List·Memᴰ, List·Memᴰ·head, List·Memᴰ·tail, List·Memᴰ·not-nil, List·Memᴰ·cases-cons}
 use mathlib.Core.Path.{_≡_, refl, ap, sym, _∙_, subst}
 use mathlib.Core.Logic.{⊎-elim}
 use native.Mathlib.Nat.{le-refl}
@@ -10,7 +10,7 @@ use borrow.Author.Tests.{eqb-true, leb-true}
 use lib.Dec.{eqb, leb, lit≤}
 use Rattle.image.specs.Bits.{bits}
 use Rattle.image.specs.Choice.{if_then_else_}
-use Rattle.image.specs.Memory.{Memory, Fetched, missing, found, entry}
+use Rattle.image.specs.Memory.{Fetched, missing, found, entry}
 use Rattle.image.specs.Rules.{run, mapRules, entriesOf, wordsFrom}
 use Rattle.registers.specs.Admission.{admission}
 use Rattle.registers.specs.Registers.{registersBad}
@@ -20,7 +20,6 @@ use Rattle.dma.specs.Requests.{granted}
 use Rattle.dma.specs.Walk.{walkRules}
 use Rattle.pasid.specs.Context.{contextReserved, contextInvalid, contextCheck}
 use Rattle.pasid.specs.Directory.{directoryReserved, directoryCheck}
-use Rattle.pasid.specs.Record.{scalableFault}
 use Rattle.pasid.specs.Root.{rootReserved, rootCheck}
 use Rattle.pasid.specs.Table.{featureReserved, pointersReserved, tableReserved, tableInvalid, tableCheck}
 use Rattle.first.specs.First.{notCanonical, firstReserved, firstStep}
@@ -29,8 +28,7 @@ use Rattle.nested.specs.Then.{thenRules}
 use Rattle.nested.specs.Way.{wayRules}
 use Rattle.scalable.specs.Lookup.{tableRules, directoryRules, contextRules, lookupRules}
 use Rattle.scalable.specs.Requests.{secondPages, pagedRules, typeRules, scalableRules}
-use Rattle.scalable.specs.declared.ScalableRequest.{ScalableRequest}
-use Rattle.rights.specs.Rights.{decided, walkedByAny, Apart}
+use Rattle.rights.specs.Rights.{decided, walkedByAny}
 use Rattle.rights.proofs.Rights.{scalable-rights-on, scalable-rights-off}
 use Rattle.rights.specs.Tables.{tableWords, SharesNoByte}
 use Rattle.scalable_cases.specs.Instances.{reading, writing, walkedByBoth, ScalablePremisesMet}

@@ -1,5 +1,4 @@
 -- The rows for scalable mode, computed.
-use mathlib.Core.List.{_++_}
 use mathlib.Core.Path.{refl}
 use Rattle.image.specs.Bits.{bits}
 use Rattle.image.specs.Bytes.{spell}

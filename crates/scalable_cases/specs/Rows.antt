@@ -1,6 +1,6 @@
 -- Document 02, Ask 14: every fault, each way of granting and each refusal, by pass-through, first level, second level and nested translation, as
 -- rows over one memory with a few words of it edited, each row with its record and the entry concerned, or the bits that it writes.
-use Prim.Native.Nat.{ℕ, _^_, _*_, _+_}
+use Prim.Native.Nat.{ℕ, _+_}
 use mathlib.Core.Bool.{Bool, true, false}
 use mathlib.Core.List.{List, [], _∷_, _++_}
 use mathlib.Core.Path.{_≡_}

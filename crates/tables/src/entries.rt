@@ -1,7 +1,6 @@
 // Entries of tables in a run of bytes.
 ghost use mathlib.Core.Path.{_≡_};
-ghost use Prim.Native.Nat.{_+_, _^_, _≤_, _<_};
-ghost use lib.ListN.{length};
+ghost use Prim.Native.Nat.{_+_, _^_, _<_};
 ghost use Rattle.dma.specs.Walk.{placeIn};
 ghost use Rattle.tables.specs.Tables.{heldEntry, present, mapsPage, tableOf, emptyTable, wordsZeroed};
 use dma::entry_offset;

@@ -1,6 +1,6 @@
 // A page is mapped.
 ghost use mathlib.Core.Path.{_≡_};
-ghost use Prim.Native.Nat.{_+_, _-_, _*_, _^_, _<_, _≤_};
+ghost use Prim.Native.Nat.{_+_, _-_, _*_, _^_, _<_};
 ghost use lib.ListN.{length};
 ghost use Rattle.tables.specs.Mapped.{newTable, withLeaf, mapAt, mapped};
 ghost use Rattle.tables.specs.Pages.{lowest};

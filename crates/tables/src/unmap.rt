@@ -2,7 +2,7 @@
 ghost use mathlib.Core.Path.{_≡_};
 ghost use Prim.Native.Nat.{_+_, _-_, _^_, _<_};
 ghost use Rattle.tables.specs.Tables.{tables};
-ghost use Rattle.tables.specs.Unmapped.{leafHere, withoutTable, freedTables, unmapAt, unmapped};
+ghost use Rattle.tables.specs.Unmapped.{leafHere, withoutTable, freedTables, unmapped};
 use crate::Tree;
 use crate::entries::is_empty;
 use crate::entries::is_present;

@@ -1,7 +1,7 @@
 -- Ask 13's claims: of each take, and over every run of interrupt requests and takes, by host address. The windows stay; where they are
 -- refused, so is each operation. A premise says that the lent run is made of bytes. Each claim is proved under its name in proofs/: Takes,
 -- HandedOut, Conserved, Orders.
-use Prim.Native.Nat.{ℕ, _+_, _*_, _/_, _%_, _≤_, _<_}
+use Prim.Native.Nat.{ℕ, _+_, _*_, _%_, _≤_, _<_}
 use mathlib.Core.Bool.{Bool, true, false, not, _&&_, _||_}
 use mathlib.Core.List.{List, [], _∷_}
 use mathlib.Core.Logic.{_⊎_}

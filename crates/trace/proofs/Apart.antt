@@ -1,12 +1,12 @@
 -- Each block is told by itself.
-use Prim.Native.Nat.{ℕ, zero, suc, _+_, _*_, _/_, _≤_}
+use Prim.Native.Nat.{ℕ, zero, suc, _+_, _*_}
 use mathlib.Core.Path.{_≡_, refl, ap, sym, _∙_}
 use mathlib.Core.List.{List, [], _∷_, _++_, append-assoc}
 use native.Mathlib.Nat.{add-zero, zero-add, suc-add}
 use native.Mathlib.Omega.{arith}
 use lib.ListN.{length, take, drop, length-append, length-drop, take-append-drop}
 use lib.Seq.{take-at, drop-at, length-take-le}
-use Rattle.trace.specs.Told.{Told, toldOf, toldFrom, blocksIn, told, OneBlock}
+use Rattle.trace.specs.Told.{toldOf, toldFrom, blocksIn, told, OneBlock}
 
 -- a whole block, then the others
 pub block-first : (n place : ℕ) (block rest : List ℕ) → length block ≡ 512

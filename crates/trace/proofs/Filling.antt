@@ -1,14 +1,13 @@
 -- A buffer that is filled entry by entry holds the entries that were appended, and is made their block.
-use Prim.Native.Nat.{ℕ, zero, suc, _+_, _*_, _^_, _≤_, _<_}
+use Prim.Native.Nat.{ℕ, suc, _+_, _*_, _^_, _≤_, _<_}
 use mathlib.Core.Path.{_≡_, refl, ap, sym, _∙_}
-use mathlib.Core.Bool.{Bool, true, false, not, _||_}
+use mathlib.Core.Bool.{true, false, not, _||_}
 use mathlib.Core.List.{List, [], _∷_, _++_, append-assoc, append-nil}
 use native.Mathlib.Decide.{decLe}
-use native.Mathlib.Nat.{add-zero, zero-add}
 use native.Mathlib.Numerals.{add-one}
 use native.Mathlib.Omega.{arith}
-use borrow.Author.Tests.{eq-eqb, ne-eqb, le-leb, lt-leb, lt-ltb, le-ltb}
-use lib.Dec.{eqb, leb, ltb}
+use borrow.Author.Tests.{eq-eqb, ne-eqb, le-leb, lt-leb}
+use lib.Dec.{eqb, leb}
 use lib.ListN.{length, take, drop, length-append}
 use Rattle.blocks.specs.Written.{blockBytes, heldIn, finished}
 use Rattle.blocks.proofs.Finished.{block-length}
@@ -17,8 +16,8 @@ use Rattle.traced.specs.Entry.{Fits, entryBytes}
 use Rattle.traced.specs.Well.{wellTraced}
 use Rattle.traced.specs.declared.Traced.{Traced}
 use Rattle.traced.proofs.Back.{entry-length}
-use Rattle.trace.specs.Writer.{Wrote, kept, full, refused, unfit, withEntry, nextBlock, appending, closing, onWrote, handedOut, TraceHandedOut}
-use Rattle.trace.specs.Written.{entriesBytes, blockOf, blocksFrom, traceOf, Entries}
+use Rattle.trace.specs.Writer.{Wrote, kept, full, refused, unfit, withEntry, appending, closing, onWrote, handedOut, TraceHandedOut}
+use Rattle.trace.specs.Written.{entriesBytes, blockOf, blocksFrom, Entries}
 use Rattle.trace.specs.declared.writer.Writer.{Writer}
 use Rattle.trace.proofs.Writes.{append-kept, append-full, close-refused, close-none, close-full}
 

@@ -1,16 +1,15 @@
 -- The steps of a reader tell what there is to tell.
-use Prim.Native.Nat.{ℕ, zero, suc, _+_, _*_, _-_, _/_, _≤_, _<_}
+use Prim.Native.Nat.{ℕ, zero, suc, _+_, _*_, _-_, _≤_, _<_}
 use mathlib.Core.Path.{_≡_, refl, ap, sym, _∙_}
-use mathlib.Core.Bool.{Bool, true, false, not, _&&_, _||_}
+use mathlib.Core.Bool.{Bool, true, false, _||_}
 use mathlib.Core.List.{List, [], _∷_, _++_}
-use native.Mathlib.Decide.{decLe}
-use native.Mathlib.Nat.{add-zero, zero-add}
+use native.Mathlib.Nat.{zero-add}
 use native.Mathlib.Numerals.{add-one}
 use native.Mathlib.Omega.{arith}
-use borrow.Author.Tests.{eqb-true, eq-eqb, ne-eqb, le-leb, lt-leb, lt-ltb, le-ltb}
+use borrow.Author.Tests.{eqb-true, ne-eqb, le-leb, lt-leb, lt-ltb, le-ltb}
 use lib.Dec.{eqb, leb, ltb}
 use lib.ListN.{length, getD, take, drop, length-take, length-drop}
-use lib.Seq.{drop-drop, take-take, length-take-le, getD-take, getD-drop}
+use lib.Seq.{drop-drop, take-take, getD-drop}
 use Rattle.image.proofs.Bytes.{AreBytes, bytes-taken}
 use Rattle.image.proofs.Pages.{drop-take}
 use Rattle.blocks.specs.Block.{count, framed, entriesWell, wellLaid}
@@ -23,7 +22,6 @@ use Rattle.traced.specs.Well.{wellTraced}
 use Rattle.traced.proofs.Back.{bytes-again}
 use Rattle.trace.specs.Told.{Told, tracedAt, damagedAt, entriesFrom, toldOf, toldFrom, told, blocksIn}
 use Rattle.trace.specs.Reader.{ReaderStep, entry, damaged, end, blockAt, behind, shut, stepAt, onReaderStep, steps, ToldInSteps}
-use Rattle.trace.specs.declared.Cursor.{Cursor}
 use Rattle.trace.proofs.Steps.{at-end, at-shut, at-entry}
 
 -- one step, then the others

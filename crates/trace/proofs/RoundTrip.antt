@@ -1,30 +1,27 @@
 -- What was written is read back.
 use Prim.Native.Nat.{ℕ, zero, suc, _+_, _*_, _/_, _%_, _^_, _≤_, _<_}
 use mathlib.Core.Path.{_≡_, refl, ap, sym, _∙_}
-use mathlib.Core.Bool.{Bool, true, false, _&&_}
+use mathlib.Core.Bool.{true}
 use mathlib.Core.List.{List, [], _∷_, _++_, append-assoc, append-nil}
 use native.Mathlib.Decide.{decLe}
 use native.Mathlib.Nat.{add-zero, zero-add, add-suc}
-use native.Mathlib.Numerals.{add-one}
 use native.Mathlib.Omega.{arith}
 use borrow.Author.Tests.{eq-eqb, ne-eqb}
 use lib.Dec.{eqb, lit<}
 use lib.ListN.{length, take, drop, length-append}
 use lib.Seq.{take-at, drop-at}
-use Rattle.image.specs.Choice.{if_then_else_}
 use Rattle.image.proofs.Bytes.{AreBytes, bytes-append, bytes-number}
 use Rattle.blocks.specs.Block.{count, framed, entriesWell, wellLaid}
-use Rattle.blocks.specs.Written.{blockBytes}
 use Rattle.blocks.proofs.Finished.{counted, from-eight, block-framed}
 use Rattle.traced.specs.Decoded.{entryWell}
-use Rattle.traced.specs.Entry.{Fits, entryBytes, tracedIn}
+use Rattle.traced.specs.Entry.{Fits, entryBytes}
 use Rattle.traced.specs.Well.{wellTraced}
 use Rattle.traced.specs.declared.Traced.{Traced}
 use Rattle.traced.proofs.Back.{four, entry-back, entry-length}
 use Rattle.traced.proofs.Heads.{headOf, messageOf}
 use Rattle.image.specs.Bytes.{bytesOf}
 use Rattle.trace.specs.Told.{Told, tracedAt, entriesFrom, toldOf, toldFrom, told, blocksIn}
-use Rattle.trace.specs.Written.{entriesBytes, blockOf, blocksFrom, traceOf, Entries, placed, ReadBack}
+use Rattle.trace.specs.Written.{entriesBytes, blockOf, blocksFrom, Entries, placed, ReadBack}
 use Rattle.trace.proofs.Apart.{block-first}
 use Rattle.trace.proofs.Filling.{joined-length, behind-length, entries-behind, block-of, length-of-block, no-entries, first-of, others-of}
 

@@ -1,18 +1,18 @@
 -- A reader's step, case by case.
 use Prim.Native.Nat.{ℕ, _+_, _*_, _≤_, _<_}
 use mathlib.Core.Path.{_≡_, refl, ap, sym, _∙_}
-use mathlib.Core.Bool.{Bool, true, false, not, _&&_, _||_}
+use mathlib.Core.Bool.{true, false}
 use mathlib.Core.List.{List}
 use native.Mathlib.Decide.{decLe}
 use native.Mathlib.Omega.{arith}
-use borrow.Author.Tests.{leb-true, leb-false, le-leb, lt-leb, lt-ltb}
-use lib.Dec.{eqb, leb, ltb}
+use borrow.Author.Tests.{leb-false, le-leb, lt-leb, lt-ltb}
+use lib.Dec.{leb, ltb}
 use lib.ListN.{length, take, drop}
-use Rattle.blocks.specs.Block.{count, wellLaid}
-use Rattle.traced.specs.Decoded.{entryWell, decoded}
+use Rattle.blocks.specs.Block.{count}
+use Rattle.traced.specs.Decoded.{decoded}
 use Rattle.traced.specs.Decoded as of
 use Rattle.traced.specs.declared.Traced.{Traced}
-use Rattle.trace.specs.Reader.{ReaderStep, entry, damaged, end, blockAt, behind, shut, stepAt, onDecoded}
+use Rattle.trace.specs.Reader.{entry, damaged, end, blockAt, behind, shut, stepAt}
 
 module _ (bytes : List ℕ) (place index : ℕ) where
   pub at-end : leb (length bytes) (512 * place) ≡ true → end ≡ stepAt bytes place index

@@ -8,10 +8,10 @@ use native.Mathlib.Omega.{arith}
 use borrow.Author.Tests.{eq-eqb, ne-eqb, le-leb, lt-leb, lt-ltb, le-ltb}
 use lib.Dec.{eqb, leb, ltb}
 use lib.ListN.{length, getD, take, drop, length-take, length-drop}
-use lib.Seq.{getD-take, getD-drop, length-take-le}
+use lib.Seq.{getD-take, getD-drop}
 use Rattle.blocks.specs.Block.{framed, count, entriesWell, wellLaid}
-use Rattle.blocks.proofs.Frames.{framed-length, short, no-first}
-use Rattle.traced.specs.Decoded.{Decoded, entryWell, decoded}
+use Rattle.blocks.proofs.Frames.{short, no-first}
+use Rattle.traced.specs.Decoded.{entryWell, decoded}
 use Rattle.traced.specs.Decoded as of
 use Rattle.traced.specs.Entry.{tracedIn}
 use Rattle.traced.specs.declared.Traced.{Traced}

@@ -1,17 +1,17 @@
 -- A writer's calls, case by case.
-use Prim.Native.Nat.{ℕ, _+_, _*_, _^_, _≤_, _<_}
+use Prim.Native.Nat.{ℕ, _+_, _^_, _≤_, _<_}
 use mathlib.Core.Path.{_≡_, refl, ap, sym, _∙_}
-use mathlib.Core.Bool.{Bool, true, false, not, _||_}
+use mathlib.Core.Bool.{true, false, not, _||_}
 use mathlib.Core.List.{List}
 use native.Mathlib.Omega.{arith}
-use borrow.Author.Tests.{eqb-true, leb-false, lt-ltb, le-ltb, eq-eqb, ne-eqb, not-true, not-false}
+use borrow.Author.Tests.{leb-false, lt-ltb, le-ltb, eq-eqb, ne-eqb}
 use lib.Dec.{eqb, leb, ltb}
 use lib.ListN.{length}
 use Rattle.image.proofs.Choices.{neither}
 use Rattle.blocks.specs.Written.{finished}
 use Rattle.traced.specs.Well.{wellTraced}
 use Rattle.traced.specs.declared.Traced.{Traced}
-use Rattle.trace.specs.Writer.{Wrote, kept, full, refused, unfit, withEntry, nextBlock, appending, closing}
+use Rattle.trace.specs.Writer.{kept, full, refused, unfit, withEntry, nextBlock, appending, closing}
 use Rattle.trace.specs.declared.writer.Writer.{Writer}
 
 -- what a writer that fits its buffer has

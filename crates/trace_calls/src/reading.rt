@@ -1,7 +1,6 @@
 // A reader of traces, and replay: a place is two numbers, the block's and the entry's in it.
 ghost use mathlib.Core.Path.{_≡_};
 ghost use mathlib.Core.Bool.{false};
-ghost use mathlib.Core.List.{[], _∷_};
 ghost use lib.ListN.{length};
 ghost use Rattle.traced.specs.Entry.{entryBytes};
 ghost use Rattle.trace_calls.specs.Calls.{badCursor, cursorIn, placeNumbers, checkCall, nextCall, replayCall};

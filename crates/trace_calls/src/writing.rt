@@ -1,6 +1,5 @@
 // A recorder of traces: its state is two numbers, the count of entries in the block and the block's number.
 ghost use mathlib.Core.Path.{_≡_};
-ghost use mathlib.Core.List.{[], _∷_};
 ghost use mathlib.Core.Bool.{false};
 ghost use lib.ListN.{length};
 ghost use Rattle.trace.specs.Answers.{wroteOf};

@@ -1,22 +1,18 @@
 -- An entry comes back from its bytes, and 32 bytes from their entry.
-use Prim.Native.Nat.{ℕ, _+_, _*_, _/_, _^_, _≤_, _<_}
+use Prim.Native.Nat.{ℕ, _+_, _^_, _≤_, _<_}
 use mathlib.Core.Path.{_≡_, refl, ap, sym, _∙_}
 use mathlib.Core.List.{List, _++_}
-use mathlib.Core.Bool.{Bool, true, false, _&&_}
 use native.Mathlib.Nat.{div-one, mod-eq-of-lt}
 use native.Mathlib.Omega.{arith}
 use borrow.Author.Tests.{eq-eqb}
 use lib.ListN.{length, getD, take, drop, length-drop, length-append}
-use lib.Seq.{take-add, take-all, getD-drop, drop-drop}
-use Rattle.image.specs.Bits.{bits}
-use Rattle.image.specs.Bytes.{littleEndian, bytesOf}
-use Rattle.image.specs.Choice.{if_then_else_}
+use lib.Seq.{take-add, take-all, getD-drop}
+use Rattle.image.specs.Bytes.{bytesOf}
 use Rattle.image.specs.Memory.{wordAt}
 use Rattle.image.proofs.Bytes.{number-back, bytes-back, bytes-below, length-bytesOf}
 use Rattle.image.proofs.Fields.{fits, to-top}
-use Rattle.traced.specs.Decoded.{entry, malformed, entryWell, decoded, DecodedAgain}
-use Rattle.traced.specs.Entry.{headBytes, entryBytes, tracedIn, Fits, EntryBack, BytesAgain}
-use Rattle.traced.specs.Well.{wellTraced}
+use Rattle.traced.specs.Decoded.{entry, entryWell, decoded, DecodedAgain}
+use Rattle.traced.specs.Entry.{entryBytes, tracedIn, Fits, EntryBack, BytesAgain}
 use Rattle.traced.specs.declared.Traced.{Traced}
 use Rattle.traced.proofs.Heads.{headOf, messageOf, head-bytes, head-below, message-bytes, message-below, kind-of, answer-of, number-of, flags-of, source-of, vector-of, posted-of, data-of, destination-of, digit}
 

@@ -1,7 +1,7 @@
 -- An entry's four words: the first and the third hold fields, side by side.
-use Prim.Native.Nat.{ℕ, suc, _+_, _*_, _-_, _/_, _%_, _^_, _<_}
+use Prim.Native.Nat.{ℕ, suc, _+_, _*_, _-_, _/_, _^_, _<_}
 use mathlib.Core.Path.{_≡_, refl, ap, sym, _∙_}
-use mathlib.Core.List.{List, [], _∷_, _++_}
+use mathlib.Core.List.{_++_}
 use native.Mathlib.Nat.{mul-comm, mod-add-div, div-div-eq-div-mul}
 use native.Mathlib.Omega.{arith}
 use lib.Dec.{lit<}
@@ -9,7 +9,7 @@ use lib.Pow.{pow-add}
 use Rattle.image.specs.Bits.{bits}
 use Rattle.image.specs.Bytes.{bytesOf}
 use Rattle.image.proofs.Bytes.{byte-before, one-byte, bytes-beside}
-use Rattle.image.proofs.Fields.{whole, to-top, in-digit, above-digit}
+use Rattle.image.proofs.Fields.{whole, in-digit, above-digit}
 use Rattle.traced.specs.Entry.{headBytes, Fits}
 use Rattle.traced.specs.declared.Traced.{Traced}
 

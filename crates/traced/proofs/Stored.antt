@@ -1,5 +1,5 @@
 -- An entry laid into a buffer, and read from one.
-use Prim.Native.Nat.{ℕ, _+_, _*_, _-_, _^_, _≤_, _<_}
+use Prim.Native.Nat.{ℕ, _+_, _-_, _^_, _≤_, _<_}
 use mathlib.Core.Path.{_≡_, refl, ap, sym, _∙_}
 use mathlib.Core.Bool.{true, false}
 use mathlib.Core.List.{List, [], _∷_, _++_, append-assoc}
@@ -7,15 +7,15 @@ use native.Mathlib.Nat.{add-assoc, add-zero}
 use native.Mathlib.Omega.{arith}
 use borrow.Author.Tests.{le-leb, lt-leb, eq-eqb, ne-eqb}
 use lib.Dec.{leb, eqb}
-use lib.ListN.{length, getD, take, drop, length-take, length-drop}
-use lib.Seq.{drop-drop, take-take, length-take-le, getD-take, getD-drop}
+use lib.ListN.{length, take, drop, length-take, length-drop}
+use lib.Seq.{drop-drop, take-take, length-take-le}
 use Rattle.image.specs.Bits.{bits}
 use Rattle.image.specs.Bytes.{littleEndian, bytesOf, spell}
 use Rattle.image.specs.Choice.{if_then_else_}
-use Rattle.image.specs.Memory.{wordAt, withWord, onFetch, entry, ofImage}
+use Rattle.image.specs.Memory.{wordAt, withWord, entry}
 use Rattle.image.proofs.Pages.{drop-take}
 use Rattle.image.proofs.Stores.{withWords, Words, all-stored, words-beside}
-use Rattle.image.proofs.Words.{wordsIn, inside, spell-one, wordOr0, whole-word}
+use Rattle.image.proofs.Words.{spell-one, wordOr0, whole-word}
 use Rattle.traced.specs.Decoded.{malformed, entryWell, decoded}
 use Rattle.traced.specs.Decoded as told
 use Rattle.traced.specs.Entry.{headBytes, entryBytes, tracedIn}

@@ -1,6 +1,6 @@
 -- What a run of bytes says as an entry: malformed where it isn't the 32 bytes of one that is laid out well.
 use Prim.Native.Nat.{ℕ}
-use mathlib.Core.Bool.{Bool, true, _&&_}
+use mathlib.Core.Bool.{Bool, _&&_}
 use mathlib.Core.List.{List}
 use mathlib.Core.Path.{_≡_}
 use lib.Dec.{eqb}

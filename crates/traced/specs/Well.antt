@@ -1,5 +1,4 @@
 -- Which entries are laid out well: a kind of request, with an answer that it can have, and 0 in every field that they don't use.
-use Prim.Native.Nat.{ℕ}
 use mathlib.Core.Bool.{Bool, not, _&&_, _||_}
 use lib.Dec.{eqb, leb}
 use Rattle.image.specs.Bits.{bit}

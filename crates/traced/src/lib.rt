@@ -1,6 +1,6 @@
 // An entry of the trace: a request and its answer in 32 bytes.
 ghost use mathlib.Core.Path.{_≡_};
-ghost use mathlib.Core.List.{List, _++_};
+ghost use mathlib.Core.List.{_++_};
 ghost use Prim.Native.Nat.{_+_, _≤_};
 ghost use lib.ListN.{length, take, drop};
 ghost use Rattle.image.specs.Bytes.{bytesOf};
@@ -9,7 +9,6 @@ ghost use lib.Dec.{leb};
 ghost use Rattle.traced.specs.Decoded.{decoded};
 ghost use Rattle.traced.specs.Answers.{decodedOf};
 ghost use Rattle.traced.specs.Entry.{headBytes, entryBytes, tracedIn};
-ghost use Rattle.traced.specs.Well.{wellTraced};
 
 mod well;
 

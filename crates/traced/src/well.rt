@@ -1,6 +1,6 @@
 // Which entries are laid out well, answer by answer.
 ghost use mathlib.Core.Path.{_≡_};
-ghost use Rattle.traced.specs.Well.{wellAsked, bare, noNumber, noNotification, wellRefused, wellReason, wellFault, wellGranted, wellPassed, wellRemapped, wellPosted, wellNotified, wellSize, wellPage, wellAnswered, wellTraced};
+ghost use Rattle.traced.specs.Well.{wellAsked, bare, noNumber, noNotification, wellRefused, wellReason, wellFault, wellGranted, wellPassed, wellRemapped, wellPosted, wellNotified, wellPage, wellAnswered, wellTraced};
 use crate::Traced;
 
 fn asked(e: Traced) -> bool

@@ -1,5 +1,4 @@
 // What the walk of a translation request makes of a page entry.
-ghost use mathlib.Core.Bool.{false};
 ghost use mathlib.Core.Path.{_≡_};
 ghost use lib.ListN.{length};
 ghost use Prim.Native.Nat.{_<_, _%_};

@@ -1,9 +1,8 @@
 -- Demand 3 holds.
-use Prim.Native.Nat.{ℕ, _^_, _≤_}
-use mathlib.Core.Bool.{Bool, _||_}
+use Prim.Native.Nat.{ℕ, _≤_}
 use mathlib.Core.List.{List, [], _∷_}
 use mathlib.Core.Path.{_≡_, refl, ap, sym, _∙_, fun-ext}
-use lib.ListN.{length, take, drop}
+use lib.ListN.{length, take}
 use Rattle.image.specs.Memory.{Memory, ofImage}
 use Rattle.image.specs.Rules.{run, named, SameIn}
 use Rattle.image.specs.Windows.{ofWindows, entryIn, flat}

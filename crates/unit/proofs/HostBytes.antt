@@ -7,11 +7,11 @@ use native.Mathlib.Decide.{decLe}
 use native.Mathlib.Omega.{arith}
 use borrow.Author.Tests.{le-leb, lt-leb}
 use lib.Dec.{leb}
-use lib.ListN.{length, getD, take, drop}
+use lib.ListN.{length}
 use Rattle.image.specs.Bits.{bits}
 use Rattle.image.specs.Bytes.{littleEndian}
 use Rattle.image.specs.Choice.{if_then_else_}
-use Rattle.image.specs.Memory.{Memory, Fetched, missing, found}
+use Rattle.image.specs.Memory.{Fetched, missing, found}
 use Rattle.image.specs.Windows.{Window, windowsOf, endOf, holdsAll, Spot, nowhere, here, onSpot, spotIn, entryIn, ofWindows}
 use Rattle.image.proofs.GoodWindows.{GoodWithAll, Good, good, held, holding, before-it, past-it, spot-next}
 use Rattle.image.proofs.WindowBytes.{byte-spot}

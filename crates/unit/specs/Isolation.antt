@@ -3,7 +3,7 @@
 -- over the definition of named words that the answers come from. The same claims over any memory are those of dma/specs/Isolation.antt,
 -- translation/specs/Claims.antt and interrupts/specs/Claims.antt. The proof of all of it is `isolation` in proofs/Demand3.antt.
 use Prim.Native.Nat.{ℕ, _≤_, _^_}
-use mathlib.Core.Bool.{Bool, false, _||_}
+use mathlib.Core.Bool.{false, _||_}
 use mathlib.Core.List.{List}
 use mathlib.Core.Path.{_≡_}
 use lib.ListN.{length}

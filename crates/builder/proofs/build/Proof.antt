@@ -1,11 +1,10 @@
-use Prim.Native.Nat.{_+_, _*_, _%_}
 use mathlib.Core.Path.{_≡_, ap, sym, _∙_, subst}
 use native.Mathlib.Omega.{arith}
 use borrow.Author.Tests.{not-true, not-false}
 use lib.ListN.{length}
 use Rattle.tables.specs.declared.Tree.{Tree}
 use Rattle.builder.specs.Answers.{readinessOf}
-use Rattle.builder.specs.Ready.{Readiness, ready, readiness, TablesReady, IfReady}
+use Rattle.builder.specs.Ready.{ready, readiness, TablesReady, IfReady}
 use Rattle.builder.proofs.Builds.{unready-built, ready-built, not-marked, stopped-at, finished}
 use Rattle.builder.proofs.Readied.{windows-good}
 use borrow.Author.Needs.{needs}

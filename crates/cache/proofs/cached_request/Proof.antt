@@ -1,6 +1,6 @@
 -- As memory_request's, but that what is held answers before the walk.
 use Prim.Native.Nat.{_<_, _≤_}
-use mathlib.Core.Bool.{false, true}
+use mathlib.Core.Bool.{false}
 use mathlib.Core.Path.{_≡_, refl, ap, sym, _∙_, subst}
 use native.Mathlib.Omega.{arith}
 use denote.Ref.{now}
@@ -8,7 +8,6 @@ use lib.ListN.{length}
 use Rattle.image.specs.Windows.{ofWindows, badWindows}
 use Rattle.image.proofs.GoodWindows.{three-each}
 use Rattle.registers.specs.Answers.{admittedOf}
-use Rattle.dma.specs.Answers.{outcomeOf, entryOf}
 use Rattle.dma.specs.Requests.{granted, memoryOutcome}
 use Rattle.dma.proofs.Admissions.{taken-root}
 use Rattle.dma.proofs.Forks.{reachable}

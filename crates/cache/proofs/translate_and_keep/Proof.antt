@@ -5,7 +5,7 @@ use Rattle.image.specs.Place.{stoppedAt}
 use Rattle.image.specs.Rules.{run}
 use Rattle.image.specs.Windows.{ofWindows}
 use Rattle.dma.specs.Answers.{lookupOf, translationOf, Names}
-use Rattle.dma.specs.Translation.{Reachable, through, fault, widthRules}
+use Rattle.dma.specs.Translation.{through, fault, widthRules}
 use Rattle.dma.proofs.Forks.{reachable}
 use Rattle.dma.proofs.Lookups.{no-context-told, context-told, context-usable}
 use Rattle.cache.specs.Engine.{rulesOf}

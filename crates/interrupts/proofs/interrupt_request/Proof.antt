@@ -6,7 +6,6 @@ use mathlib.Core.Path.{_≡_, refl, ap, sym, subst, _∙_}
 use borrow.Author.Needs.{needs}
 use lib.ListN.{length}
 use Rattle.image.specs.Windows.{badWindows}
-use Rattle.image.specs.Rules.{run}
 use Rattle.registers.specs.declared.Registers.{Registers}
 use Rattle.interrupts.specs.Answers.{outcomeOf, entryOf}
 use Rattle.interrupts.specs.Interrupts.{InterruptOutcome, interruptAnswer, interruptAnswerPlace}

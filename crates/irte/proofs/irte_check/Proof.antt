@@ -1,5 +1,4 @@
 -- Each answer by the tests on its way.
-use mathlib.Core.Bool.{not, true, false}
 use mathlib.Core.Path.{_≡_, refl, ap, sym, _∙_}
 use borrow.Author.Needs.{needs}
 use Rattle.irte.specs.Irte.{irteCheck}

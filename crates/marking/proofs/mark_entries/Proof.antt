@@ -1,12 +1,9 @@
 use Prim.Native.Nat.{ℕ, _+_, _-_, _*_, _≤_}
-use mathlib.Core.Bool.{Bool}
-use mathlib.Core.List.{List}
 use mathlib.Core.Path.{_≡_, refl, ap, sym, _∙_}
 use native.Mathlib.Omega.{arith}
 use borrow.Author.Needs.{needs}
 use borrow.Author.Tests.{not-true, not-false}
 use lib.ListN.{length}
-use Rattle.tables.specs.Tables.{heldEntry}
 use Rattle.marking.specs.Marking.{markEntry, markEntries}
 use Rattle.marking.proofs.Turns.{good, bad, entries-first, entries-done}
 use Rattle.marking.proofs.mark_entries.Statement.{statement}

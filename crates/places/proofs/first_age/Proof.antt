@@ -1,10 +1,10 @@
 -- The invariant: what is left of the chain finds what the whole chain finds.
-use Prim.Native.Nat.{_≤_, _<_, _-_, _+_}
+use Prim.Native.Nat.{_≤_, _<_, _-_}
 use mathlib.Core.Path.{_≡_, ap, sym, _∙_}
 use borrow.Author.Needs.{needs}
 use native.Mathlib.Omega.{arith}
 use denote.Ref.{now}
-use lib.ListN.{length, getD}
+use lib.ListN.{length}
 use Rattle.places.specs.Layout.{words, bucketIn}
 use Rattle.places.specs.Chain.{chained, firstAge}
 use Rattle.places.proofs.Chains.{no-place, not-older, key-here, key-later}

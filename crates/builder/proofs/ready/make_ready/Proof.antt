@@ -5,7 +5,7 @@ use Rattle.image.specs.Windows.{ofWindows, badWindows}
 use Rattle.image.proofs.Choices.{neither}
 use Rattle.image.proofs.GoodWindows.{three-each}
 use Rattle.registers.specs.Registers.{registersBad}
-use Rattle.registers.proofs.Good.{Good, good}
+use Rattle.registers.proofs.Good.{good}
 use Rattle.dma.specs.Answers.{lookupOf}
 use Rattle.dma.specs.Lookup.{Lookup, onLookup}
 use Rattle.dma.proofs.Lookups.{Finds, finds}

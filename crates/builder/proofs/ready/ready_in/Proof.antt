@@ -4,7 +4,7 @@ use borrow.Author.Tests.{not-true, not-false, ltb-false}
 use lib.Dec.{ltb, leb}
 use Prim.Native.Nat.{_-_}
 use Rattle.image.proofs.Choices.{neither}
-use Rattle.registers.proofs.Good.{Good, good}
+use Rattle.registers.proofs.Good.{good}
 use Rattle.builder.proofs.Readied.{passes-2, region-3, sized-5, top-4, readied, usable}
 use borrow.Author.Needs.{needs}
 use Rattle.builder.proofs.ready.ready_in.Statement.{statement}

@@ -1,7 +1,6 @@
 -- The sum, field by field.
 use mathlib.Core.Path.{_≡_, refl, ap, sym, _∙_}
 use native.Mathlib.Omega.{arith}
-use Rattle.cache.specs.Keys.{writeNumber}
 use Rattle.cache.proofs.Numbered.{kind-le, small-as}
 use borrow.Author.Needs.{needs}
 use Rattle.cache.proofs.keys.small_key.Statement.{statement}

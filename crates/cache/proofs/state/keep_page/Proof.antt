@@ -1,5 +1,4 @@
 -- Each return as the definition has it.
-use Prim.Native.Nat.{_^_, _<_}
 use mathlib.Core.Bool.{true, false}
 use mathlib.Core.Path.{_≡_, refl, ap, sym, _∙_}
 use native.Mathlib.Omega.{arith}
@@ -7,7 +6,6 @@ use borrow.Author.Tests.{not-true, not-false}
 use denote.Ref.{now}
 use lib.ListN.{length}
 use Rattle.places.specs.Changes.{holding}
-use Rattle.places.specs.Layout.{words}
 use Rattle.cache.specs.Numbers.{caches}
 use Rattle.cache.proofs.Caches.{cache-long, cache-near}
 use borrow.Author.Needs.{needs}

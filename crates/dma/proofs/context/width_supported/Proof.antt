@@ -1,5 +1,5 @@
 use mathlib.Core.Path.{_≡_, refl, ap, ap₂, sym, _∙_}
-use borrow.Author.Tests.{eq-eqb, ne-eqb, not-true, not-false}
+use borrow.Author.Tests.{eq-eqb, ne-eqb}
 use Rattle.dma.proofs.context.width_supported.Statement.{statement}
 use Rattle.dma.proofs.context.width_supported.Tie as tie
 

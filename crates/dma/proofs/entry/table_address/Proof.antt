@@ -1,8 +1,8 @@
-use Prim.Native.Nat.{ℕ, _+_, _<_, _^_}
+use Prim.Native.Nat.{ℕ, _<_, _^_}
 use mathlib.Core.Path.{_≡_, refl, ap, ap₂, sym, _∙_}
 use native.Mathlib.Omega.{arith}
-use lib.Dec.{eqb, lit<}
-use Rattle.image.proofs.Fields.{low-field, high-field, high-whole}
+use lib.Dec.{lit<}
+use Rattle.image.proofs.Fields.{low-field}
 use Prim.Native.Nat.{_*_}
 use borrow.Author.Needs.{needs}
 use Rattle.dma.proofs.entry.table_address.Statement.{statement}

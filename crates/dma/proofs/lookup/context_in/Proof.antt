@@ -1,15 +1,15 @@
-use Prim.Native.Nat.{ℕ, _+_, _*_, _%_}
-use mathlib.Core.Bool.{Bool, false}
+use Prim.Native.Nat.{ℕ, _+_, _*_}
+use mathlib.Core.Bool.{false}
 use mathlib.Core.Path.{_≡_, refl, ap, sym, _∙_}
 use native.Mathlib.Omega.{arith}
 use Rattle.image.specs.Answers.{fetched16, number16}
-use Rattle.image.specs.Memory.{found, entry}
+use Rattle.image.specs.Memory.{entry}
 use Rattle.image.specs.Place.{entryAt}
 use Rattle.image.specs.Rules.{answer}
 use Rattle.image.specs.EntryKind.{contextEntry}
 use Rattle.image.specs.Windows.{ofWindows}
 use Rattle.image.proofs.Stages.{unfetched, checked, only}
-use Rattle.registers.specs.Source.{busOf, devfnOf}
+use Rattle.registers.specs.Source.{devfnOf}
 use Rattle.dma.specs.Context.{contextCheck, faultProcessingDisabled}
 use Rattle.dma.specs.Lookup.{context, noContext, contextRules}
 use borrow.Author.Needs.{needs}

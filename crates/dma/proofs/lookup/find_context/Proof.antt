@@ -1,5 +1,5 @@
-use Prim.Native.Nat.{ℕ, _+_, _*_, _%_}
-use mathlib.Core.Bool.{Bool, false}
+use Prim.Native.Nat.{ℕ, _+_, _*_}
+use mathlib.Core.Bool.{false}
 use mathlib.Core.Path.{_≡_, refl, ap, sym, _∙_}
 use native.Mathlib.Omega.{arith}
 use Rattle.image.specs.Answers.{fetched16, number16}
@@ -11,7 +11,7 @@ use Rattle.image.specs.EntryKind.{rootEntry}
 use Rattle.image.specs.Windows.{ofWindows}
 use Rattle.image.proofs.Places.{unfetched-at, checked-at}
 use Rattle.image.proofs.Stages.{unfetched, checked}
-use Rattle.registers.specs.Source.{busOf, devfnOf}
+use Rattle.registers.specs.Source.{busOf}
 use Rattle.dma.specs.Answers.{checkOf, checkPlace, stopPlace}
 use Rattle.dma.specs.Lookup.{context, noContext, stoppedLookup, contextRules, rootRules}
 use Rattle.dma.specs.Root.{rootCheck}

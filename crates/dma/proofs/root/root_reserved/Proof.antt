@@ -1,9 +1,9 @@
-use Prim.Native.Nat.{ℕ, _+_, _<_, _^_}
+use Prim.Native.Nat.{_<_, _^_}
 use mathlib.Core.Path.{_≡_, refl, ap, ap₂, sym, _∙_}
 use native.Mathlib.Omega.{arith}
-use lib.Dec.{eqb, lit<}
+use lib.Dec.{lit<}
 use Rattle.registers.proofs.Powers.{from-bit}
-use Rattle.image.proofs.Fields.{low-field, high-field, high-whole}
+use Rattle.image.proofs.Fields.{low-field}
 use Rattle.dma.specs.Root.{rootReserved}
 use borrow.Author.Needs.{needs}
 use Rattle.dma.proofs.root.root_reserved.Statement.{statement}

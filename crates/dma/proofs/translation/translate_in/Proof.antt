@@ -1,6 +1,6 @@
 use mathlib.Core.Path.{_≡_, refl, ap, sym, _∙_}
 use borrow.Author.Tests.{eq-eqb, ne-eqb}
-use Rattle.image.specs.Place.{entryAt, lastTried}
+use Rattle.image.specs.Place.{lastTried}
 use Rattle.image.specs.Rules.{run}
 use Rattle.dma.specs.Translation.{widthRules}
 use Rattle.dma.proofs.Stepped.{renamed}

@@ -1,10 +1,9 @@
-use Prim.Native.Nat.{ℕ, _≤_, _-_, _<_}
+use Prim.Native.Nat.{ℕ, _≤_, _-_}
 use mathlib.Core.Path.{_≡_, refl, ap, sym, _∙_, subst}
-use mathlib.Core.Bool.{Bool, _&&_}
 use native.Mathlib.Omega.{arith}
-use lib.ListN.{length, getD}
+use lib.ListN.{length}
 use Rattle.meter.proofs.Rows.{fit, allFit}
-use Rattle.galitzaf.specs.Meters.{meterOf, rowOf}
+use Rattle.galitzaf.specs.Meters.{rowOf}
 use Rattle.galitzaf.proofs.Arrays.{looked, all-looked}
 use borrow.Author.Needs.{needs}
 use Rattle.galitzaf.proofs.meters.all_fit.Statement.{statement}

@@ -1,5 +1,4 @@
 -- Each way out is a line of the definition.
-use Prim.Native.Nat.{ℕ}
 use mathlib.Core.Bool.{true, _||_}
 use mathlib.Core.Path.{_≡_, ap, sym, _∙_}
 use native.Mathlib.Omega.{arith}

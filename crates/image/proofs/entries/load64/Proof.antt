@@ -1,6 +1,5 @@
 use native.Mathlib.Omega.{arith}
 use denote.Ref.{now}
-use mathlib.Core.List.{[], _∷_}
 use native.Mathlib.Nat.{add-assoc}
 use Rattle.image.proofs.Words.{wordsIn, read-words}
 use borrow.Author.Needs.{needs}

@@ -1,8 +1,8 @@
-use Prim.Native.Nat.{ℕ, _+_, _*_, _/_, _%_}
+use Prim.Native.Nat.{_+_}
 use mathlib.Core.Path.{_≡_, refl, ap, sym, _∙_}
 use native.Mathlib.Omega.{arith}
 use Rattle.image.specs.Windows.{ofWindows}
-use Rattle.image.specs.Memory.{missing, found, entry}
+use Rattle.image.specs.Memory.{entry}
 use Rattle.image.specs.Answers.{fetched16}
 use Rattle.image.proofs.Halves.{none-low, none-high, both}
 use borrow.Author.Needs.{needs}

@@ -1,5 +1,4 @@
 -- Bits 511:320 are the last three words.
-use Prim.Native.Nat.{_^_, _<_}
 use mathlib.Core.List.{[], _∷_}
 use mathlib.Core.Path.{_≡_, ap, sym, _∙_}
 use native.Mathlib.Omega.{arith}

@@ -1,6 +1,4 @@
 use mathlib.Core.Path.{_≡_, ap, ap₂, sym, _∙_}
-use mathlib.Core.Bool.{Bool, _||_}
-use lib.Ieee.{lt}
 use borrow.Author.Needs.{needs}
 use Rattle.meter.specs.Refused.{badGate}
 use Rattle.meter.proofs.check.bad_gate.Statement.{statement}

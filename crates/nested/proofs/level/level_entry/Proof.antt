@@ -1,13 +1,10 @@
-use Prim.Native.Nat.{ℕ, _+_, _-_, _%_, _^_, _<_, _≤_}
-use mathlib.Core.Bool.{Bool}
-use mathlib.Core.List.{List}
+use Prim.Native.Nat.{_+_, _-_, _%_}
 use mathlib.Core.Path.{_≡_, refl, ap, sym, _∙_}
 use native.Mathlib.Omega.{arith}
 use lib.ListN.{take, length}
-use Rattle.image.specs.Memory.{Memory, missing, found, entry, onFetch}
+use Rattle.image.specs.Memory.{Memory, entry}
 use Rattle.image.specs.Windows.{ofWindows}
-use Rattle.dma.specs.Walk.{Step, done}
-use Rattle.nested.specs.Pages.{Pages, FirstHanded, noFirstEntry, walkStep}
+use Rattle.nested.specs.Pages.{FirstHanded}
 use borrow.Author.Needs.{needs}
 use Rattle.nested.proofs.level.level_entry.Statement.{statement}
 use Rattle.nested.proofs.level.level_entry.Tie as tie

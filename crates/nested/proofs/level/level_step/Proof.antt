@@ -1,13 +1,7 @@
-use Prim.Native.Nat.{ℕ, _+_, _^_, _<_, _≤_}
-use mathlib.Core.Bool.{Bool, true, false}
-use mathlib.Core.List.{List}
 use mathlib.Core.Path.{_≡_, refl, ap, sym, _∙_}
 use native.Mathlib.Omega.{arith}
 use lib.ListN.{take}
-use Rattle.image.specs.Place.{entryAt}
-use Rattle.dma.specs.Page.{hostAddress}
-use Rattle.dma.specs.Walk.{Step, done, down}
-use Rattle.nested.specs.Pages.{Pages, reached, FirstHanded, firstHanded}
+use Rattle.dma.specs.Walk.{down}
 use Rattle.nested.proofs.Firsts.{down-told, page-told, fault-told, above-one}
 use borrow.Author.Needs.{needs}
 use Rattle.nested.proofs.level.level_step.Statement.{statement}

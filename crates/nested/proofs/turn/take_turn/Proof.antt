@@ -1,17 +1,12 @@
-use Prim.Native.Nat.{ℕ, suc, _+_, _-_, _*_, _≤_}
-use mathlib.Core.List.{List}
+use Prim.Native.Nat.{suc, _-_}
 use mathlib.Core.Path.{_≡_, refl, ap, sym, _∙_, subst}
 use native.Mathlib.Omega.{arith}
 use lib.ListN.{take, length}
-use Rattle.image.specs.Memory.{Memory}
-use Rattle.image.specs.Place.{Place, entryAt, lastTried}
-use Rattle.image.specs.Rules.{run}
+use Rattle.image.specs.Place.{Place, entryAt}
 use Rattle.image.specs.Windows.{ofWindows}
-use Rattle.dma.specs.Walk.{Step}
-use Rattle.nested.specs.Answers.{levelOf, levelPlace}
-use Rattle.nested.specs.Pages.{Pages, FirstHanded, firstHanded}
-use Rattle.nested.specs.Positions.{entryOver}
-use Rattle.nested.proofs.Firsts.{levelOver, entered, entered-at, grows-more}
+use Rattle.nested.specs.Answers.{levelPlace}
+use Rattle.nested.specs.Pages.{firstHanded}
+use Rattle.nested.proofs.Firsts.{entered, entered-at, grows-more}
 use Rattle.nested.proofs.Rests.{onward, onward-at}
 use Rattle.nested.proofs.Turns.{turned}
 use borrow.Author.Needs.{needs}

@@ -1,4 +1,4 @@
-use Prim.Native.Nat.{ℕ, _+_, _≤_}
+use Prim.Native.Nat.{_+_}
 use mathlib.Core.Path.{_≡_, refl, ap, sym, _∙_, subst}
 use native.Mathlib.Omega.{arith}
 use lib.ListN.{take}
@@ -6,7 +6,7 @@ use Rattle.image.specs.Memory.{Memory}
 use Rattle.image.specs.Place.{entryAt, lastTried}
 use Rattle.image.specs.Rules.{Rules, run}
 use Rattle.image.specs.Windows.{ofWindows}
-use Rattle.second.specs.Answers.{walkedOf, Names}
+use Rattle.second.specs.Answers.{Names}
 use Rattle.second.specs.Second.{Walked}
 use Rattle.second.specs.declared.step.Wanted.{Wanted}
 use Rattle.nested.specs.Pages.{intermediateRules}

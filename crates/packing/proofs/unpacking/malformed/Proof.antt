@@ -2,7 +2,6 @@
 use Prim.Native.Nat.{ℕ}
 use mathlib.Core.Path.{_≡_, ap, sym, _∙_}
 use borrow.Author.Tests.{ne-eqb}
-use lib.ListN.{length}
 use denote.Ref.{now}
 use Rattle.image.specs.Bits.{bits}
 use Rattle.image.proofs.Words.{wordOr0}

@@ -1,5 +1,4 @@
 -- Bits 511:192 are the last five words.
-use Prim.Native.Nat.{_^_, _<_}
 use mathlib.Core.List.{[], _∷_}
 use mathlib.Core.Path.{_≡_, ap, sym, _∙_}
 use native.Mathlib.Omega.{arith}

@@ -1,8 +1,8 @@
-use Prim.Native.Nat.{ℕ, _+_, _^_, _≤_}
+use Prim.Native.Nat.{_+_, _^_, _≤_}
 use mathlib.Core.Path.{sym, _∙_}
 use native.Mathlib.Omega.{arith}
 use borrow.Author.Tests.{not-true, not-false}
-use Rattle.registers.proofs.Good.{Good, good}
+use Rattle.registers.proofs.Good.{good}
 use Rattle.region.proofs.Tests.{in-width}
 use Rattle.region.proofs.Turns.{bad-1, bad-2, bad-3, bad-4}
 use borrow.Author.Needs.{needs}

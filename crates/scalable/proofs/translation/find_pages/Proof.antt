@@ -4,8 +4,7 @@ use mathlib.Core.List.{[]}
 use mathlib.Core.Logic.{⊎-elim}
 use mathlib.Core.Path.{_≡_, refl, ap, sym, _∙_, subst}
 use borrow.Author.Tests.{eq-eqb, ne-eqb}
-use Rattle.image.specs.Memory.{Memory}
-use Rattle.image.specs.Place.{Place, entryAt, lastTried}
+use Rattle.image.specs.Place.{entryAt, lastTried}
 use Rattle.image.specs.Rules.{Rules, run, mapRules}
 use Rattle.image.specs.Windows.{ofWindows}
 use Rattle.dma.specs.Translation.{overflows}

@@ -1,4 +1,3 @@
-use Prim.Native.Nat.{ℕ}
 use mathlib.Core.Path.{_≡_, refl, ap, sym, _∙_, subst}
 use lib.ListN.{length}
 use Rattle.image.specs.Memory.{Memory}
@@ -6,9 +5,8 @@ use Rattle.image.specs.Place.{Place, noEntry, lastTried}
 use Rattle.image.specs.Rules.{Rules, run}
 use Rattle.image.specs.Windows.{ofWindows}
 use Rattle.image.proofs.GoodWindows.{three-each}
-use Rattle.pasid.specs.Reason.{numberOf}
 use Rattle.scalable.specs.Answers.{lookupOf, lookupPlace, TranslationNames}
-use Rattle.scalable.specs.Lookup.{Lookup, pasidEntry, noPasidEntry, lookupRules}
+use Rattle.scalable.specs.Lookup.{Lookup, lookupRules}
 use Rattle.scalable.specs.Requests.{Translation, lookedUp, translationRules}
 use Rattle.scalable.proofs.Found.{looked-up, looked-up-at, Finds, finds}
 use borrow.Author.Needs.{needs}

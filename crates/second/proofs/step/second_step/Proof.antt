@@ -1,6 +1,4 @@
-use Prim.Native.Nat.{ℕ}
 use mathlib.Core.Bool.{true, false, not, _||_}
-use mathlib.Core.List.{List, _++_}
 use mathlib.Core.Path.{_≡_, refl, ap, sym, _∙_}
 use native.Mathlib.Omega.{arith}
 use lib.Dec.{lit≤}
