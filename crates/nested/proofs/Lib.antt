@@ -1,5 +1,5 @@
-pub mod Few
 pub mod Firsts
+pub mod Forks
 pub mod Leads
 pub mod Nested
 pub mod Rests

@@ -21,7 +21,8 @@ use Rattle.nested.specs.Positions.{placeAt, wantedAt, kindRules, restRul
 use Rattle.nested.specs.Then.{thenRules}
 use Rattle.nested.specs.Way.{lost}
 use Rattle.nested.proofs.Firsts.{levelOver, levelTried, not-last, ended, led, ended-at, led-at, stopped, stopped-at}
-use Rattle.nested.proofs.Nested.{outside-first, through, through-at}
+use Rattle.nested.proofs.Forks.{forks-outside, forks-first}
+use Rattle.nested.proofs.Nested.{through, through-at}
 use Rattle.nested.proofs.Thens.{Ends, run-then, tried-then}
 
 module _ (r : ScalableRegisters) (p : PasidEntry) (address : ℕ) (write : Bool) where
@@ -64,7 +65,9 @@ module _ (r : ScalableRegisters) (p : PasidEntry) (address : ℕ) (write : Bool)
       -- a fault of the first level is followed by nothing
       faults : Outside (Ends (λ w. w) (hostPageRules r p write)) first
       unfolding hostPageRules
-      faults = outside-first r p address write (Ends (λ w. w) (hostPageRules r p write)) (λ top. refl) (λ top. refl) level at s
+      faults =
+          forks-outside (Ends (λ w. w) (hostPageRules r p write)) _ first
+          (forks-first r p (p .«second_levels») (λ three. omega arith) (Ends (λ w. w) (hostPageRules r p write)) (λ top. refl) (λ top. refl) address write level at s)
 
       both : restRules r p address write level at s ≡ thenRules (λ w. w) (hostPageRules r p write) first
       unfolding restRules

@@ -38,10 +38,3 @@ module _ {A B : Type 0} (ended : A → B) (next : A → Rules B) where
           ≡ lastTried (onFetch f (entryAt at) (λ e. lastTried (entryAt at) (rest e) m)) (next (onFetch f outside (λ e. run (rest e) m))) m
       by missing ih = sym (ap (λ q. lastTried (entryAt at) q m) (h .0))
       by (found e) ih = ih e
-
--- every answer to an entry that can't be fetched is of a kind
-pub outside-then : {A B : Type 0} (Kind : B → Type 0) (ended : A → B) (next : A → Rules B) (q : Rules A) → Outside (λ a. Kind (ended a)) q
-    → ((a : A) → Outside Kind (next a)) → Outside Kind (thenRules ended next q)
-unfolding Outside thenRules
-outside-then Kind ended next (answer a) h after = after a
-outside-then Kind ended next (fetch kind at outside rest) h after = (h .0, λ e. outside-then Kind ended next (rest e) (h .1 e) after)

@@ -1,6 +1,6 @@
 -- Laws of a walk with a way to its entries, over any format of the entries and any way.
 use Prim.Native.Nat.{ℕ, zero, suc, _-_, _<_}
-use mathlib.Core.Path.{_≡_, refl, ap, sym, _∙_, fun-ext, subst}
+use mathlib.Core.Path.{_≡_, refl, ap, sym, _∙_, fun-ext}
 use native.Mathlib.Omega.{arith}
 use Rattle.image.specs.EntryKind.{EntryKind, pageEntry, wordsOf}
 use Rattle.image.specs.Memory.{Memory, Fetched, missing, found, entry, onFetch}
@@ -10,7 +10,7 @@ use Rattle.image.proofs.Trees.{Outside}
 use Rattle.dma.specs.Walk.{Step, done, down, onStep, placeIn, walkRules}
 use Rattle.nested.specs.Then.{thenRules}
 use Rattle.nested.specs.Way.{Located, located, lost, onLocated, entryRules, ended, wayRules}
-use Rattle.nested.proofs.Thens.{Ends, run-then, tried-then, outside-then}
+use Rattle.nested.proofs.Thens.{Ends, run-then, tried-then}
 
 -- rules that find no entry
 abbrev pub IsLost : {S A : Type 0} → Located S A → Type 0
@@ -183,22 +183,6 @@ module _ {S A : Type 0} (kind : EntryKind) (address : ℕ) (locate : S → (plac
     onward-way-at before {here} {to} {t} there h =
         ap (λ (place : Place). lastTried place (walk (level - 1) to t) m) there ∙ sym (rw (← h) at first-at before)
 
-  -- every answer to an entry that can't be fetched is of a kind
-  pub outside-way : (Kind : A → Type 0) → ((s : S) → Kind (none s)) → ((s : S) (place : ℕ) → Outside (λ l. Kind (end l)) (locate s place))
-      → (level table : ℕ) (s : S) → Outside Kind (walk level table s)
-  unfolding Outside wayRules
-  outside-way Kind lacks on zero table s = tt
-  outside-way Kind lacks on (suc n) table s =
-      outside-then Kind end (next n) (locate s (placeIn address table n)) (on s (placeIn address table n)) (after (outside-way Kind lacks on n))
-    where
-      stepped : (x : Step S A) → ((table : ℕ) (s : S) → Outside Kind (walk n table s)) → Outside Kind (onStep x answer (walk n))
-      stepped (done a) ih = tt
-      stepped (down to t) ih = ih to t
-
-      after : ((table : ℕ) (s : S) → Outside Kind (walk n table s)) → (l : Located S A) → Outside Kind (next n l)
-      after ih (located place t) = (lacks t, λ e. stepped (step (suc n) place t e) ih)
-      after ih (lost a) = tt
-
 -- where every entry is at the address itself, it is the walk by levels of legacy mode
 pub straight : {S A : Type 0} (address : ℕ) (none : S → A) (step : (level place : ℕ) → S → (e : ℕ) → Step S A) (level table : ℕ) (s : S)
     → wayRules pageEntry address (λ s place. answer (located place s)) none step level table s ≡ walkRules address none step level table s
@@ -214,10 +198,3 @@ straight {S} {A} address none step (suc n) table s =
         ≡ onStep x answer (walkRules address none step n)
     stepped (done a) ih = refl
     stepped (down to t) ih = ih to t
-
-pub outside-walk : {S A : Type 0} (Kind : A → Type 0) (address : ℕ) (none : S → A) (step : (level place : ℕ) → S → (e : ℕ) → Step S A)
-    → ((s : S) → Kind (none s)) → (level table : ℕ) (s : S) → Outside Kind (walkRules address none step level table s)
-unfolding Outside
-outside-walk Kind address none step lacks level table s =
-    subst (λ q. Outside Kind q) (straight address none step level table s)
-    (outside-way pageEntry address (λ s place. answer (located place s)) none step Kind lacks (λ s place. tt) level table s)

@@ -4,5 +4,6 @@ pub mod Fifty
 pub mod Forks
 pub mod Found
 pub mod Isolation
+pub mod Requests
 pub mod Tables
 pub mod Written
