@@ -13,6 +13,8 @@ use faults::slot_count;
 use image::word_or_zero;
 use packing::BAD_ANSWER;
 use packing::BAD_RECORDER;
+use packing::BLOCKED;
+use packing::LAST_KIND;
 use packing::NO_FAULT;
 use packing::REFUSED_3;
 use packing::flag;
@@ -85,7 +87,7 @@ fn bad_answer(answer: &[u8]) -> bool
     if answer.len() != 32 {
         return true;
     }
-    (answer[0] == 0) | (8 < answer[0])
+    (answer[0] == 0) | (LAST_KIND < answer[0])
 }
 
 #[no_mangle]
@@ -101,7 +103,7 @@ pub extern "C" fn galitzaf_record(answer: &[u8], records: &mut [u8], recorder: &
     if 1 < recorder[1] {
         return BAD_RECORDER;
     }
-    if answer[0] != 1 {
+    if answer[0] != BLOCKED {
         return NO_FAULT;
     }
     let low = word_or_zero(answer, 8);

@@ -36,6 +36,9 @@ const POSTED: u8 = 5;
 
 const GRANTED: u8 = 6;
 
+// The kinds are 1 to this one: 7 and 8 are those of translation requests.
+pub const LAST_KIND: u8 = 8;
+
 pub struct Packed {
     pub head: u64,
     pub low: u64,
@@ -117,7 +120,7 @@ pub fn pack_refusal(number: u8) -> Packed
     short(head(REFUSED, number, 0, 0, 0))
 }
 
-pub fn pack_memory(answer: MemoryAnswer) -> Packed
+fn pack_memory(answer: MemoryAnswer) -> Packed
     ensures { λ r. ⌜ bytesOfPacked r ≡ memoryBytes (dma.outcomeOf answer) (dma.entryOf answer) ⌝ }
 {
     match answer {

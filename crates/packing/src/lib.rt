@@ -4,6 +4,8 @@ mod arguments;
 mod status;
 mod unpacking;
 
+pub use answer::BLOCKED;
+pub use answer::LAST_KIND;
 pub use answer::PASSED;
 pub use answer::Packed;
 pub use answer::flag;
