@@ -10,11 +10,10 @@ use builder::BuildAnswer;
 use builder::build;
 use packing::BAD_REGISTERS;
 use packing::BAD_WINDOWS;
+use packing::OK;
 use packing::malformed;
 use packing::unpack;
 use registers::SourceId;
-
-const OK: u32 = 0x00;
 
 // Plus the reason with no item.
 const NOT_READY: u32 = 0xA0;

@@ -10,7 +10,11 @@ use Rattle.cache.specs.Numbers.{cachedAnswer, cachedPlace, cachedState, stateWi
 use Rattle.packing.specs.Answer.{memoryBytes}
 use Rattle.packing.specs.Arguments.{malformedWindows, memoryRequest}
 use Rattle.packing.specs.Registers.{malformedRegisters, unpacked}
-use Rattle.packing.specs.Status.{ok, badRegisters, badWindowCount, badCache, badAnswer, badKind}
+use Rattle.packing.specs.Status.{ok, badRegisters, badWindowCount, badAnswer, badKind}
+
+-- not as many numbers as a cache has
+abbrev pub badCache : ℕ
+badCache = 0x108
 
 -- 776 numbers, whatever they are
 abbrev pub malformedCache : List ℕ → Bool

@@ -25,9 +25,6 @@ noFault = 0x10
 abbrev pub badMeters : ℕ
 badMeters = 0x106
 
-abbrev pub badCache : ℕ
-badCache = 0x108
-
 abbrev pub metersRefused : ℕ
 metersRefused = 0x60
 
