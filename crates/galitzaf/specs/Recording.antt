@@ -47,8 +47,8 @@ clearOverflowCall records recorder =
     else withState (clearingOverflow (slotsIn records) records (byte recorder 0) (overflowIn recorder))
 
 -- not 32 bytes, or of no kind that a request answers
-unfoldable pub badFault : List ℕ → Bool
-badFault answer = not (eqb (length answer) 32) || (eqb (byte answer 0) 0 || ltb lastKind (byte answer 0))
+unfoldable pub malformedAnswer : List ℕ → Bool
+malformedAnswer answer = not (eqb (length answer) 32) || (eqb (byte answer 0) 0 || ltb lastKind (byte answer 0))
 
 -- the record in bytes 23:8, by its two words
 abbrev pub recordIn : List ℕ → ℕ
@@ -62,7 +62,7 @@ withBoth a = (a .answer, a .state .buffer, stateBytes (a .state .next) (a .state
 unfoldable pub recordCall : (answer records recorder : List ℕ) → ℕ × List ℕ × List ℕ
 recordCall answer records recorder =
     if unfit (slotsIn records) recorder then (refused, records, recorder)
-    else if badFault answer then (badAnswer, records, recorder)
+    else if malformedAnswer answer then (badAnswer, records, recorder)
     else if badState recorder then (badRecorder, records, recorder)
     else if not (eqb (byte answer 0) 1) then (noFault, records, recorder)
     else withBoth (recording (slotsIn records) records (byte recorder 0) (overflowIn recorder) (eqb (byte answer 2) 1) (recordIn answer))

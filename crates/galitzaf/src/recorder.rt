@@ -3,7 +3,7 @@ ghost use mathlib.Core.Path.{_≡_};
 ghost use lib.Dec.{eqb};
 ghost use lib.ListN.{length};
 ghost use Rattle.packing.specs.Buffer.{byte};
-ghost use Rattle.galitzaf.specs.Recording.{unfit, stateBytes, badFault, clearSlotCall, clearOverflowCall, recordCall};
+ghost use Rattle.galitzaf.specs.Recording.{unfit, stateBytes, malformedAnswer, clearSlotCall, clearOverflowCall, recordCall};
 use faults::FaultRecord;
 use faults::Recorder;
 use faults::cleared;
@@ -82,7 +82,7 @@ pub extern "C" fn galitzaf_clear_overflow(records: &[u8], recorder: &mut [u8]) -
 
 // Not 32 bytes, or of no kind that a request answers.
 fn bad_answer(answer: &[u8]) -> bool
-    ensures { λ r. ⌜ r ≡ badFault (now (answer .entry)) ⌝ }
+    ensures { λ r. ⌜ r ≡ malformedAnswer (now (answer .entry)) ⌝ }
 {
     if answer.len() != 32 {
         return true;

@@ -8,7 +8,7 @@ use lib.Dec.{lit≤}
 use lib.ListN.{length}
 use Rattle.image.specs.Memory.{wordAt}
 use Rattle.faults.specs.Slots.{slotsIn}
-use Rattle.galitzaf.specs.Recording.{unfit, badFault, recordCall, withBoth}
+use Rattle.galitzaf.specs.Recording.{unfit, malformedAnswer, recordCall, withBoth}
 use Rattle.galitzaf.proofs.States.{two-bytes, answer-length, word-of}
 use Rattle.galitzaf.proofs.recorder.galitzaf_record.Statement.{statement}
 use Rattle.galitzaf.proofs.recorder.galitzaf_record.Tie as tie
@@ -29,7 +29,7 @@ two c =
     let a = c .before .before .before .before .before .before .before .args in
     two-bytes (slotsIn (a .records .now)) (a .recorder .now) (fit c)
 
-sound : (c : tie.Else2) → badFault (c .before .before .before .before .before .before .before .before .before .args .answer .now) ≡ false
+sound : (c : tie.Else2) → malformedAnswer (c .before .before .before .before .before .before .before .before .before .args .answer .now) ≡ false
 sound c = sym (c .before .bad-answer .ensures) ∙ c .if2 .left
 
 whole : (c : tie.Else2) → length (c .before .before .before .before .before .before .before .before .before .args .answer .now) ≡ 32
