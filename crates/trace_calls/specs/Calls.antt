@@ -1,5 +1,5 @@
 -- The calls on traces: what each answers, and what it leaves in the buffers lent to be written. The first line that applies decides.
-use Prim.Native.Nat.{ℕ, _^_}
+use Prim.Native.Nat.{ℕ}
 use mathlib.Core.Bool.{Bool, not, _||_}
 use mathlib.Core.List.{List, [], _∷_}
 use lib.Dec.{eqb, leb}
@@ -12,7 +12,7 @@ use Rattle.traced.specs.Entry.{entryBytes}
 use Rattle.traced.specs.declared.Traced.{Traced}
 use Rattle.trace.specs.Reader as reader
 use Rattle.trace.specs.Reader.{ReaderStep, blockAt, stepAt}
-use Rattle.trace.specs.Writer.{Wrote, kept, full, refused, appending, closing}
+use Rattle.trace.specs.Writer.{Wrote, kept, full, refused, unfit, appending, closing}
 use Rattle.trace.specs.declared.Cursor.{Cursor}
 use Rattle.trace.specs.declared.writer.Writer.{Writer}
 use Rattle.answered.specs.Answered.{plain}
@@ -46,12 +46,13 @@ answerDiffers = 0x55
 abbrev pub badTrace : ℕ
 badTrace = 0x107
 
--- a writer: how many entries the block holds, fewer than 15, and the block's number, of 48 bits
-unfoldable pub badWriter : (writer : List ℕ) (len : ℕ) → Bool
-badWriter writer len = not (eqb (length writer) 2) || (not (eqb len 512) || leb 15 (getD writer 0 0) || leb (2 ^ 48) (getD writer 1 0))
-
+-- a writer: how many entries the block holds, and the block's number
 abbrev pub writerIn : (writer : List ℕ) → Writer
 writerIn writer = record { count = getD writer 0 0; number = getD writer 1 0 }
+
+-- not two numbers, or a writer or a length that the trace refuses
+unfoldable pub badWriter : (writer : List ℕ) (len : ℕ) → Bool
+badWriter writer len = not (eqb (length writer) 2) || unfit (writerIn writer) len
 
 abbrev pub numbersOf : Writer → List ℕ
 numbersOf w = w .count ∷ w .number ∷ []
