@@ -1,8 +1,7 @@
 -- What each call answers, and what it leaves in the buffers that are lent to be written. The first line that applies decides.
 use Prim.Native.Nat.{ℕ}
-use mathlib.Core.Bool.{not}
 use mathlib.Core.List.{List}
-use lib.Dec.{eqb, ltb}
+use lib.Dec.{ltb}
 use lib.ListN.{length}
 use Rattle.image.specs.Choice.{if_then_else_}
 use Rattle.image.specs.Place.{Place}
@@ -11,22 +10,20 @@ use Rattle.interrupts.specs.Interrupts.{InterruptOutcome, interruptAnswer, inte
 use Rattle.interrupts.specs.Post.{interruptWritten}
 use Rattle.interrupts.specs.declared.InterruptRequest.{InterruptRequest}
 use Rattle.packing.specs.Answer.{memoryBytes, interruptBytes}
-use Rattle.packing.specs.Arguments.{malformedWindows, memoryRequest}
-use Rattle.packing.specs.Registers.{malformedRegisters, unpacked}
-use Rattle.packing.specs.Status.{ok, badRegisters, badWindowCount, badAnswer, badKind}
+use Rattle.packing.specs.Arguments.{onArguments, memoryRequest}
+use Rattle.packing.specs.Registers.{unpacked}
+use Rattle.packing.specs.Status.{ok, badKind}
 
 -- the status, and the buffer for the answer
 unfoldable pub memoryCall : (registers windows image : List ℕ) (source address write : ℕ) (answer : List ℕ) → ℕ × List ℕ
 memoryCall registers windows image source address write answer =
-    if malformedRegisters registers then (badRegisters, answer)
-    else if malformedWindows windows then (badWindowCount, answer)
-    else if not (eqb (length answer) 32) then (badAnswer, answer)
-    else if ltb 1 write then (badKind, answer)
+    onArguments registers windows (length answer) (λ (s : ℕ). (s, answer))
+    (if ltb 1 write then (badKind, answer)
     else (
       ok,
       memoryBytes (memoryAnswer (unpacked registers) (memoryRequest source address write) windows image)
           (memoryAnswerPlace (unpacked registers) (memoryRequest source address write) windows image),
-    )
+    ))
 
 abbrev pub interruptRequest : (source address «data» : ℕ) → InterruptRequest
 interruptRequest source address «data» =
@@ -39,9 +36,6 @@ interrupted windows outcome place image = (ok, interruptWritten windows outcome 
 unfoldable pub interruptCall : (registers windows image : List ℕ) (source address «data» : ℕ) (answer : List ℕ)
     → ℕ × List ℕ × List ℕ
 interruptCall registers windows image source address «data» answer =
-    if malformedRegisters registers then (badRegisters, image, answer)
-    else if malformedWindows windows then (badWindowCount, image, answer)
-    else if not (eqb (length answer) 32) then (badAnswer, image, answer)
-    else
-    interrupted windows (interruptAnswer (unpacked registers) (interruptRequest source address «data») windows image)
-    (interruptAnswerPlace (unpacked registers) (interruptRequest source address «data») windows image) image
+    onArguments registers windows (length answer) (λ (s : ℕ). (s, image, answer))
+    (interrupted windows (interruptAnswer (unpacked registers) (interruptRequest source address «data») windows image)
+    (interruptAnswerPlace (unpacked registers) (interruptRequest source address «data») windows image) image)

@@ -8,17 +8,9 @@ use borrow.Author.Tests.{eqb-true}
 use lib.Dec.{eqb}
 use lib.ListN.{length}
 use Rattle.image.specs.Choice.{if_then_else_}
-use Rattle.packing.specs.Arguments.{malformedWindows, argumentStatus}
+use Rattle.packing.specs.Arguments.{malformedWindows, onArguments, argumentStatus}
 use Rattle.packing.specs.Registers.{malformedRegisters}
 use Rattle.packing.specs.Status.{ok, badRegisters, badWindowCount, badAnswer}
-
--- these lines, where f makes a call's answer of a status
-abbrev lines : (registers windows answer : List ℕ) {B : Type 0} (f : ℕ → B) (rest : B) → B
-lines registers windows answer f rest =
-    if malformedRegisters registers then f badRegisters
-    else if malformedWindows windows then f badWindowCount
-    else if not (eqb (length answer) 32) then f badAnswer
-    else rest
 
 -- arguments that are laid out well
 pub record Laid (registers windows answer : List ℕ) : Type 0 where
@@ -27,14 +19,14 @@ pub record Laid (registers windows answer : List ℕ) : Type 0 where
   pub answer-whole : length answer ≡ 32
 
 pub record Decided (registers windows answer : List ℕ) (s : ℕ) : Type 1 where
-  pub refused : (s ≡ ok → ⊥) → {B : Type 0} (f : ℕ → B) (rest : B) → f s ≡ lines registers windows answer f rest
+  pub refused : (s ≡ ok → ⊥) → {B : Type 0} (f : ℕ → B) (rest : B) → f s ≡ onArguments registers windows (length answer) f rest
   pub accepted : s ≡ ok → Laid registers windows answer
 
 pub decided : (registers windows answer : List ℕ) {s : ℕ} → s ≡ argumentStatus registers windows (length answer)
     → Decided registers windows answer s
 decided registers windows answer {s} told = record { refused = refused; accepted = accepted }
   where
-    refused : (s ≡ ok → ⊥) → {B : Type 0} (f : ℕ → B) (rest : B) → f s ≡ lines registers windows answer f rest
+    refused : (s ≡ ok → ⊥) → {B : Type 0} (f : ℕ → B) (rest : B) → f s ≡ onArguments registers windows (length answer) f rest
     refused bad {B} f rest =
         ap f told ∙ by (malformedRegisters registers) (malformedWindows windows) (not (eqb (length answer) 32)) (λ h. bad (told ∙ h))
       where

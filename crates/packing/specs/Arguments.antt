@@ -13,13 +13,18 @@ use Rattle.packing.specs.Status.{ok, badRegisters, badWindowCount, badAn
 abbrev pub malformedWindows : List ℕ → Bool
 malformedWindows windows = not (eqb (length windows % 3) 0)
 
--- what a call of a request answers, in this order, where its registers, its windows or its buffer for the answer aren't laid out well
-abbrev pub argumentStatus : (registers windows : List ℕ) (answer : ℕ) → ℕ
-argumentStatus registers windows answer =
-    if malformedRegisters registers then badRegisters
-    else if malformedWindows windows then badWindowCount
-    else if not (eqb answer 32) then badAnswer
-    else ok
+-- how a call of a request begins, in this order: bad of the status where its registers, its windows or its buffer for the answer, of this size,
+-- aren't laid out well, else good
+abbrev pub onArguments : (registers windows : List ℕ) (size : ℕ) {B : Type 0} (bad : ℕ → B) (good : B) → B
+onArguments registers windows size bad good =
+    if malformedRegisters registers then bad badRegisters
+    else if malformedWindows windows then bad badWindowCount
+    else if not (eqb size 32) then bad badAnswer
+    else good
+
+-- the status alone
+abbrev pub argumentStatus : (registers windows : List ℕ) (size : ℕ) → ℕ
+argumentStatus registers windows size = onArguments registers windows size (λ (s : ℕ). s) ok
 
 -- write is 1 for a write, 0 for a read
 abbrev pub memoryRequest : (source address write : ℕ) → MemoryRequest

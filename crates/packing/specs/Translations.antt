@@ -1,6 +1,5 @@
 -- Document 02, Ask 1: the 32 bytes of a translation request's answer, and its call.
 use Prim.Native.Nat.{ℕ}
-use mathlib.Core.Bool.{not}
 use mathlib.Core.List.{List, [], _∷_}
 use lib.Dec.{eqb}
 use lib.ListN.{length}
@@ -10,9 +9,9 @@ use Rattle.image.specs.Place.{Place}
 use Rattle.translation.specs.Requests.{TranslationOutcome, passed, translated, blocked, refused, translationAnswer, translationAnswerPlace}
 use Rattle.translation.specs.declared.TranslationRequest.{TranslationRequest}
 use Rattle.packing.specs.Answer.{laid, blockedBytes, refusedBytes}
-use Rattle.packing.specs.Arguments.{malformedWindows}
-use Rattle.packing.specs.Registers.{malformedRegisters, unpacked}
-use Rattle.packing.specs.Status.{ok, badRegisters, badWindowCount, badAnswer}
+use Rattle.packing.specs.Arguments.{onArguments}
+use Rattle.packing.specs.Registers.{unpacked}
+use Rattle.packing.specs.Status.{ok}
 
 -- of a page bytes 1 and 2 are the rights to read and to write, bytes 15:8 the frame and bytes 23:16 the size. No page has size 0: the
 -- empty answer has a kind of its own
@@ -30,10 +29,7 @@ translationRequest source address = record { source = record { id = source }; ad
 -- the status, and the buffer for the answer
 unfoldable pub translationCall : (registers windows image : List ℕ) (source address : ℕ) (answer : List ℕ) → ℕ × List ℕ
 translationCall registers windows image source address answer =
-    if malformedRegisters registers then (badRegisters, answer)
-    else if malformedWindows windows then (badWindowCount, answer)
-    else if not (eqb (length answer) 32) then (badAnswer, answer)
-    else (
+    onArguments registers windows (length answer) (λ (s : ℕ). (s, answer)) (
       ok,
       translationBytes (translationAnswer (unpacked registers) (translationRequest source address) windows image)
           (translationAnswerPlace (unpacked registers) (translationRequest source address) windows image),

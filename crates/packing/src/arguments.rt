@@ -7,9 +7,9 @@ use crate::status::BAD_WINDOWS;
 use crate::status::OK;
 use crate::unpacking::malformed;
 
-// The status where one of them isn't laid out as it should be.
-pub fn bad_arguments(registers: &[u8], windows: &[u64], answer: usize) -> u32
-    ensures { λ r. ⌜ r ≡ argumentStatus (now (registers .entry)) (now (windows .entry)) answer ⌝ }
+// The status where one of them isn't laid out as it should be; the size is that of the buffer for the answer.
+pub fn bad_arguments(registers: &[u8], windows: &[u64], size: usize) -> u32
+    ensures { λ r. ⌜ r ≡ argumentStatus (now (registers .entry)) (now (windows .entry)) size ⌝ }
 {
     if malformed(registers) {
         return BAD_REGISTERS;
@@ -17,7 +17,7 @@ pub fn bad_arguments(registers: &[u8], windows: &[u64], answer: usize) -> u32
     if windows.len() % 3 != 0 {
         return BAD_WINDOWS;
     }
-    if answer != 32 {
+    if size != 32 {
         return BAD_ANSWER;
     }
     OK
