@@ -1,4 +1,6 @@
 // Entries of the trace from the unit's requests and answers, and from the bytes of answers.
+#![tactic(auto)]
+
 ghost use Rattle.std.specs.Prelude.{◌≡◌, ◌<◌};
 ghost use Rattle.image.specs.Answers.{place_of};
 ghost use Rattle.image.specs.Choice.{one-if};

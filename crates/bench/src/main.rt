@@ -1,5 +1,7 @@
 // Document 01's bench image and its twelve cases, asked of the proved unit one after the other. Each line is that of
 // examples/c/bench.c and of the command line.
+#![tactic(auto)]
+
 ghost use Rattle.std.specs.Prelude.{◌≤◌};
 
 use libc::STDOUT_FILENO;

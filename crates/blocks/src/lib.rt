@@ -1,4 +1,6 @@
 // A block of the trace: 512 bytes with a mark, a count, a number, entries, zeros and a sum.
+#![tactic(auto)]
+
 ghost use Rattle.std.specs.Prelude.{◌≡◌, ◌≤◌, ◌<◌, length};
 ghost use Rattle.image.specs.Bytes.{little_endian};
 ghost use Rattle.blocks.specs.Block.{headed, framed, zeros, sum_of};

@@ -7,7 +7,7 @@ use crate::reasons::{item_reason, leaf, levels_below, unmaps};
 use registers::Registers;
 use tables::{Tree, map_page, unmap_page};
 
-#[derive(Drop)]
+#[derive(Clone, Copy)]
 pub struct Item {
     pub what: u64,
     pub place: u64,
@@ -16,7 +16,7 @@ pub struct Item {
 }
 
 // How far the items were taken: the index of the first that wasn't and the reason against it, or reason 0.
-#[derive(Drop)]
+#[derive(Clone, Copy)]
 pub struct Taken {
     pub index: u64,
     pub reason: u8,

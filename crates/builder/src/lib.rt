@@ -1,4 +1,6 @@
 // The table builder (document 02, ask 8): maps and unmaps a list of pages in a context, in a region of guest memory, whole or not at all.
+#![tactic(auto)]
+
 ghost use Rattle.std.specs.Prelude.{◌≡◌};
 ghost use Rattle.builder.specs.Answers.{built_of, readiness_of, unready as answerUnready};
 ghost use Rattle.builder.specs.Build.{lent, built};
@@ -13,7 +15,7 @@ use ready::{Ready, make_ready};
 use region::{Area, copy_in, copy_out};
 use registers::{Registers, SourceId};
 
-#[derive(Drop)]
+#[derive(Clone, Copy)]
 pub enum BuildAnswer {
     Done,
     // By number: 1 bad registers or windows.

@@ -12,7 +12,7 @@ use region::{Area, bad_region};
 use registers::{Page4K, Registers, SourceId};
 use tables::Tree;
 
-#[derive(Drop)]
+#[derive(Clone, Copy)]
 pub enum Ready {
     Refused(u8),
     NotYet(u8),

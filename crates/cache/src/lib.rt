@@ -1,4 +1,6 @@
 // A cache of 64 translations in front of the walk: a second engine for memory requests. Its state is lent as numbers.
+#![tactic(auto)]
+
 ghost use Rattle.std.specs.Prelude.{◌≡◌, ◌%◌, length, replicate};
 ghost use Rattle.image.specs.Place.{stopped_at};
 ghost use Rattle.image.specs.Rules.{run};

@@ -1,4 +1,6 @@
 // Blocks of a trace, each byte of each changed to every other value: how many of them the reader names as damaged.
+#![tactic(auto)]
+
 ghost use Rattle.std.specs.Prelude.{◌<◌};
 
 use libc::STDOUT_FILENO;

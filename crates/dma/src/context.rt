@@ -13,7 +13,7 @@ use image::{Entry16, any_set16, bit16, bits16};
 use registers::{Registers, at_or_above_power};
 
 // What a context entry says.
-#[derive(Drop)]
+#[derive(Clone, Copy)]
 pub struct Context {
     // The top page table's address.
     pub top: u64,
@@ -27,7 +27,7 @@ pub struct Context {
 }
 
 // What a lookup of a source's context finds, with the host address of the last entry that was tried.
-#[derive(Drop)]
+#[derive(Clone, Copy)]
 pub enum Lookup {
     Found(Context, u64),
     // Why there is none, and FPD as it was read by then.

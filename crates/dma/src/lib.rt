@@ -1,4 +1,6 @@
 // Memory requests: untranslated reads and writes, from the root entry to a host address or a fault.
+#![tactic(auto)]
+
 ghost use Rattle.std.specs.Prelude.{◌≡◌};
 ghost use Rattle.image.specs.Place.{Place};
 ghost use Rattle.dma.specs.Answers.{outcome_of, entry_of, translation_of, Names};
@@ -26,14 +28,14 @@ use registers::{Admission, Registers, SourceId, admit, in_interrupt_range};
 use translation::translate;
 pub use translation::{Translation, overflows, translate_in, without_context};
 
-#[derive(Drop)]
+#[derive(Clone, Copy)]
 pub struct MemoryRequest {
     pub source: SourceId,
     pub address: u64,
     pub write: bool,
 }
 
-#[derive(Drop)]
+#[derive(Clone, Copy)]
 pub enum MemoryAnswer {
     // The host address.
     Granted(u64),

@@ -18,7 +18,7 @@ use image::{Found8, Span, bit, field, in_place, page_entry8_by};
 use registers::{Page1G, Page4K, Registers, at_or_above_power};
 
 // What is the same at all levels of a walk, but for the registers, which would be kept in memory as a part of it. first: the first window.
-#[derive(Drop)]
+#[derive(Clone, Copy)]
 pub struct Walk {
     pub first: Span,
     pub address: u64,
@@ -26,14 +26,14 @@ pub struct Walk {
 }
 
 // A page entry: its host address, and what is found there.
-#[derive(Drop)]
+#[derive(Clone, Copy)]
 pub struct Fetch {
     pub at: u64,
     pub found: Found8,
 }
 
 // What the walk makes of an entry. No two variants hold fields of different sizes in one place.
-#[derive(Drop)]
+#[derive(Clone, Copy)]
 pub(crate) enum Step {
     // The next table.
     Down(u64),

@@ -11,7 +11,7 @@ use image::{Entry16, any_set16};
 use registers::at_or_above_power;
 
 // What a root entry's check says.
-#[derive(Drop)]
+#[derive(Clone, Copy)]
 pub(crate) enum RootCheck {
     // Why the request ends here, and the entry's host address.
     Stop(Reason, u64),

@@ -16,7 +16,7 @@ use faults::Reason;
 use image::Span;
 use registers::{Page4K, Registers, at_or_above_power};
 
-#[derive(Drop)]
+#[derive(Clone, Copy)]
 pub enum Translation {
     // The address itself.
     Through,

@@ -1,5 +1,7 @@
 // What a blocked request leaves: its reason, whether it may be recorded, and its record; and the recorder that keeps
 // 8 to 256 of them in a lent buffer.
+#![tactic(auto)]
+
 mod fault;
 mod lent;
 mod reason;

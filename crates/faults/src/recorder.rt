@@ -8,7 +8,7 @@ ghost use Rattle.faults.specs.Slots.{slots_of, slots_in};
 use crate::fault::Fault;
 use crate::slots::{clear_record, is_standing, write_record};
 
-#[derive(Drop)]
+#[derive(Clone, Copy)]
 pub struct Recorder {
     // The slot that the next record goes to.
     pub next: u8,
@@ -16,7 +16,7 @@ pub struct Recorder {
 }
 
 // What became of a call. A clear also tells whether a record stood there, or overflow was set.
-#[derive(Drop)]
+#[derive(Clone, Copy)]
 pub enum RecorderAnswer {
     // Refusal 3.
     Refused,
@@ -50,7 +50,7 @@ impl RecorderAnswer {
 }
 
 // What the recorder is handed of a fault: whether it may be recorded, and its record.
-#[derive(Drop)]
+#[derive(Clone, Copy)]
 pub struct FaultRecord {
     pub recordable: bool,
     pub low: u64,
@@ -68,7 +68,7 @@ pub fn record_of(fault: Fault) -> FaultRecord
 }
 
 // A call's answer, with the recorder that it leaves.
-#[derive(Drop)]
+#[derive(Clone, Copy)]
 pub struct RecorderStep {
     pub answer: RecorderAnswer,
     pub recorder: Recorder,

@@ -1,4 +1,6 @@
 // First-level translation: what a walk makes of one entry.
+#![tactic(auto)]
+
 mod canonical;
 mod entry;
 mod step;

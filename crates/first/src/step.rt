@@ -11,7 +11,7 @@ use image::{field, in_place};
 use pasid::{PasidEntry, ScalableReason, ScalableRegisters};
 use registers::Page4K;
 
-#[derive(Drop)]
+#[derive(Clone, Copy)]
 pub enum FirstStep {
     // The next table.
     Down(u64),

@@ -1,5 +1,7 @@
 // The flags that a granted request sets in the entries it used: accessed, extended accessed and dirty bits. They are collected during the
 // walks, in a lent buffer whose first numbers are the flags so far, and set at the end.
+#![tactic(auto)]
+
 ghost use Rattle.std.specs.Prelude.{◌≡◌, ◌+◌, ◌^◌, ◌<◌, ◌≤◌, false, [], ◌∷◌, ◌++◌, length, take};
 ghost use Rattle.image.specs.Spans.{Opened};
 ghost use Rattle.image.specs.Answers.{HeldBy};

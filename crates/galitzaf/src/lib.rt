@@ -1,4 +1,6 @@
 // The C interface that include/galitzaf.h fixes: arguments are unpacked, the unit is asked, and its answer is packed.
+#![tactic(auto)]
+
 mod first_bad;
 mod meters;
 mod recorder;

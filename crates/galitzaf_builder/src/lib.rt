@@ -1,5 +1,7 @@
 // The table builder, for C: a crate of its own, so that its object is one of its own. It goes by the lookup of translation requests, which
 // the compiler puts into its caller only where it has one.
+#![tactic(auto)]
+
 ghost use Rattle.std.specs.Prelude.{◌≡◌, ◌<◌, length};
 ghost use Rattle.builder.specs.Answers.{built_of};
 ghost use Rattle.builder.specs.Build.{lent};

@@ -1,6 +1,8 @@
 // Memory requests through a cache of translations, whose state is lent, and its invalidations, for C: a crate of its own, so that its
 // object is one of its own. A miss goes by the lookup and the walk of memory requests, which the compiler puts into their callers only where
 // they have one.
+#![tactic(auto)]
+
 ghost use Rattle.std.specs.Prelude.{◌≡◌};
 ghost use Rattle.galitzaf_cache.specs.Caches.{cached_call, invalidate_call, invalidate_domain_call};
 

@@ -1,5 +1,7 @@
 // What is mapped for a source, for C: a crate of its own, so that its object is one of its own. It goes by the lookup of translation requests, which
 // the compiler puts into its caller only where it has one.
+#![tactic(auto)]
+
 ghost use Rattle.std.specs.Prelude.{◌≡◌};
 ghost use Rattle.mapping.specs.Answers.{told_as};
 ghost use Rattle.galitzaf_listing.specs.Listing.{listing_status, Few, list_call};

@@ -1,5 +1,7 @@
 // The replay of traces, for C: a crate of its own, so that its object is one of its own. The compiler inlines a large function only where it
 // has one caller, and replay calls what each request of galitzaf calls.
+#![tactic(auto)]
+
 ghost use Rattle.std.specs.Prelude.{◌≡◌};
 ghost use Rattle.galitzaf_replay.specs.Replay.{trace_replay_call};
 

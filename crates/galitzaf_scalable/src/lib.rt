@@ -1,4 +1,6 @@
 // Requests in scalable mode, for C: a crate of its own, so that its object is one of its own, which a unit in legacy mode doesn't link.
+#![tactic(auto)]
+
 ghost use Rattle.std.specs.Prelude.{false, ◌≡◌};
 ghost use Rattle.packing.specs.Answer.{bytes_of_packed, memory_bytes};
 ghost use Rattle.packing.specs.Registers.{malformed_registers};

@@ -1,5 +1,7 @@
 // Translation requests of devices with a translation cache, for C: a crate of its own, so that its object is one of its own. They go by the
 // lookup of memory requests, which the compiler puts into its caller only where it has one.
+#![tactic(auto)]
+
 ghost use Rattle.std.specs.Prelude.{◌≡◌};
 ghost use Rattle.image.specs.Place.{no_entry};
 ghost use Rattle.translation.specs.Answers.{size_of, outcome_of, entry_of};

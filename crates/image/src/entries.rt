@@ -12,7 +12,7 @@ use crate::{Entry16, Entry64, Found8, Found16, Found64, Span};
 use std::num::{wrapping_add_u64, wrapping_sub_u64};
 
 // The window that holds a byte.
-#[derive(Drop)]
+#[derive(Clone, Copy)]
 pub enum Held {
     In(Span),
     Nowhere,
@@ -217,7 +217,7 @@ pub fn page_entry32(windows: &[u64], image: &[u8], table: u64, offset: u64) -> F
 }
 
 // Where in the run the bytes from one up to so many after it stand, where a window has them all.
-#[derive(Drop)]
+#[derive(Clone, Copy)]
 enum Placed {
     At(usize),
     Nowhere,

@@ -1,5 +1,7 @@
 // Guest memory as entries of 8, 16, 32 and 64 bytes: fetched through windows on the one lent run, a table's page handed on as a part of
 // it, and no page copied. Their fields, and words of plain buffers.
+#![tactic(auto)]
+
 ghost use Rattle.std.specs.Prelude.{◌≡◌};
 ghost use Rattle.image.specs.Bits.{bits, bit, in_place};
 
@@ -17,14 +19,14 @@ pub use entry_fields::{any_set16, any_set64, bit16, bit64, bits16, bits64};
 pub use windows::{bad_several, bad_windows};
 
 // An entry of 16 bytes: bits 63:0 and 127:64.
-#[derive(Drop)]
+#[derive(Clone, Copy)]
 pub struct Entry16 {
     pub low: u64,
     pub high: u64,
 }
 
 // An entry of 64 bytes: bits 63:0 in w0, 511:448 in w7.
-#[derive(Drop)]
+#[derive(Clone, Copy)]
 pub struct Entry64 {
     pub w0: u64,
     pub w1: u64,
@@ -38,7 +40,7 @@ pub struct Entry64 {
 
 // A window as the fetches use it: its host addresses, and what is added to one of them, modulo 2^64, for its place in the run. That is made
 // before the address is known, so that a single sum stands between an entry's address and its load.
-#[derive(Drop)]
+#[derive(Clone, Copy)]
 pub struct Span {
     pub start: u64,
     pub size: u64,
@@ -46,26 +48,26 @@ pub struct Span {
 }
 
 // The entry concerned in a fault: none, or the one at a host address.
-#[derive(Drop)]
+#[derive(Clone, Copy)]
 pub enum EntryAddress {
     NoEntry,
     At(u64),
 }
 
 // An entry, or the host address of one that can't be fetched.
-#[derive(Drop)]
+#[derive(Clone, Copy)]
 pub enum Found8 {
     Entry(u64),
     Missing(u64),
 }
 
-#[derive(Drop)]
+#[derive(Clone, Copy)]
 pub enum Found16 {
     Entry(Entry16),
     Missing(u64),
 }
 
-#[derive(Drop)]
+#[derive(Clone, Copy)]
 pub enum Found64 {
     Entry(Entry64),
     Missing(u64),

@@ -12,7 +12,7 @@ use registers::SourceId;
 
 // Whether a notification is due, and the vector posted to the descriptor at an address. In this order no word
 // that is moved with the answer holds parts of two fields.
-#[derive(Drop)]
+#[derive(Clone, Copy)]
 pub struct Posted {
     pub notification: Notification,
     pub vector: u8,
@@ -20,14 +20,14 @@ pub struct Posted {
 }
 
 // What the table makes of a request. A fault has FPD as it was read by then, and the entry concerned.
-#[derive(Drop)]
+#[derive(Clone, Copy)]
 pub enum Delivery {
     Fault(Reason, bool, EntryAddress),
     Remap(Remapped),
     Post(Posted),
 }
 
-#[derive(Drop)]
+#[derive(Clone, Copy)]
 pub enum InterruptAnswer {
     // The request goes on unchanged.
     Passed,

@@ -8,13 +8,13 @@ ghost use Rattle.interrupts.specs.Answers.{due_of, descriptor_checked, descripto
 
 use image::{Entry64, any_set64, bit64, bits64};
 
-#[derive(Drop)]
+#[derive(Clone, Copy)]
 pub enum Notification {
     Silent,
     Due { vector: u8, destination: u32 },
 }
 
-#[derive(Drop)]
+#[derive(Clone, Copy)]
 pub enum DescriptorCheck {
     Valid(Notification),
     // With the descriptor's host address.

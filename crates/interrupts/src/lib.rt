@@ -1,4 +1,6 @@
 // Interrupt requests: from a message to the remapped or posted interrupt or a fault.
+#![tactic(auto)]
+
 ghost use Rattle.std.specs.Prelude.{false, ◌≡◌, ◌%◌, ◌^◌, ◌<◌, length};
 ghost use Rattle.image.specs.Place.{stopped_at};
 ghost use Rattle.image.specs.Rules.{run};
@@ -25,7 +27,7 @@ use remapping::follow_index;
 use request::{RequestCheck, request_check};
 
 // A message: the address and data that a device wrote.
-#[derive(Drop)]
+#[derive(Clone, Copy)]
 pub struct InterruptRequest {
     pub source: SourceId,
     pub address: u64,

@@ -7,7 +7,7 @@ use faults::Reason;
 use image::field;
 use registers::Registers;
 
-#[derive(Drop)]
+#[derive(Clone, Copy)]
 pub enum RequestCheck {
     // The compatibility format, allowed: passed unchanged.
     Compatibility,

@@ -1,4 +1,6 @@
 // The interrupt remapping table entry (IRTE): a remapped one, or with bit 15 a posted one.
+#![tactic(auto)]
+
 ghost use Rattle.std.specs.Prelude.{◌≡◌};
 ghost use Rattle.image.specs.Answers.{number16};
 ghost use Rattle.image.specs.Place.{Place, entry_at};
@@ -15,7 +17,7 @@ pub use reserved::descriptor_address;
 use reserved::reserved_irte;
 use source::source_allowed;
 
-#[derive(Drop)]
+#[derive(Clone, Copy)]
 pub struct Remapped {
     pub destination_mode: bool,
     pub redirection_hint: bool,
@@ -26,7 +28,7 @@ pub struct Remapped {
 }
 
 // What an entry's check says: what the entry asks for, or why the request ends here.
-#[derive(Drop)]
+#[derive(Clone, Copy)]
 pub enum Irte {
     Remaps(Remapped),
     // A post of the vector to the descriptor at the address, urgent where URG says so, with FPD for the faults there.

@@ -12,7 +12,7 @@ use crate::rows::{put_span, room};
 use crate::search::{Found, next_span};
 use regions::{Tables, table_span};
 
-#[derive(Drop)]
+#[derive(Clone, Copy)]
 pub struct Filled {
     pub count: usize,
     pub more: bool,

@@ -1,4 +1,6 @@
 // What is mapped for a source: its pages, and the faults in their place, in address order (document 02, Ask 4).
+#![tactic(auto)]
+
 ghost use Rattle.std.specs.Prelude.{false, ◌≡◌, length, replicate, ℕ, ◌+◌, ◌*◌, ◌%◌, ◌^◌, ◌<◌, ◌≤◌, min};
 ghost use Rattle.image.specs.Rules.{run};
 ghost use Rattle.image.specs.Windows.{of_windows, bad_windows};
@@ -23,7 +25,7 @@ use regions::{Tables, forget};
 use registers::{Admission, Page4K, Registers, SourceId, admit};
 pub use rows::SPANS;
 
-#[derive(Drop)]
+#[derive(Clone, Copy)]
 pub enum Listing {
     // By number: 1, bad registers or windows.
     Refused(u8),

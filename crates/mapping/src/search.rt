@@ -14,7 +14,7 @@ use regions::{
     Region, Tables, What, empty_region, known_level, region_at, remember_tables, table_span,
 };
 
-#[derive(Drop)]
+#[derive(Clone, Copy)]
 pub enum Found {
     // Where it begins.
     At(u64, Region),

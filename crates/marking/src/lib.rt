@@ -1,5 +1,7 @@
 // Whether a context's tables are as built here, and a mark for each page of their region: the level of the table that it is, or 0 for a
 // free page (document 02, ask 8).
+#![tactic(auto)]
+
 ghost use Rattle.std.specs.Prelude.{◌≡◌, ◌+◌, ◌*◌, ◌^◌, ◌<◌, length, get_or, replicate};
 ghost use Rattle.marking.specs.Marking.{free_page, leads_to_free, mark_entry as marksEntry, mark_entries as marksEntries, mark_table as marksTable, mark_level as marksLevel, mark_levels as marksLevels, mark_all};
 

@@ -1,4 +1,6 @@
 // A storm meter: a load that halves on each tick, and a gate that the load may trip.
+#![tactic(auto)]
+
 ghost use Rattle.std.specs.Prelude.{◌≡◌};
 ghost use Rattle.meter.specs.Meter.{tick_load, ticked, trips_of, meter_byte, cleared};
 
@@ -8,14 +10,14 @@ mod row;
 pub use check::{fits, one_per_meter};
 pub use row::{reset_row, tick_row};
 
-#[derive(Drop)]
+#[derive(Clone, Copy)]
 pub enum Gate {
     Off,
     Above(f64),
     Outside(f64, f64),
 }
 
-#[derive(Drop)]
+#[derive(Clone, Copy)]
 pub struct Meter {
     pub load: f64,
     pub gate: Gate,

@@ -17,7 +17,7 @@ use image::{Found8, page_entry8_by};
 use pasid::{PasidEntry, ScalableReason};
 
 // What a level makes of its entry, always with the host address of the last entry that was tried.
-#[derive(Drop)]
+#[derive(Clone, Copy)]
 pub enum Level {
     // The next table, and how many flags there are then.
     Down(u64, u64, usize),

@@ -1,4 +1,6 @@
 // First-level and nested translation: the walk by levels whose entries, in a nested translation, are found through the second level.
+#![tactic(auto)]
+
 ghost use Rattle.std.specs.Prelude.{Bool, List, ◌≡◌, length, take, ℕ, ◌≤◌};
 ghost use Rattle.image.specs.Place.{entry_at};
 ghost use Rattle.image.specs.Spans.{Opened};
@@ -16,7 +18,7 @@ use position::Position;
 pub use position::{Asked, Walk};
 use turn::{Turn, take_turn};
 
-#[derive(Drop)]
+#[derive(Clone, Copy)]
 pub enum Pages {
     // The frame of the page, the level of its entry, the host address, and how many flags there are.
     Reached(u64, u32, u64, usize),

@@ -2,20 +2,20 @@
 use second::Space;
 
 // What a walk is for: the request's address, and whether it is a write.
-#[derive(Drop)]
+#[derive(Clone, Copy)]
 pub struct Asked {
     pub address: u64,
     pub write: bool,
 }
 
 // What is the same for all of its turns.
-#[derive(Drop)]
+#[derive(Clone, Copy)]
 pub struct Walk {
     pub space: Space,
     pub asked: Asked,
 }
 
-#[derive(Drop)]
+#[derive(Clone, Copy)]
 pub struct Position {
     // The level of the first-level entry that comes next; 0 for the page itself, which is at an intermediate address.
     pub level: u32,

@@ -13,7 +13,7 @@ use crate::position::{Position, Walk};
 use crate::way::{Way, locate};
 use dma::host_address;
 
-#[derive(Drop)]
+#[derive(Clone, Copy)]
 pub enum Turn {
     On(Position),
     Done(Pages),

@@ -15,7 +15,7 @@ use dma::{entry_offset, host_address, overflows};
 use pasid::{PasidEntry, ScalableReason};
 use second::{Walked, Wanted, second_walk};
 
-#[derive(Drop)]
+#[derive(Clone, Copy)]
 pub enum Way {
     // An entry's host address, whether the way to it may be written, and how many flags there are then.
     Entry(u64, bool, usize),

@@ -32,7 +32,7 @@ const GRANTED: u8 = 6;
 // The kinds are 1 to this one: 7 and 8 are those of translation requests.
 pub const LAST_KIND: u8 = 8;
 
-#[derive(Drop)]
+#[derive(Clone, Copy)]
 pub struct Packed {
     pub head: u64,
     pub low: u64,

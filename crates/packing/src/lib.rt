@@ -1,4 +1,6 @@
 // What the calls of the C interface have in common, as include/galitzaf.h fixes it: statuses, the registers' bytes, and the bytes of answers.
+#![tactic(auto)]
+
 mod answer;
 mod arguments;
 mod status;

@@ -11,7 +11,7 @@ use image::{Entry64, any_set64, bit64, bits64, in_place};
 use registers::at_or_above_power;
 
 // What a context entry says of a request.
-#[derive(Drop)]
+#[derive(Clone, Copy)]
 pub struct ScalableContext {
     // The PASID directory's address.
     pub directory: u64,
@@ -22,7 +22,7 @@ pub struct ScalableContext {
     pub fpd: bool,
 }
 
-#[derive(Drop)]
+#[derive(Clone, Copy)]
 pub enum ContextCheck {
     // Why the request ends here.
     Stop(ScalableReason),

@@ -8,13 +8,13 @@ use image::{field, in_place};
 use registers::at_or_above_power;
 
 // The PASID table that the entry leads to, and FPD of the context or of this entry.
-#[derive(Drop)]
+#[derive(Clone, Copy)]
 pub struct PasidTable {
     pub address: u64,
     pub fpd: bool,
 }
 
-#[derive(Drop)]
+#[derive(Clone, Copy)]
 pub enum DirectoryCheck {
     // Why the request ends here.
     Stop(ScalableReason),

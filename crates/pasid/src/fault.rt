@@ -10,7 +10,7 @@ use faults::{high_word, lies_within};
 use registers::{Page4K, SourceId};
 
 // The record's 128 bits are two words, bit 64 the lowest of high.
-#[derive(Drop)]
+#[derive(Clone, Copy)]
 pub struct ScalableFault {
     pub reason: ScalableReason,
     pub recordable: bool,

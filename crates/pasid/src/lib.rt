@@ -1,4 +1,6 @@
 // The tables of scalable mode, up to the PASID table entry: what each entry's check says, the faults with their numbers and records.
+#![tactic(auto)]
+
 mod context;
 mod directory;
 mod fault;
@@ -18,7 +20,7 @@ pub use validity::{TableCheck, table_check};
 
 // The registers of scalable mode: those of legacy mode, whose levels and page sizes are the second level's, and ten capabilities. Any
 // value of a capability is good, so that refusal 1 is that of the base registers.
-#[derive(Drop)]
+#[derive(Clone, Copy)]
 pub struct ScalableRegisters {
     pub base: Registers,
     // First-level, second-level, nested translation and pass-through.
@@ -38,7 +40,7 @@ pub struct ScalableRegisters {
 }
 
 // The PASID of a request; its value is looked at only where one is present.
-#[derive(Drop)]
+#[derive(Clone, Copy)]
 pub struct Pasid {
     pub present: bool,
     pub value: u32,

@@ -2,7 +2,7 @@
 ghost use Rattle.std.specs.Prelude.{◌≡◌};
 ghost use Rattle.pasid.specs.Reason.{number_of};
 
-#[derive(Drop)]
+#[derive(Clone, Copy)]
 pub enum ScalableReason {
     RootAccess,
     RootNotPresent,

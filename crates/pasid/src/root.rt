@@ -8,7 +8,7 @@ use crate::reason::ScalableReason;
 use image::{Entry16, field, in_place};
 use registers::at_or_above_power;
 
-#[derive(Drop)]
+#[derive(Clone, Copy)]
 pub enum RootCheck {
     // Why the request ends here.
     Stop(ScalableReason),

@@ -9,7 +9,7 @@ use image::{Entry64, any_set64, bit64, bits64, in_place};
 use registers::at_or_above_power;
 
 // What a PASID table entry says of a request.
-#[derive(Drop)]
+#[derive(Clone, Copy)]
 pub struct PasidEntry {
     // PGTT: 1 first level, 2 second level, 3 nested, 4 pass-through.
     pub kind: u8,

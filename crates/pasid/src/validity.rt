@@ -12,7 +12,7 @@ use crate::table::{
 use dma::width_supported;
 use image::{Entry64, bit64};
 
-#[derive(Drop)]
+#[derive(Clone, Copy)]
 pub enum TableCheck {
     // Why the request ends here.
     Stop(ScalableReason),

@@ -1,5 +1,7 @@
 // The places of a cache of 64 translations, in lent numbers: a ring of places, newest first, and chains of places by a hash of
 // their keys. Which number is what stands in specs/Layout.antt.
+#![tactic(auto)]
+
 ghost use Rattle.std.specs.Prelude.{◌<◌, ◌≡◌, length, replicate};
 ghost use Rattle.places.specs.Layout.{words, head_of, bucket_of};
 ghost use Rattle.places.specs.Chain.{first_age, age_of_key};

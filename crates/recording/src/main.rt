@@ -1,5 +1,7 @@
 // Many recorder calls over 8 and over 256 slots, made by a small generator: faults of many kinds, clears, and calls that are
 // refused. What the calls answered is counted and printed, with the records that stand in the buffer at the end.
+#![tactic(auto)]
+
 use faults::{Fault, Reason, Recorder, RecorderAnswer, RecorderStep};
 use libc::STDOUT_FILENO;
 use registers::SourceId;
@@ -7,7 +9,7 @@ use std::num::wrapping_add_u64;
 
 const CALLS: u32 = 10_000;
 
-#[derive(Drop)]
+#[derive(Clone, Copy)]
 struct Tally {
     written: u64,
     overflowed: u64,

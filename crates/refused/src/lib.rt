@@ -1,4 +1,6 @@
 // Which register or window refusal 1 is for, by number. No request asks for it: it is for a caller that was refused.
+#![tactic(auto)]
+
 ghost use Rattle.std.specs.Prelude.{◌≡◌, take};
 ghost use Rattle.image.specs.Windows.{bad_windows};
 ghost use Rattle.refused.specs.FirstBad.{first_bad, first_bad_register, first_bad_window};

@@ -7,7 +7,7 @@ use image::{Found8, page_entry8, store8};
 use registers::Page4K;
 
 // Whether a single window has all of the bytes, and the place of the first in the run.
-#[derive(Drop)]
+#[derive(Clone, Copy)]
 pub struct Spot {
     pub whole: bool,
     pub place: u64,

@@ -1,4 +1,6 @@
 // What stands at an address of a source's pages: a page, a fault or nothing, with its span. A listing is made of these.
+#![tactic(auto)]
+
 mod known;
 mod walk;
 
@@ -9,7 +11,7 @@ use translation::Rights;
 pub use walk::{empty_region, region_at};
 
 // The page tables of a context, and the registers by which their entries are read.
-#[derive(Drop)]
+#[derive(Clone, Copy)]
 pub struct Tables {
     pub registers: Registers,
     pub levels: u32,
@@ -18,7 +20,7 @@ pub struct Tables {
 }
 
 // What stands at an address.
-#[derive(Drop)]
+#[derive(Clone, Copy)]
 pub enum What {
     // The frame of a page.
     Page(u64),
@@ -30,7 +32,7 @@ pub enum What {
 }
 
 // The span of an entry of a level, with the joined rights: a page's, or those of the entries above a fault.
-#[derive(Drop)]
+#[derive(Clone, Copy)]
 pub struct Region {
     pub level: u32,
     pub what: What,

@@ -16,7 +16,7 @@ use registers::Registers;
 use translation::{Rights, Step, entry_step};
 
 // A table that a walk has come to: its level, from 5 down to 1, its address, and the rights joined above it.
-#[derive(Drop)]
+#[derive(Clone, Copy)]
 pub struct Reached {
     pub level: u32,
     pub table: u64,
@@ -24,7 +24,7 @@ pub struct Reached {
 }
 
 // What one level makes of the walk.
-#[derive(Drop)]
+#[derive(Clone, Copy)]
 pub enum Onward {
     Ended(Region),
     Down(Reached),

@@ -5,7 +5,7 @@ ghost use Rattle.registers.specs.Answers.{admitted_of};
 
 use crate::Registers;
 
-#[derive(Drop)]
+#[derive(Clone, Copy)]
 pub enum Admission {
     Refused(u8),
     // Translation or remapping is off: the request goes on unchanged.

@@ -1,4 +1,6 @@
 // The unit's registers, the source id of a request and the sizes of pages.
+#![tactic(auto)]
+
 ghost use Rattle.std.specs.Prelude.{◌≡◌};
 ghost use Rattle.registers.specs.Registers.{registers_bad, bad_table, outside};
 
@@ -13,7 +15,7 @@ pub use power::at_or_above_power;
 pub use source_id::SourceId;
 
 // The unit's registers, by value. Each may hold any value of its type; `bad` tells what the unit refuses.
-#[derive(Drop)]
+#[derive(Clone, Copy)]
 pub struct Registers {
     // Host and guest address widths, in bits.
     pub haw: u8,

@@ -1,7 +1,7 @@
 // The three sizes of a page. A page spans 2^SHIFT bytes, and an address has its place within the page in its low SHIFT bits.
 ghost use Rattle.std.specs.Prelude.{◌≡◌, ◌%◌, ◌^◌};
 
-#[derive(Drop)]
+#[derive(Clone, Copy)]
 pub struct Page4K;
 
 impl Page4K {
@@ -16,7 +16,7 @@ impl Page4K {
     }
 }
 
-#[derive(Drop)]
+#[derive(Clone, Copy)]
 pub struct Page2M;
 
 impl Page2M {
@@ -25,7 +25,7 @@ impl Page2M {
     pub const SPAN: u64 = 1 << Self::SHIFT;
 }
 
-#[derive(Drop)]
+#[derive(Clone, Copy)]
 pub struct Page1G;
 
 impl Page1G {

@@ -2,7 +2,7 @@
 ghost use Rattle.std.specs.Prelude.{◌≡◌};
 ghost use Rattle.registers.specs.Source.{source_of, bus_of, devfn_of};
 
-#[derive(Drop)]
+#[derive(Clone, Copy)]
 pub struct SourceId {
     pub id: u16,
 }

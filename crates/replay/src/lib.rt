@@ -1,4 +1,6 @@
 // Replay: the requests of a trace run again, and which of their answers differ.
+#![tactic(auto)]
+
 ghost use Rattle.std.specs.Prelude.{◌≡◌};
 ghost use Rattle.answered.specs.Claims.{memory_entry, translation_entry, interrupt_entry};
 ghost use Rattle.answered.specs.Told.{memory_in, translation_in, interrupt_in};
@@ -86,7 +88,7 @@ pub fn same(a: Traced, b: Traced) -> bool
 }
 
 // What becomes of the entry at a place, each with the next place.
-#[derive(Drop)]
+#[derive(Clone, Copy)]
 pub enum Replayed {
     Same(Cursor),
     // The answer differs: with the entry of the answer now.

@@ -1,4 +1,6 @@
 // Requests in scalable mode: untranslated reads and writes, with a PASID or none.
+#![tactic(auto)]
+
 ghost use Rattle.std.specs.Prelude.{false, List, ◌≡◌, length, take, ℕ, ◌%◌, ◌^◌, ◌<◌, ◌≤◌};
 ghost use Rattle.image.specs.Place.{Place, stopped_at};
 ghost use Rattle.image.specs.Rules.{run};
@@ -20,7 +22,7 @@ use pasid::{Pasid, ScalableFault, ScalableRegisters, scalable_fault};
 use registers::{Admission, SourceId, admit, in_interrupt_range};
 use translation::{Translation, translate};
 
-#[derive(Drop)]
+#[derive(Clone, Copy)]
 pub struct ScalableRequest {
     pub source: SourceId,
     pub address: u64,
@@ -28,7 +30,7 @@ pub struct ScalableRequest {
     pub pasid: Pasid,
 }
 
-#[derive(Drop)]
+#[derive(Clone, Copy)]
 pub enum ScalableAnswer {
     // The host address.
     Granted(u64),

@@ -18,7 +18,7 @@ use pasid::{
 use registers::SourceId;
 
 // What a lookup finds, behind the host address of the last entry that was tried: in this order no word of the two holds parts of two fields.
-#[derive(Drop)]
+#[derive(Clone, Copy)]
 pub enum PasidLookup {
     Found(u64, PasidEntry),
     // Why there is none, and FPD as it was read by then.

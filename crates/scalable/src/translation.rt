@@ -18,7 +18,7 @@ use nested::{Asked, Pages, Walk, walk_pages};
 use pasid::{ScalableReason, ScalableRegisters};
 use second::Space;
 
-#[derive(Drop)]
+#[derive(Clone, Copy)]
 pub enum Translation {
     // The address itself.
     Through,

@@ -1,4 +1,6 @@
 // The second-level walk of scalable mode. It collects the flags of the entries that it uses.
+#![tactic(auto)]
+
 mod step;
 mod walk;
 

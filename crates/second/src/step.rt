@@ -16,7 +16,7 @@ use image::{Found8, Span, bit, field, in_place};
 use pasid::{PasidEntry, ScalableReason, ScalableRegisters};
 
 // What an entry is handed by those above it: whether there are none, their joined rights, R bit 0 and W bit 1, and how many flags are collected.
-#[derive(Drop)]
+#[derive(Clone, Copy)]
 pub struct Above {
     pub top: bool,
     pub rights: u64,
@@ -24,7 +24,7 @@ pub struct Above {
 }
 
 // The rights that a walk needs. Where it needs W, its page is to be written.
-#[derive(Drop)]
+#[derive(Clone, Copy)]
 pub struct Wanted {
     pub read: bool,
     pub write: bool,
@@ -32,14 +32,14 @@ pub struct Wanted {
 
 // The address space of a PASID table entry, with what every walk in it goes by: the first window and the registers. A request makes it
 // once: made for each walk it costs instructions.
-#[derive(Drop)]
+#[derive(Clone, Copy)]
 pub struct Space {
     pub first: Span,
     pub registers: ScalableRegisters,
     pub entry: PasidEntry,
 }
 
-#[derive(Drop)]
+#[derive(Clone, Copy)]
 pub enum SecondStep {
     // The next table, the joined rights, and how many flags are collected then.
     Down(u64, u64, usize),

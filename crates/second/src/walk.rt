@@ -10,7 +10,7 @@ ghost use Rattle.second.specs.Second.{Reachable, at_top, second_rules};
 use crate::step::{Above, SecondStep, Space, Wanted, second_entry};
 use pasid::ScalableReason;
 
-#[derive(Drop)]
+#[derive(Clone, Copy)]
 pub enum Walked {
     // The frame of a page, the level of its entry, whether all entries had W, and how many flags are collected then.
     Page(u64, u32, bool, usize),

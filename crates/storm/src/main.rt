@@ -1,5 +1,7 @@
 // Three devices are counted in ticks. One of them storms, is tripped and masked, and is let back once it is quiet: a row of
 // meters, lent and ticked in place.
+#![tactic(auto)]
+
 ghost use Rattle.std.specs.Prelude.{◌≡◌};
 ghost use Rattle.meter.specs.Row.{tick_row, reset_row};
 
@@ -7,7 +9,7 @@ use libc::STDOUT_FILENO;
 use meter::{Gate, Meter, reset_row, tick_row};
 
 // A tick's answer, with the row that it leaves.
-#[derive(Drop)]
+#[derive(Clone, Copy)]
 struct Outcome {
     good: bool,
     row: [Meter; 3],

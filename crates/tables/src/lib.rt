@@ -1,4 +1,6 @@
 // A context's page tables in a region of memory, held as a run of the region's bytes: a page is mapped or unmapped (document 02, ask 8).
+#![tactic(auto)]
+
 mod entries;
 mod map;
 mod pages;
@@ -11,7 +13,7 @@ pub use pages::mark;
 pub use unmap::unmap_page;
 
 // Where the tables are.
-#[derive(Drop)]
+#[derive(Clone, Copy)]
 pub struct Tree {
     // The host address of the region's first byte.
     pub start: u64,

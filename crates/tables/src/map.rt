@@ -12,7 +12,7 @@ use image::store8;
 use registers::Page4K;
 
 // The leaf of a page: its place, how many levels come below it, and its entry.
-#[derive(Drop)]
+#[derive(Clone, Copy)]
 struct Leaf {
     place: u64,
     last: u32,

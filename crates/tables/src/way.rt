@@ -6,7 +6,7 @@ use crate::Tree;
 use crate::entries::{entry_of, is_present, maps_page, place_of, table_of};
 
 // Where a way ends.
-#[derive(Drop)]
+#[derive(Clone, Copy)]
 pub struct Stop {
     // How many levels come below.
     pub below: u32,

@@ -1,4 +1,6 @@
 // A trace of requests and answers: its reader and its writer.
+#![tactic(auto)]
+
 ghost use Rattle.std.specs.Prelude.{◌≡◌, not, leb, ◌+◌, ◌*◌, ◌≤◌, ◌<◌, length, take, drop};
 ghost use Rattle.blocks.specs.Block.{count, entries_well, well_laid};
 ghost use Rattle.traced.specs.Decoded.{entry_well};
@@ -13,14 +15,14 @@ use traced::{Decoded, decode};
 pub use writer::{Writer, Wrote, append, close};
 
 // Where a reader stands: a block's place in the trace, and an entry's in the block, both from 0.
-#[derive(Drop)]
+#[derive(Clone, Copy)]
 pub struct Cursor {
     pub place: u64,
     pub index: u8,
 }
 
 // The entry at the reader's place, or that the block there is damaged, each with the reader's next place; or the end.
-#[derive(Drop)]
+#[derive(Clone, Copy)]
 pub enum Step {
     Entry(Traced, Cursor),
     Damaged(Cursor),

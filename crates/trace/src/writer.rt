@@ -7,13 +7,13 @@ use blocks::finish;
 use traced::{Traced, encode, is_well};
 
 // So many entries stand in the buffer, and the number of their block. A trace begins with 0 and 0.
-#[derive(Drop)]
+#[derive(Clone, Copy)]
 pub struct Writer {
     pub count: u8,
     pub number: u64,
 }
 
-#[derive(Drop)]
+#[derive(Clone, Copy)]
 pub enum Wrote {
     // There is nothing to take from the buffer yet.
     Kept(Writer),

@@ -1,5 +1,7 @@
 // The calls on traces, for C, over the buffers that a caller lends: a writer and a reader's place are two numbers each. A crate that is exported by
 // itself, so that its object is one of its own, which a unit that traces nothing doesn't link.
+#![tactic(auto)]
+
 mod reading;
 mod writing;
 

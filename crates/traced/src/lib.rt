@@ -1,4 +1,6 @@
 // An entry of the trace: a request and its answer in 32 bytes.
+#![tactic(auto)]
+
 ghost use Rattle.std.specs.Prelude.{◌≡◌, ◌++◌, ◌+◌, ◌≤◌, length, take, drop, leb};
 ghost use Rattle.image.specs.Bytes.{bytes_of};
 ghost use Rattle.image.specs.Choice.{if◌then◌else◌};
@@ -13,7 +15,7 @@ pub use well::is_well;
 
 // What each number says is told with the test that an entry is laid out well. A field that a kind and an answer
 // don't use is 0.
-#[derive(Drop)]
+#[derive(Clone, Copy)]
 pub struct Traced {
     pub kind: u8,
     pub answer: u8,
@@ -28,7 +30,7 @@ pub struct Traced {
     pub value: u64,
 }
 
-#[derive(Drop)]
+#[derive(Clone, Copy)]
 pub enum Decoded {
     Entry(Traced),
     Malformed,

@@ -16,7 +16,7 @@ use faults::Reason;
 use image::Span;
 use registers::Registers;
 
-#[derive(Drop)]
+#[derive(Clone, Copy)]
 pub enum Completion {
     // The frame of a page, the level of its entry, and the joined rights: read, write.
     Page(u64, u32, bool, bool),

@@ -1,4 +1,6 @@
 // Translation requests: a device with a translation cache of its own asks for a page, its frame, size and rights.
+#![tactic(auto)]
+
 ghost use Rattle.std.specs.Prelude.{◌≡◌, ◌<◌, ◌≤◌};
 ghost use Rattle.image.specs.Place.{Place};
 ghost use Rattle.dma.specs.InterruptRange.{span_at};
@@ -20,20 +22,20 @@ use registers::{
 };
 pub use step::{Step, entry_step};
 
-#[derive(Drop)]
+#[derive(Clone, Copy)]
 pub struct TranslationRequest {
     pub source: SourceId,
     pub address: u64,
 }
 
 // Joined over all levels of the walk.
-#[derive(Drop)]
+#[derive(Clone, Copy)]
 pub struct Rights {
     pub read: bool,
     pub write: bool,
 }
 
-#[derive(Drop)]
+#[derive(Clone, Copy)]
 pub enum PageSize {
     FourKiB,
     TwoMiB,
@@ -52,7 +54,7 @@ impl PageSize {
     }
 }
 
-#[derive(Drop)]
+#[derive(Clone, Copy)]
 pub enum TranslationAnswer {
     // TE is off: the address itself.
     Passed(u64),

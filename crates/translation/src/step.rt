@@ -13,7 +13,7 @@ use faults::Reason;
 use image::{Found8, field, in_place};
 use registers::Registers;
 
-#[derive(Drop)]
+#[derive(Clone, Copy)]
 pub enum Step {
     // The next table, and the rights joined so far: read, write.
     Down(u64, bool, bool),

@@ -1,0 +1,5 @@
+use Rattle.std.proofs.Common.{rules}
+use Rattle.image.proofs.bit.Goals as goal
+
+pub returns : goal.returns
+returns c = rw c.field.ensures

@@ -1,0 +1,7 @@
+use Rattle.std.proofs.Common.{refl, arith, rules}
+use Rattle.image.proofs.WindowEntries.{Paging, page-begins, page-room, page-entry, page-missing}
+use Rattle.image.proofs.entries.page_entry16_by.Goals.{After-window_of}
+use Rattle.image.proofs.entries.page_entry16_by.Goals as goal
+
+paging : (c : After-window_of) → let a = c.args in Paging a.windows.now a.image.now 1 a.table a.offset c.window_of.result
+paging c = search rules

@@ -1,9 +1,0 @@
-use Rattle.std.proofs.Common.{rules}
-use Rattle.image.proofs.entry_fields.bits16.Statement.{statement}
-use Rattle.image.proofs.entry_fields.bits16.Tie as tie
-
-returns : tie.Need-returns
-returns c = rw (c.bits64.ensures, c.before.widened.ensures)
-
-pub bits16-spec : {M : Type 1} → statement M
-bits16-spec = tie.close (tie.spec (λ c κs. search rules) (λ c κs. search rules) returns)
