@@ -4,14 +4,14 @@
 
 ghost use Rattle.std.specs.Prelude.{◌≤◌};
 
-use libc::STDOUT_FILENO;
+use std::io;
 use unit::{
     EntryAddress, Fault, InterruptAnswer, InterruptRequest, MemoryAnswer, MemoryRequest,
     Notification, Posted, Registers, Remapped, SourceId,
 };
 
-fn text(bytes: &[u8]) {
-    io::write_all(STDOUT_FILENO, bytes);
+fn text(rt: &impl Print, bytes: &[u8]) -> io::Result<()> {
+    rt.write_all(bytes)
 }
 
 // The last digit of a number, in hexadecimal.
@@ -40,7 +40,7 @@ fn first_digit(n: u64, least: usize) -> usize
 }
 
 // At least so many digits, in upper case.
-fn digits(n: u64, least: usize) {
+fn digits(rt: &impl Print, n: u64, least: usize) -> io::Result<()> {
     let mut text = [0u8; 16];
     let mut rest = n;
     for place in 0..16 {
@@ -48,11 +48,11 @@ fn digits(n: u64, least: usize) {
         rest = rest / 16;
     }
     let first = first_digit(n, least);
-    io::write_all(STDOUT_FILENO, &text[first..]);
+    rt.write_all(&text[first..])
 }
 
-fn hex(n: u64) {
-    digits(n, 1);
+fn hex(rt: &impl Print, n: u64) -> io::Result<()> {
+    digits(rt, n, 1)
 }
 
 fn wide(x: u8) -> u64 {
@@ -107,39 +107,40 @@ fn lay_out_interrupts(image: &mut [u8]) {
     image::store8(image, 0x6420, 0x0000_0700_00F2_0000);
 }
 
-fn print_entry(entry: EntryAddress) {
+fn print_entry(rt: &impl Print, entry: EntryAddress) -> io::Result<()> {
     if let EntryAddress::At(address) = entry {
-        text(b", entry ");
-        hex(address);
+        text(rt, b", entry ")?;
+        hex(rt, address)?;
     }
+    Ok(())
 }
 
-fn print_fault(fault: Fault, entry: EntryAddress) {
+fn print_fault(rt: &impl Print, fault: Fault, entry: EntryAddress) -> io::Result<()> {
     let reason = fault.reason;
-    text(b"fault ");
-    digits(reason.number() as u64, 2);
+    text(rt, b"fault ")?;
+    digits(rt, reason.number() as u64, 2)?;
     if !fault.recordable {
-        text(b" (not recordable)");
+        text(rt, b" (not recordable)")?;
     }
-    text(b", record ");
-    digits(fault.low, 16);
-    text(b" ");
-    digits(fault.high, 16);
-    print_entry(entry);
+    text(rt, b", record ")?;
+    digits(rt, fault.low, 16)?;
+    text(rt, b" ")?;
+    digits(rt, fault.high, 16)?;
+    print_entry(rt, entry)
 }
 
-fn print_refusal(number: u8) {
-    text(b"refused ");
-    hex(number as u64);
+fn print_refusal(rt: &impl Print, number: u8) -> io::Result<()> {
+    text(rt, b"refused ")?;
+    hex(rt, number as u64)
 }
 
 // The number of a case.
-fn number(case: u64) {
+fn number(rt: &impl Print, case: u64) -> io::Result<()> {
     if case < 10 {
-        text(b" ");
+        text(rt, b" ")?;
     }
-    io::print_decimal(STDOUT_FILENO, case);
-    text(b". ");
+    rt.print(case)?;
+    text(rt, b". ")
 }
 
 // The device that most cases ask for: bus 03h, device and function 10h.
@@ -148,136 +149,152 @@ fn device() -> SourceId {
 }
 
 // A memory request and its answer, a line.
-fn memory(case: u64, image: &[u8], source: SourceId, address: u64, write: bool) {
+fn memory(
+    rt: &impl Print,
+    case: u64,
+    image: &[u8],
+    source: SourceId,
+    address: u64,
+    write: bool,
+) -> io::Result<()> {
     let request = MemoryRequest {
         source,
         address,
         write,
     };
-    number(case);
-    digits(source.id as u64, 4);
+    number(rt, case)?;
+    digits(rt, source.id as u64, 4)?;
     if write {
-        text(b" write ");
+        text(rt, b" write ")?;
     } else {
-        text(b" read ");
+        text(rt, b" read ")?;
     }
-    hex(address);
+    hex(rt, address)?;
     if image.len() < 32768 {
-        text(b", image one byte shorter");
+        text(rt, b", image one byte shorter")?;
     }
-    text(b": ");
+    text(rt, b": ")?;
     // One window from host address 0 shows the whole image.
     let windows = [0u64, 0, image.len() as u64];
     match unit::memory_request(registers(), &windows, image, request) {
         MemoryAnswer::Granted(host) => {
-            text(b"granted ");
-            hex(host);
+            text(rt, b"granted ")?;
+            hex(rt, host)?;
         }
-        MemoryAnswer::Blocked(fault, entry) => print_fault(fault, entry),
-        MemoryAnswer::Refused(number) => print_refusal(number),
+        MemoryAnswer::Blocked(fault, entry) => print_fault(rt, fault, entry)?,
+        MemoryAnswer::Refused(number) => print_refusal(rt, number)?,
     }
-    text(b"\n");
+    text(rt, b"\n")
 }
 
-fn print_remapped(remapped: Remapped) {
-    text(b"vector ");
-    digits(remapped.vector as u64, 2);
-    text(b", destination ");
-    hex(remapped.destination as u64);
+fn print_remapped(rt: &impl Print, remapped: Remapped) -> io::Result<()> {
+    text(rt, b"vector ")?;
+    digits(rt, remapped.vector as u64, 2)?;
+    text(rt, b", destination ")?;
+    hex(rt, remapped.destination as u64)
 }
 
-fn print_posted(posted: Posted) {
+fn print_posted(rt: &impl Print, posted: Posted) -> io::Result<()> {
     let notification = posted.notification;
-    text(b"posted ");
-    digits(posted.vector as u64, 2);
-    text(b" to ");
-    hex(posted.descriptor);
+    text(rt, b"posted ")?;
+    digits(rt, posted.vector as u64, 2)?;
+    text(rt, b" to ")?;
+    hex(rt, posted.descriptor)?;
     if let Notification::Due {
         vector,
         destination,
     } = notification
     {
-        text(b", notification ");
-        digits(vector as u64, 2);
-        text(b" to ");
-        hex(destination as u64);
+        text(rt, b", notification ")?;
+        digits(rt, vector as u64, 2)?;
+        text(rt, b" to ")?;
+        hex(rt, destination as u64)?;
     }
+    Ok(())
 }
 
 // An interrupt and its answer, without the line's end.
-fn interrupt(case: u64, image: &mut [u8], source: SourceId, address: u64, data: u32) {
+fn interrupt(
+    rt: &impl Print,
+    case: u64,
+    image: &mut [u8],
+    source: SourceId,
+    address: u64,
+    data: u32,
+) -> io::Result<()> {
     let request = InterruptRequest {
         source,
         address,
         data,
     };
-    number(case);
-    digits(source.id as u64, 4);
-    text(b" interrupt ");
-    hex(address);
-    text(b", data ");
-    hex(data as u64);
-    text(b": ");
+    number(rt, case)?;
+    digits(rt, source.id as u64, 4)?;
+    text(rt, b" interrupt ")?;
+    hex(rt, address)?;
+    text(rt, b", data ")?;
+    hex(rt, data as u64)?;
+    text(rt, b": ")?;
     let windows = [0u64, 0, image.len() as u64];
     match unit::interrupt_request(registers(), &windows, image, request) {
-        InterruptAnswer::Passed => text(b"passed"),
-        InterruptAnswer::Remapped(remapped) => print_remapped(remapped),
-        InterruptAnswer::Posted(posted) => print_posted(posted),
-        InterruptAnswer::Blocked(fault, entry) => print_fault(fault, entry),
-        InterruptAnswer::Refused(number) => print_refusal(number),
+        InterruptAnswer::Passed => text(rt, b"passed"),
+        InterruptAnswer::Remapped(remapped) => print_remapped(rt, remapped),
+        InterruptAnswer::Posted(posted) => print_posted(rt, posted),
+        InterruptAnswer::Blocked(fault, entry) => print_fault(rt, fault, entry),
+        InterruptAnswer::Refused(number) => print_refusal(rt, number),
     }
 }
 
 // The two bytes that a post of case 12 sets.
-fn print_post(image: &[u8; 32768]) {
-    text(b"; byte 6406 is ");
-    hex(wide(image[0x6406]));
-    text(b", byte 6420 is ");
-    hex(wide(image[0x6420]));
-    text(b"\n");
+fn print_post(rt: &impl Print, image: &[u8; 32768]) -> io::Result<()> {
+    text(rt, b"; byte 6406 is ")?;
+    hex(rt, wide(image[0x6406]))?;
+    text(rt, b", byte 6420 is ")?;
+    hex(rt, wide(image[0x6420]))?;
+    text(rt, b"\n")
 }
 
-fn shorter_case(image: &[u8], source: SourceId) {
+fn shorter_case(rt: &impl Print, image: &[u8], source: SourceId) -> io::Result<()> {
     if 0 < image.len() {
         let end = image.len() - 1;
-        memory(7, &image[..end], source, 0x40BF_F000, false);
+        memory(rt, 7, &image[..end], source, 0x40BF_F000, false)?;
     }
+    Ok(())
 }
 
-fn memory_cases(image: &[u8]) {
-    memory(1, image, device(), 0x4020_1ABC, false);
-    memory(2, image, device(), 0x4020_1ABC, true);
-    memory(3, image, device(), 0x4020_2000, false);
-    memory(4, image, device(), 0x4041_2345, false);
-    memory(5, image, device(), 0x4060_0000, false);
-    memory(6, image, device(), 0x4080_0000, false);
-    memory(7, image, device(), 0x40BF_F000, false);
-    shorter_case(image, device());
-    memory(8, image, device(), 0x7F_FFFF_FFFF, false);
-    memory(8, image, device(), 0x80_0000_0000, false);
-    memory(9, image, SourceId::new(0x04, 0x10), 0x4020_1ABC, false);
-    memory(9, image, SourceId::new(0x03, 0x11), 0x4020_1ABC, false);
+fn memory_cases(rt: &impl Print, image: &[u8]) -> io::Result<()> {
+    memory(rt, 1, image, device(), 0x4020_1ABC, false)?;
+    memory(rt, 2, image, device(), 0x4020_1ABC, true)?;
+    memory(rt, 3, image, device(), 0x4020_2000, false)?;
+    memory(rt, 4, image, device(), 0x4041_2345, false)?;
+    memory(rt, 5, image, device(), 0x4060_0000, false)?;
+    memory(rt, 6, image, device(), 0x4080_0000, false)?;
+    memory(rt, 7, image, device(), 0x40BF_F000, false)?;
+    shorter_case(rt, image, device())?;
+    memory(rt, 8, image, device(), 0x7F_FFFF_FFFF, false)?;
+    memory(rt, 8, image, device(), 0x80_0000_0000, false)?;
+    memory(rt, 9, image, SourceId::new(0x04, 0x10), 0x4020_1ABC, false)?;
+    memory(rt, 9, image, SourceId::new(0x03, 0x11), 0x4020_1ABC, false)
 }
 
-fn interrupt_cases(image: &mut [u8; 32768]) {
-    interrupt(10, image, device(), 0xFEE0_0050, 0);
-    text(b"\n");
-    interrupt(10, image, SourceId::new(0x03, 0x11), 0xFEE0_0050, 0);
-    text(b"\n");
-    interrupt(11, image, device(), 0xFEEF_FFFC, 3);
-    text(b"\n");
-    interrupt(12, image, device(), 0xFEE0_0090, 0);
-    print_post(image);
-    interrupt(12, image, device(), 0xFEE0_0090, 0);
-    print_post(image);
+fn interrupt_cases(rt: &impl Print, image: &mut [u8; 32768]) -> io::Result<()> {
+    interrupt(rt, 10, image, device(), 0xFEE0_0050, 0)?;
+    text(rt, b"\n")?;
+    interrupt(rt, 10, image, SourceId::new(0x03, 0x11), 0xFEE0_0050, 0)?;
+    text(rt, b"\n")?;
+    interrupt(rt, 11, image, device(), 0xFEEF_FFFC, 3)?;
+    text(rt, b"\n")?;
+    interrupt(rt, 12, image, device(), 0xFEE0_0090, 0)?;
+    print_post(rt, image)?;
+    interrupt(rt, 12, image, device(), 0xFEE0_0090, 0)?;
+    print_post(rt, image)
 }
 
-fn main() {
+fn main(rt: HostRuntime) -> io::Result<()> {
     let mut image = [0u8; 32768];
     lay_out_contexts(&mut image);
     lay_out_directory(&mut image);
     lay_out_pages(&mut image);
     lay_out_interrupts(&mut image);
-    memory_cases(&image);
-    interrupt_cases(&mut image);
+    memory_cases(&rt, &image)?;
+    interrupt_cases(&rt, &mut image)
 }

@@ -3,7 +3,7 @@
 
 ghost use Rattle.std.specs.Prelude.{◌<◌};
 
-use libc::STDOUT_FILENO;
+use std::io;
 use std::num::wrapping_add_u64;
 use trace::{Traced, Writer, Wrote, append, close, is_damaged};
 
@@ -109,11 +109,10 @@ fn named(start: [u8; 512], at: usize) -> u64
     count
 }
 
-fn try_all(name: &[u8], block: [u8; 512]) {
-    io::write_all(STDOUT_FILENO, name);
+fn try_all(rt: &impl Print, name: &[u8], block: [u8; 512]) -> io::Result<()> {
+    rt.write_all(name)?;
     if damaged(&block) {
-        io::write_all(STDOUT_FILENO, b": damaged as written\n");
-        return;
+        return rt.write_all(b": damaged as written\n");
     }
     let mut count: u64 = 0;
     let mut at: usize = 0;
@@ -121,14 +120,14 @@ fn try_all(name: &[u8], block: [u8; 512]) {
         count = wrapping_add_u64(count, named(block, at));
         at += 1;
     }
-    io::write_all(STDOUT_FILENO, b": of 130560 changed by one byte ");
-    io::print_decimal(STDOUT_FILENO, count);
-    io::write_all(STDOUT_FILENO, b" are named\n");
+    rt.write_all(b": of 130560 changed by one byte ")?;
+    rt.print(count)?;
+    rt.write_all(b" are named\n")
 }
 
-fn main() {
-    try_all(b"1 entry", block(1, 0));
-    try_all(b"4 entries", block(4, 0));
-    try_all(b"14 entries", block(14, 0));
-    try_all(b"15 entries", block(15, 0));
+fn main(rt: HostRuntime) -> io::Result<()> {
+    try_all(&rt, b"1 entry", block(1, 0))?;
+    try_all(&rt, b"4 entries", block(4, 0))?;
+    try_all(&rt, b"14 entries", block(14, 0))?;
+    try_all(&rt, b"15 entries", block(15, 0))
 }

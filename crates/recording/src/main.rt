@@ -3,8 +3,8 @@
 #![tactic(auto)]
 
 use faults::{Fault, Reason, Recorder, RecorderAnswer, RecorderStep};
-use libc::STDOUT_FILENO;
 use registers::SourceId;
+use std::io;
 use std::num::wrapping_add_u64;
 
 const CALLS: u32 = 10_000;
@@ -144,34 +144,38 @@ fn standing(buffer: &[u8]) -> u64 {
     n
 }
 
-fn line(name: &[u8], n: u64) {
-    io::write_all(STDOUT_FILENO, name);
-    io::print_decimal(STDOUT_FILENO, n);
-    io::write_all(STDOUT_FILENO, b"\n");
+fn line(rt: &impl Print, name: &[u8], n: u64) -> io::Result<()> {
+    rt.write_all(name)?;
+    rt.print(n)?;
+    rt.write_all(b"\n")
 }
 
-fn print(tally: Tally) {
-    line(b"calls ", CALLS as u64);
-    line(b"written ", tally.written);
-    line(b"overflowed ", tally.overflowed);
-    line(b"dropped ", tally.dropped);
-    line(b"silenced by FPD ", tally.silenced);
-    line(b"cleared ", tally.cleared);
-    line(b"cleared in vain ", tally.cleared_in_vain);
-    line(b"overflow cleared ", tally.overflow_cleared);
-    line(b"overflow cleared in vain ", tally.overflow_cleared_in_vain);
-    line(b"refused ", tally.refused);
+fn print(rt: &impl Print, tally: Tally) -> io::Result<()> {
+    line(rt, b"calls ", CALLS as u64)?;
+    line(rt, b"written ", tally.written)?;
+    line(rt, b"overflowed ", tally.overflowed)?;
+    line(rt, b"dropped ", tally.dropped)?;
+    line(rt, b"silenced by FPD ", tally.silenced)?;
+    line(rt, b"cleared ", tally.cleared)?;
+    line(rt, b"cleared in vain ", tally.cleared_in_vain)?;
+    line(rt, b"overflow cleared ", tally.overflow_cleared)?;
+    line(
+        rt,
+        b"overflow cleared in vain ",
+        tally.overflow_cleared_in_vain,
+    )?;
+    line(rt, b"refused ", tally.refused)
 }
 
-fn report(buffer: &mut [u8]) {
-    line(b"slots ", faults::slot_count(buffer.len()) as u64);
-    print(run_calls(buffer));
-    line(b"standing ", standing(buffer));
+fn report(rt: &impl Print, buffer: &mut [u8]) -> io::Result<()> {
+    line(rt, b"slots ", faults::slot_count(buffer.len()) as u64)?;
+    print(rt, run_calls(buffer))?;
+    line(rt, b"standing ", standing(buffer))
 }
 
-fn main() {
+fn main(rt: HostRuntime) -> io::Result<()> {
     let mut few = [0u8; 128];
-    report(&mut few);
+    report(&rt, &mut few)?;
     let mut many = [0u8; 4096];
-    report(&mut many);
+    report(&rt, &mut many)
 }

@@ -5,8 +5,8 @@
 ghost use Rattle.std.specs.Prelude.{◌≡◌};
 ghost use Rattle.meter.specs.Row.{tick_row, reset_row};
 
-use libc::STDOUT_FILENO;
 use meter::{Gate, Meter, reset_row, tick_row};
+use std::io;
 
 // A tick's answer, with the row that it leaves.
 #[derive(Clone, Copy)]
@@ -61,33 +61,35 @@ fn disk_count(tick: u32, masked: bool) -> u32 {
     }
 }
 
-fn print_device(name: &[u8], count: u32, byte: u8) {
-    io::write_all(STDOUT_FILENO, name);
-    io::print_decimal(STDOUT_FILENO, count as u64);
+fn print_device(rt: &impl Print, name: &[u8], count: u32, byte: u8) -> io::Result<()> {
+    rt.write_all(name)?;
+    rt.print(count)?;
     if byte == 1 {
-        io::write_all(STDOUT_FILENO, b" (tripped)");
+        rt.write_all(b" (tripped)")?;
     }
+    Ok(())
 }
 
-fn print_tick(tick: u32, counts: [u32; 3], bytes: [u8; 3]) {
-    print_device(b"tick ", tick, 0);
-    print_device(b": camera ", counts[0], bytes[0]);
-    print_device(b", disk ", counts[1], bytes[1]);
-    print_device(b", network ", counts[2], bytes[2]);
-    io::write_all(STDOUT_FILENO, b"\n");
+fn print_tick(rt: &impl Print, tick: u32, counts: [u32; 3], bytes: [u8; 3]) -> io::Result<()> {
+    print_device(rt, b"tick ", tick, 0)?;
+    print_device(rt, b": camera ", counts[0], bytes[0])?;
+    print_device(rt, b", disk ", counts[1], bytes[1])?;
+    print_device(rt, b", network ", counts[2], bytes[2])?;
+    rt.write_all(b"\n")
 }
 
-fn print_good(name: &[u8], good: bool) {
-    io::write_all(STDOUT_FILENO, name);
+fn print_good(rt: &impl Print, name: &[u8], good: bool) -> io::Result<()> {
+    rt.write_all(name)?;
     if good {
-        io::write_all(STDOUT_FILENO, b"ticked\n");
+        rt.write_all(b"ticked\n")?;
     } else {
-        io::write_all(STDOUT_FILENO, b"refused\n");
+        rt.write_all(b"refused\n")?;
     }
+    Ok(())
 }
 
 // The storm, from a reset on. Back comes the row that it leaves.
-fn storm(start: [Meter; 3]) -> [Meter; 3] {
+fn storm(rt: &impl Print, start: [Meter; 3]) -> io::Result<[Meter; 3]> {
     let mut row = reset_devices(start);
     let mut bytes = [0u8; 3];
     let mut tick = 1u32;
@@ -96,22 +98,22 @@ fn storm(start: [Meter; 3]) -> [Meter; 3] {
         let counts = [30, disk_count(tick, masked), 600];
         let step = tick_devices(row, &counts, &mut bytes);
         row = step.row;
-        print_tick(tick, counts, bytes);
+        print_tick(rt, tick, counts, bytes)?;
         tick += 1;
     }
-    row
+    Ok(row)
 }
 
-fn main() {
-    let row = storm(devices());
+fn main(rt: HostRuntime) -> io::Result<()> {
+    let row = storm(&rt, devices())?;
     let mut bytes = [9u8; 3];
     let many = tick_devices(row, &[30, 100, 65_536], &mut bytes);
-    print_good(b"a count of 65536: ", many.good);
+    print_good(&rt, b"a count of 65536: ", many.good)?;
     let kept = many.row;
     let few = tick_devices(kept, &[30, 100], &mut bytes);
-    print_good(b"two counts for three meters: ", few.good);
+    print_good(&rt, b"two counts for three meters: ", few.good)?;
     let left = few.row;
     let silent = tick_devices(reset_devices(left), &[30, 100, 0], &mut bytes);
-    print_good(b"after a reset: ", silent.good);
-    print_tick(1, [30, 100, 0], bytes);
+    print_good(&rt, b"after a reset: ", silent.good)?;
+    print_tick(&rt, 1, [30, 100, 0], bytes)
 }
