@@ -1,5 +1,5 @@
 -- Windows as the code's fetches use them: the window of a span is one of the windows lent.
-use Rattle.std.proofs.Common.{◌≡◌, ℕ, ◌+◌, ◌-◌, ◌*◌, ◌%◌, ◌^◌, ◌<◌, ◌≤◌, true, false, List, [], ◌∷◌, length, drop, sym, refl, ◌∙◌, arith}
+use Rattle.std.proofs.Common.{◌≡◌, ℕ, ◌+◌, ◌-◌, ◌*◌, ◌%◌, ◌^◌, ◌<◌, ◌≤◌, true, false, List, [], ◌∷◌, length, drop, sym, subst, refl, ◌∙◌, arith}
 use native.Mathlib.Decide.{dec_le}
 use Rattle.image.specs.Spans.{window_by, Opened, Holds}
 use Rattle.image.specs.Answers.{HeldBy}
@@ -53,7 +53,7 @@ module _ (first : Span) (numbers : List ℕ) (run : ℕ) (opened : Opened first 
     where
       go : Dec (3 ≤ length numbers) → end_of (window_by first) ≤ 2 ^ 64
       go (yes there) = spanned-top numbers run opened.0 0 there opened.1
-      go (no few) = rw (none (omega arith)) (omega arith)
+      go (no few) = subst (λ (w : Window). end_of w ≤ 2 ^ 64) (sym (none (omega arith))) (omega arith)
 
   module _ (at : ℕ) where
     pub first-held : holds_all (window_by first) 1 at ≡ true → Holds (window_by first) (windows_of numbers) run at
@@ -62,12 +62,12 @@ module _ (first : Span) (numbers : List ℕ) (run : ℕ) (opened : Opened first 
         go : Dec (3 ≤ length numbers) → Holds (window_by first) (windows_of numbers) run at
         go (yes there) = spanned numbers run opened.0 0 at there opened.1 h
         go (no few) =
-            let lies = held_by (record { start = 0; place = 0; size = 0 }) 1 at (rw (none (omega arith)) at h) in
+            let lies = held_by (record { start = 0; place = 0; size = 0 }) 1 at (subst (λ (w : Window). holds_all w 1 at ≡ true) (none (omega arith)) h) in
             absurd (omega (arith, lies.1))
 
     pub first_past : holds_all (window_by first) 1 at ≡ false → spot_in (windows_of numbers) 1 at ≡ spot_in (windows_of (drop 3 numbers)) 1 at
     first_past h = go (dec_le 3 (length numbers))
       where
         go : Dec (3 ≤ length numbers) → spot_in (windows_of numbers) 1 at ≡ spot_in (windows_of (drop 3 numbers)) 1 at
-        go (yes there) = spot-after numbers 1 at 0 there (rw opened.1 at h)
+        go (yes there) = spot-after numbers 1 at 0 there (subst (λ (w : Window). holds_all w 1 at ≡ false) opened.1 h)
         go (no few) = spot-none-left numbers 1 at 0 (omega arith) ∙ sym (spot-none-left numbers 1 at 3 (omega arith))

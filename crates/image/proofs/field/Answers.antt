@@ -1,8 +1,6 @@
 use Rattle.std.proofs.Common.{◌≡◌, suc, ◌+◌, ◌-◌, sym, ⊎_elim, arith, pow_pos, rules, ltb-false, ltb-true}
 use Rattle.image.specs.Bits.{bits}
 use Rattle.image.proofs.Fields.{past_top, upside-down, to-top, shifted_one}
-use Rattle.image.proofs.field.Reads as reads
-use Rattle.image.proofs.field.Lts as lts
 use Rattle.image.proofs.field.Goals as goal
 
 pub returns-then-low-gt63 : goal.returns-then-low-gt63
@@ -11,7 +9,7 @@ returns-then-low-gt63 c =
     sym
     (⊎_elim (λ w. past_top a.word 64 a.high c.ranges.word.fits (omega arith))
     (λ w. upside-down a.word (omega (arith, ltb-true)))
-    c.if-low-gt63.branch)
+    c.then-low-gt63.either)
 
 pub returns-then-high-ge63 : goal.returns-then-high-ge63
 returns-then-high-ge63 c =

@@ -2,7 +2,6 @@ use Rattle.std.proofs.Common.{◌≡◌, ◌+◌, ◌-◌, ◌*◌, ◌%◌, ◌
 use Rattle.image.specs.Bytes.{little_endian}
 use Rattle.image.specs.Memory.{word_at}
 use Rattle.image.proofs.Bytes.{AreBytes, gathered, gathered-below}
-use Rattle.image.proofs.buffer.little_endian.Goals.{After-shared_slice_known-1}
 use Rattle.image.proofs.buffer.little_endian.Given as goal
 
 -- The loop has gathered the word's lowest i bytes.

@@ -16,14 +16,15 @@ past-6 : (c : Else-contains-2) → let a = c.args in
     spot_in (windows_of (drop 3 a.windows.now)) 1 a.at ≡ spot_in (windows_of (drop 9 a.windows.now)) 1 a.at
 past-6 c =
     let a = c.args in
-    past-3 c
+    passed-by a.windows.now a.at 3 (omega arith) c.span_at-second.ensures (sym c.contains.ensures ∙ c.if-contains.false)
     ∙ passed-by a.windows.now a.at 6 (omega arith) c.span_at-third.ensures (sym c.contains-2.ensures ∙ c.if-contains-2.false)
 
 past-9 : (c : Else-contains-3) → let a = c.args in
     spot_in (windows_of (drop 3 a.windows.now)) 1 a.at ≡ spot_in (windows_of (drop 12 a.windows.now)) 1 a.at
 past-9 c =
     let a = c.args in
-    past-6 c
+    passed-by a.windows.now a.at 3 (omega arith) c.span_at-second.ensures (sym c.contains.ensures ∙ c.if-contains.false)
+    ∙ passed-by a.windows.now a.at 6 (omega arith) c.span_at-third.ensures (sym c.contains-2.ensures ∙ c.if-contains-2.false)
     ∙ passed-by a.windows.now a.at 9 (omega arith) c.span_at-fourth.ensures (sym c.contains-3.ensures ∙ c.if-contains-3.false)
 
 pub returns-then-count-lt6 : goal.returns-then-count-lt6

@@ -5,3 +5,23 @@ use Rattle.image.proofs.entries.page_entry16_by.Goals as goal
 
 paging : (c : After-window_of) → let a = c.args in Paging a.windows.now a.image.now 1 a.table a.offset c.window_of.result
 paging c = search rules
+
+pub table_page-requires : goal.table_page-requires
+table_page-requires c = page-begins (paging (goal.at.table_page-requires c).After-window_of) c.in-In.is
+
+pub load16-requires : goal.load16-requires
+load16-requires c = page-room (paging (goal.at.load16-requires c).After-window_of) c.in-In.is c.table_page.ensures
+
+pub returns-in-In : goal.returns-in-In
+returns-in-In c =
+    record {
+      result_value = page-entry (paging (goal.at.returns-in-In c).After-window_of) c.in-In.is c.table_page.ensures c.load16.ensures;
+      offset_value = refl;
+    }
+
+pub returns-in-Nowhere : goal.returns-in-Nowhere
+returns-in-Nowhere c =
+    record {
+      result_value = page-missing (paging (goal.at.returns-in-Nowhere c).After-window_of) c.in-Nowhere.is;
+      offset_value = refl;
+    }

@@ -1,4 +1,6 @@
 use Rattle.std.proofs.Common.{refl, arith, rules}
+use Rattle.image.specs.Bytes.{little_endian}
+use Rattle.image.specs.Memory.{word_at}
 use Rattle.image.specs.Memory.{word_at}
 use Rattle.image.proofs.WindowEntries.{Paging, page-begins, page-room, page-entry, page-missing}
 use Rattle.image.proofs.entries.page_entry8_by.Goals.{After-window_of}
@@ -6,3 +8,24 @@ use Rattle.image.proofs.entries.page_entry8_by.Goals as goal
 
 paging : (c : After-window_of) → let a = c.args in Paging a.windows.now a.image.now 0 a.table a.offset c.window_of.result
 paging c = search rules
+
+pub table_page-requires : goal.table_page-requires
+table_page-requires c = page-begins (paging (goal.at.table_page-requires c).After-window_of) c.in-In.is
+
+pub word-requires : goal.word-requires
+word-requires c = page-room (paging (goal.at.word-requires c).After-window_of) c.in-In.is c.table_page.ensures
+
+pub returns-in-In : goal.returns-in-In
+unfolding word_at little_endian
+returns-in-In c =
+    record {
+      result_value = page-entry (paging (goal.at.returns-in-In c).After-window_of) c.in-In.is c.table_page.ensures c.word.ensures;
+      offset_value = refl;
+    }
+
+pub returns-in-Nowhere : goal.returns-in-Nowhere
+returns-in-Nowhere c =
+    record {
+      result_value = page-missing (paging (goal.at.returns-in-Nowhere c).After-window_of) c.in-Nowhere.is;
+      offset_value = refl;
+    }

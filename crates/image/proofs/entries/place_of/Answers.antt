@@ -23,7 +23,7 @@ first_span-requires c =
 pub place_in-requires : goal.place_in-requires
 place_in-requires c =
     let s = c in
-    let g = good-window (window_by c.in-In.span) s.args.run (holds (goal.at.place_in-requires c).In-In).well-formed in
+    let g = good-window (window_by c.in-In.span) s.args.run (holds (goal.at.place_in-requires c).In-In).good in
     (holds-first s.args.windows.now s.args.run s.requires.0 s.args.at s.args.more s.requires.1 (holds (goal.at.place_in-requires c).In-In), omega (arith, g.in_run))
 
 pub returns-in-In : goal.returns-in-In
@@ -33,8 +33,8 @@ returns-in-In c =
     let w = window_by c.in-In.span in
     record {
       left = end_of w - a.at;
-      spot = rw c.IsPlace-in.ensures (holds-spot a.windows.now a.run s.requires.0 a.at a.more s.requires.1 (holds (goal.at.returns-in-In c).In-In));
-      in_run = omega (arith, c.IsPlace-in.ensures, holds-room a.windows.now a.run s.requires.0 a.at a.more s.requires.1 (holds (goal.at.returns-in-In c).In-In));
+      spot = rw c.place_in.ensures (holds-spot a.windows.now a.run s.requires.0 a.at a.more s.requires.1 (holds (goal.at.returns-in-In c).In-In));
+      in_run = omega (arith, c.place_in.ensures, holds-room a.windows.now a.run s.requires.0 a.at a.more s.requires.1 (holds (goal.at.returns-in-In c).In-In));
     }
 
 pub returns-in-Nowhere : goal.returns-in-Nowhere

@@ -7,7 +7,7 @@ use Rattle.image.proofs.entries.table_page.Goals as goal
 
 -- the part that the window has from the table's first byte on lies in the run
 inside : (c : After-place_in-from) → let a = c.args in
-    (c.IsPlace-in.result-1 + (a.span.size - (a.table - a.span.start)) ≤ length a.image.now)
+    (c.place_in-from.result + (a.span.size - (a.table - a.span.start)) ≤ length a.image.now)
     × (a.span.start ≤ a.table) × (a.table < end_of (window_by a.span))
 inside c =
     let s = c in
@@ -40,8 +40,8 @@ returns-then-left-ge4096 c =
     let k = c in
     let a = k.args in
     let fits = inside (goal.at.returns-then-left-ge4096 c).After-place_in-from in
-    let all : (k.IsPlace-in.result + 4096) - k.IsPlace-in.result ≡ min 4096 (end_of (window_by a.span) - a.table) = omega (arith, fits.1, fits.2) in
-    rw (all, k.IsPlace-in.ensures)
+    let all : (k.place_in-from.result + 4096) - k.place_in-from.result ≡ min 4096 (end_of (window_by a.span) - a.table) = omega (arith, fits.1, fits.2) in
+    rw (all, k.place_in-from.ensures)
 
 pub overflow_add-result-2 : goal.overflow_add-result-2
 overflow_add-result-2 c = let fits = inside (goal.at.overflow_add-result-2 c).After-place_in-from in omega (arith, fits.0)
@@ -56,5 +56,5 @@ returns c =
     let a = k.args in
     let fits = inside (goal.at.returns c).After-place_in-from in
     let left = a.span.size - (a.table - a.span.start) in
-    let all : (k.IsPlace-in.result + left) - k.IsPlace-in.result ≡ min 4096 (end_of (window_by a.span) - a.table) = omega (arith, fits.1, fits.2) in
-    rw (all, k.IsPlace-in.ensures)
+    let all : (k.place_in-from.result + left) - k.place_in-from.result ≡ min 4096 (end_of (window_by a.span) - a.table) = omega (arith, fits.1, fits.2) in
+    rw (all, k.place_in-from.ensures)

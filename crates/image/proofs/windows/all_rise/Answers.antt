@@ -10,14 +10,14 @@ past-0 : (c : Else-not-ends_before) → let a = c.args in
     rising (windows_of (drop 3 a.windows.now)) ≡ rising (windows_of a.windows.now)
 past-0 c =
     let a = c.args in
-    rising-go-at a.windows.now 0 (omega arith) (sym c.ends_before.ensures ∙ not-false _ c.if-not-ends_before.false)
+    rising-go-at a.windows.now 0 (omega arith) (sym c.ends_before.ensures ∙ c.if-not-ends_before.false)
 
 past-3 : (c : Else-not-ends_before-2) → let a = c.args in
     rising (windows_of (drop 6 a.windows.now)) ≡ rising (windows_of a.windows.now)
 past-3 c =
     let a = c.args in
-    rising-go-at a.windows.now 3 (omega arith) (sym c.ends_before-2.ensures ∙ not-false _ c.if-not-ends_before-2.false)
-    ∙ past-0 c
+    rising-go-at a.windows.now 3 (omega arith) (sym c.ends_before-2.ensures ∙ c.if-not-ends_before-2.false)
+    ∙ rising-go-at a.windows.now 0 (omega arith) (sym c.ends_before.ensures ∙ c.if-not-ends_before.false)
 
 -- each part of the run ends within the run
 pub ends_before-requires : goal.ends_before-requires
@@ -47,7 +47,7 @@ returns-then-count-lt6 c = let a = c.args in rising-last-at a.windows.now 0 (ome
 pub returns-then-not-ends_before : goal.returns-then-not-ends_before
 returns-then-not-ends_before c =
     let a = c.args in
-    rising-stop-at a.windows.now 0 (omega arith) (sym c.ends_before.ensures ∙ not-true _ c.if-not-ends_before.true)
+    rising-stop-at a.windows.now 0 (omega arith) (sym c.ends_before.ensures ∙ c.if-not-ends_before.true)
 
 pub returns-then-count-lt9 : goal.returns-then-count-lt9
 returns-then-count-lt9 c =
@@ -59,7 +59,7 @@ pub returns-then-not-ends_before-2 : goal.returns-then-not-ends_before-2
 returns-then-not-ends_before-2 c =
     let k = c in
     let a = k.args in
-    rising-stop-at a.windows.now 3 (omega arith) (sym c.ends_before-2.ensures ∙ not-true _ c.if-not-ends_before-2.true) ∙ past-0 (goal.at.returns-then-not-ends_before-2 c).Else-not-ends_before
+    rising-stop-at a.windows.now 3 (omega arith) (sym c.ends_before-2.ensures ∙ c.if-not-ends_before-2.true) ∙ past-0 (goal.at.returns-then-not-ends_before-2 c).Else-not-ends_before
 
 pub returns-then-count-lt12 : goal.returns-then-count-lt12
 returns-then-count-lt12 c =

@@ -15,7 +15,7 @@ returns-then-end-start c =
     let a = k.args in
     next-wraps (window_at a.windows.now a.i) a.run (sym k.bad_part.ensures ∙ k.if-bad_part.false)
     (known a.i).fits (known (a.i + 2)).fits (window_at a.windows.now (a.i + 3)) (known (a.i + 3)).fits
-    c.wrapping_add_u64-end.ensures c.if-end-start.true
+    c.wrapping_add_u64-end.ensures.value c.if-end-start.true
 
 pub returns : goal.returns
 returns c =
@@ -24,4 +24,4 @@ returns c =
     let a = k.args in
     next-is (window_at a.windows.now a.i) a.run (sym k.bad_part.ensures ∙ k.if-bad_part.false)
     (known a.i).fits (known (a.i + 2)).fits (window_at a.windows.now (a.i + 3))
-    c.wrapping_add_u64-end.ensures c.if-end-start.false
+    c.wrapping_add_u64-end.ensures.value c.if-end-start.false

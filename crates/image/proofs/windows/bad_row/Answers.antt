@@ -17,14 +17,15 @@ past-3 : (c : Else-bad_next-2) → let a = c.args in
 past-3 c =
     let a = c.args in
     row-go-at a.windows.now 3 a.run (omega arith) (sym c.bad_next-2.ensures ∙ c.if-bad_next-2.false)
-    ∙ past-0 c
+    ∙ row-go-at a.windows.now 0 a.run (omega arith) (sym c.bad_next.ensures ∙ c.if-bad_next.false)
 
 past-6 : (c : Else-bad_next-3) → let a = c.args in
     bad_row (windows_of (drop 9 a.windows.now)) a.run ≡ bad_row (windows_of a.windows.now) a.run
 past-6 c =
     let a = c.args in
     row-go-at a.windows.now 6 a.run (omega arith) (sym c.bad_next-3.ensures ∙ c.if-bad_next-3.false)
-    ∙ past-3 c
+    ∙ row-go-at a.windows.now 3 a.run (omega arith) (sym c.bad_next-2.ensures ∙ c.if-bad_next-2.false)
+    ∙ row-go-at a.windows.now 0 a.run (omega arith) (sym c.bad_next.ensures ∙ c.if-bad_next.false)
 
 pub returns-then-count-lt6 : goal.returns-then-count-lt6
 returns-then-count-lt6 c =

@@ -7,5 +7,5 @@ returns c =
     let k = c in
     let a = k.args in
     let w = window_at a.windows.now a.i in
-    let whole : k.wrapping_add_u64.result ≡ w.place + w.size = omega (arith, k.wrapping_add_u64.ensures) in
+    let whole : k.wrapping_add_u64.result ≡ w.place + w.size = omega (arith, k.wrapping_add_u64.ensures.value) in
     rw whole
