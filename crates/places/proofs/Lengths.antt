@@ -1,8 +1,8 @@
 -- No change alters the length of the state.
 use Prim.Native.Nat.{ℕ, ◌+◌}
 use mathlib.Core.List.{List}
-use mathlib.Core.Path.{◌≡◌, refl, sym, ◌∙◌}
-use lib.ListN.{length, length-set, set}
+use mathlib.Core.Path.{◌≡◌, ◌∙◌}
+use lib.ListN.{length, length-set}
 use Rattle.places.specs.Layout.{key_in, bucket_of}
 use Rattle.places.specs.Changes.{before_of, released, linked, filled, holding, freed}
 
