@@ -1,6 +1,6 @@
 -- An entry comes back from its bytes, and 32 bytes from their entry.
 use Prim.Native.Nat.{ℕ, ◌+◌, ◌^◌, ◌≤◌, ◌<◌}
-use mathlib.Core.Path.{◌≡◌, refl, ap, sym, ◌∙◌}
+use mathlib.Core.Path.{◌≡◌, refl, ap, ◌∙◌}
 use mathlib.Core.List.{List, ◌++◌}
 use native.Mathlib.Nat.{div-one, mod-eq_of_lt}
 use native.Mathlib.Omega.{arith}
@@ -11,7 +11,7 @@ use Rattle.image.specs.Bytes.{bytes_of}
 use Rattle.image.specs.Memory.{word_at}
 use Rattle.image.proofs.Bytes.{number-back, bytes_back, bytes_below, length-bytes_of}
 use Rattle.image.proofs.Fields.{fits, to-top}
-use Rattle.traced.specs.Decoded.{entry, entry_well, decoded, DecodedAgain}
+use Rattle.traced.specs.Decoded.{entry_well, decoded, DecodedAgain}
 use Rattle.traced.specs.Entry.{entry_bytes, traced_in, Fits, EntryBack, BytesAgain}
 use Rattle.traced.specs.declared.Traced.{Traced}
 use Rattle.traced.proofs.Heads.{head_of, message_of, head_bytes_lem, head-below, message-bytes, message-below, kind-of, answer-of, number_of, flags_of, source_of, vector-of, posted-of, data_of, destination-of, digit}

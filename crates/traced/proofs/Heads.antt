@@ -1,6 +1,6 @@
 -- An entry's four words: the first and the third hold fields, side by side.
 use Prim.Native.Nat.{ℕ, suc, ◌+◌, ◌*◌, ◌-◌, ◌/◌, ◌^◌, ◌<◌}
-use mathlib.Core.Path.{◌≡◌, refl, ap, sym, ◌∙◌}
+use mathlib.Core.Path.{◌≡◌, ap, sym, ◌∙◌}
 use mathlib.Core.List.{◌++◌}
 use native.Mathlib.Nat.{mul_comm, mod-add-div, div-div-eq-div-mul}
 use native.Mathlib.Omega.{arith}

@@ -1,18 +1,18 @@
 -- An entry laid into a buffer, and read from one.
 use Prim.Native.Nat.{ℕ, ◌+◌, ◌-◌, ◌^◌, ◌≤◌, ◌<◌}
-use mathlib.Core.Path.{◌≡◌, refl, ap, sym, ◌∙◌}
+use mathlib.Core.Path.{◌≡◌, ap, ◌∙◌}
 use mathlib.Core.Bool.{true, false}
 use mathlib.Core.List.{List, [], ◌∷◌, ◌++◌, append_assoc}
 use native.Mathlib.Nat.{add_assoc, add-zero}
 use native.Mathlib.Omega.{arith}
 use borrow.Author.Tests.{le-leb, lt-leb, eq-eqb, ne_eqb}
-use lib.Dec.{leb, eqb}
+use lib.Dec.{leb}
 use lib.ListN.{length, take, drop, length-take, length-drop}
 use lib.Seq.{drop-drop, take-take, length-take-le}
 use Rattle.image.specs.Bits.{bits}
 use Rattle.image.specs.Bytes.{little_endian, bytes_of, spell}
 use Rattle.image.specs.Choice.{if◌then◌else◌}
-use Rattle.image.specs.Memory.{word_at, with_word, entry}
+use Rattle.image.specs.Memory.{word_at, with_word}
 use Rattle.image.proofs.Pages.{drop-take}
 use Rattle.image.proofs.Stores.{with_words, Words, all-stored, words-beside}
 use Rattle.image.proofs.Words.{spell_one, word_or0, whole_word}

@@ -1,0 +1,4 @@
+use Rattle.traced.proofs.well.refused.Goals as goal
+
+pub returns : goal.returns
+returns c = cc
