@@ -2,14 +2,14 @@
 use Prim.Native.Nat.{ℕ, zero, suc, ◌+◌, ◌-◌, ◌*◌, ◌^◌, ◌≤◌, ◌<◌}
 use mathlib.Core.Bool.{Bool, true, false, not, cond, ◌&&◌, ◌||◌}
 use mathlib.Core.Logic.{◌⊎◌, inl, inr}
-use mathlib.Core.Path.{◌≡◌, refl, ap, ap₂, sym, ◌∙◌, subst}
+use mathlib.Core.Path.{◌≡◌, refl, ap, sym, ◌∙◌, subst}
 use native.Mathlib.Nat.{zero-mul, mul-one, one-mul, le_of_lt, le_of_eq, mul-pos, mul-le-mul_right}
 use native.Mathlib.Omega.{arith}
 use borrow.Author.Tests.{ltb-false, le-ltb}
 use lib.Dec.{T, lit<, lit≤, ltb, eqb, ltb→lt, eqb→eq}
 use lib.IntN.{ℤ, pos}
 use lib.Pow.{pow_pos}
-use lib.Ieee.{Float, nan, inf, fin, binary64, prec, emax, low, up, down, units, round, sum, add, sub, neg, mul, lt, eq, le, of_int, of_bits, of_fields, odd, size, span, climb}
+use lib.Ieee.{Float, nan, inf, fin, binary64, prec, emax, low, up, down, units, round, sum, add, sub, neg, mul, eq, le, of_int, of_bits, of_fields, odd, size, span, climb}
 use lib.Ieee.Exact.{HasValue}
 use lib.Ieee.Fits.{round_is, and_l, down_pos}
 use lib.Ieee.Order.{transfer, round_mono}

@@ -5,7 +5,7 @@ use mathlib.Core.Path.{◌≡◌, refl, ap, ap₂, sym, ◌∙◌, subst}
 use mathlib.Core.List.{List, [], ◌∷◌}
 use native.Mathlib.Nat.{zero-mul, mul_assoc, mul_comm, mul_left_comm, mul_right_comm, mul-one, add_comm, add-mul, mul-pos, eq_of_mul-eq-mul_right, lt_of_lt_of_le, mul-le-mul_right}
 use native.Mathlib.Omega.{arith}
-use lib.Dec.{T, lit<, lit≤}
+use lib.Dec.{lit<, lit≤}
 use lib.IntN.{pos}
 use lib.ListN.{length}
 use lib.Pow.{pow-add, pow_pos, pow_mono, shl_lt}
@@ -48,7 +48,7 @@ module _ (f : Format) where
       mix : (p q u v : ℕ) → p * c ≡ a * u → q * d ≡ b * v → p * q * (c * d) ≡ a * b * (u * v)
       mix p q u v x y =
           let l : p * q * (c * d) ≡ p * c * (q * d) = simp (mul_assoc, mul_comm, mul_left_comm) in
-          let r : a * b * (u * v) ≡ a * u * (b * v) = simp (mul_assoc, mul_comm, mul_left_comm) in
+          let r : a * b * (u * v) ≡ a * u * (b * v) = simp (mul_assoc, mul_left_comm) in
           l ∙ ap₂ (λ (i j : ℕ). i * j) x y ∙ sym r
 
   pub add-of : (x y : Float) (a c b d : ℕ) → 0 < c → 0 < d → HasValue x false a c → HasValue y false b d → add f x y ≡ round f false (a * d + b * c) (c * d)

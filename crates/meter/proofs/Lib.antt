@@ -2,4 +2,3 @@ pub mod Bounded
 pub mod Exactly
 pub mod Runs
 pub mod Rows
-pub mod Walk
