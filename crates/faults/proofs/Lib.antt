@@ -1,12 +1,7 @@
 pub mod Buffer
-pub mod Calls
 pub mod Contents
 pub mod Examples
-pub mod InPlace
-pub mod Lending
-pub mod LentMeets
 pub mod Numbers
 pub mod Recording
 pub mod Standing
 pub mod Totals
-pub mod ValueMeets

@@ -38,6 +38,7 @@ distinct ((field ∷ fields) ∷ variants) bare number = true
 
 avoided : (variants : List (List Field)) (bare : Bare variants) (number : Choice variants → ℕ) (n : ℕ)
     → avoids variants bare number n ≡ true → (c : Choice variants) → number c ≡ n → ⊥
+avoided [] bare number n h c same = elim c [ ]
 avoided ([] ∷ variants) bare number n h (inl v) same =
     let clash : eqb (number (inl tt)) n ≡ true = eq-eqb _ _ same in
     let h1 = (both (not (eqb (number (inl tt)) n)) _ h).0 in
@@ -49,6 +50,7 @@ avoided ((field ∷ fields) ∷ variants) bare number n h c same = bare
 
 one-to-one : (variants : List (List Field)) (bare : Bare variants) (number : Choice variants → ℕ)
     → distinct variants bare number ≡ true → (c d : Choice variants) → number c ≡ number d → c ≡ d
+one-to-one [] bare number h c d same = elim c [ ]
 one-to-one ([] ∷ variants) bare number h (inl v) (inl w) same = refl
 one-to-one ([] ∷ variants) bare number h (inl v) (inr d) same =
     absurd (avoided variants bare (λ c. number (inr c)) (number (inl tt)) (both (avoids variants bare (λ c. number (inr c)) (number (inl tt))) _ h).0 d (sym same))

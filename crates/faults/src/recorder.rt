@@ -86,6 +86,7 @@ impl RecorderStep {
 }
 
 // The slots of a buffer by its length: none where it isn't one of these.
+#[tactic(auto, unfolding(crate::specs::Slots::slots_of))]
 pub fn slot_count(len: usize) -> usize
     ensures { result ≡ slots_of len }
 {
