@@ -1,0 +1,5 @@
+use borrow.Author.Rules.{rules}
+use Rattle.irte.proofs.reserved.reserved_in_remapped.Goals as goal
+
+pub returns : goal.returns
+returns c = cc
