@@ -1,12 +1,12 @@
 -- Each block is told by itself.
 use Prim.Native.Nat.{ℕ, zero, suc, ◌+◌, ◌*◌}
-use mathlib.Core.Path.{◌≡◌, refl, ap, sym, ◌∙◌}
+use mathlib.Core.Path.{◌≡◌, ap, sym, ◌∙◌}
 use mathlib.Core.List.{List, [], ◌∷◌, ◌++◌, append_assoc}
 use native.Mathlib.Nat.{add-zero, zero-add, suc-add}
 use native.Mathlib.Omega.{arith}
 use lib.ListN.{length, take, drop, length-append, length-drop, take-append-drop}
 use lib.Seq.{take_at, drop_at, length-take-le}
-use Rattle.trace.specs.Told.{told_of, told_from, blocks_in, told, OneBlock}
+use Rattle.trace.specs.Told.{told_of, told_from, blocks_in, OneBlock}
 
 -- a whole block, then the others
 pub block-first : (n place : ℕ) (block rest : List ℕ) → length block ≡ 512

@@ -7,7 +7,6 @@ use native.Mathlib.Decide.{dec_le}
 use native.Mathlib.Numerals.{add-one}
 use native.Mathlib.Omega.{arith}
 use borrow.Author.Tests.{eq-eqb, ne_eqb, le-leb, lt-leb}
-use lib.Dec.{eqb, leb}
 use lib.ListN.{length, take, drop, length-append}
 use Rattle.blocks.specs.Written.{block_bytes, held_in, finished}
 use Rattle.blocks.proofs.Finished.{block-length}
@@ -16,7 +15,7 @@ use Rattle.traced.specs.Entry.{Fits, entry_bytes}
 use Rattle.traced.specs.Well.{well_traced}
 use Rattle.traced.specs.declared.Traced.{Traced}
 use Rattle.traced.proofs.Back.{entry_length}
-use Rattle.trace.specs.Writer.{Wrote, kept, full, refused, unfit, with_entry, appending, closing, on_wrote, handed_out, TraceHandedOut}
+use Rattle.trace.specs.Writer.{Wrote, unfit, with_entry, appending, closing, on_wrote, handed_out, TraceHandedOut}
 use Rattle.trace.specs.Written.{entries_bytes, block_of, blocks_from, Entries}
 use Rattle.trace.specs.declared.writer.Writer.{Writer}
 use Rattle.trace.proofs.Writes.{append-kept, append-full, close-refused, close-none, close-full}

@@ -7,8 +7,8 @@ use native.Mathlib.Nat.{zero-add}
 use native.Mathlib.Numerals.{add-one}
 use native.Mathlib.Omega.{arith}
 use borrow.Author.Tests.{eqb-true, ne_eqb, le-leb, lt-leb, lt-ltb, le-ltb}
-use lib.Dec.{eqb, leb, ltb}
-use lib.ListN.{length, get_or, take, drop, length-take, length-drop}
+use lib.Dec.{eqb, ltb}
+use lib.ListN.{length, take, drop, length-take, length-drop}
 use lib.Seq.{drop-drop, take-take, get_or-drop}
 use Rattle.image.proofs.Bytes.{AreBytes, bytes-taken}
 use Rattle.image.proofs.Pages.{drop-take}
@@ -20,8 +20,8 @@ use Rattle.traced.specs.Decoded as of
 use Rattle.traced.specs.Entry.{entry_bytes, traced_in}
 use Rattle.traced.specs.Well.{well_traced}
 use Rattle.traced.proofs.Back.{bytes-again}
-use Rattle.trace.specs.Told.{Told, traced_at, damaged_at, entries_from, told_of, told_from, told, blocks_in}
-use Rattle.trace.specs.Reader.{ReaderStep, entry, damaged, end, block_at, behind, shut, step_at, on_reader_step, steps, ToldInSteps}
+use Rattle.trace.specs.Told.{Told, traced_at, damaged_at, entries_from, told_of, told_from, blocks_in}
+use Rattle.trace.specs.Reader.{ReaderStep, entry, block_at, behind, shut, step_at, on_reader_step, steps, ToldInSteps}
 use Rattle.trace.proofs.Steps.{at-end, at-shut, at_entry}
 
 -- one step, then the others

@@ -1,5 +1,5 @@
 -- What was written is read back.
-use Prim.Native.Nat.{ℕ, zero, suc, ◌+◌, ◌*◌, ◌/◌, ◌%◌, ◌^◌, ◌≤◌, ◌<◌}
+use Prim.Native.Nat.{ℕ, suc, ◌+◌, ◌*◌, ◌/◌, ◌%◌, ◌^◌, ◌≤◌, ◌<◌}
 use mathlib.Core.Path.{◌≡◌, refl, ap, sym, ◌∙◌}
 use mathlib.Core.Bool.{true}
 use mathlib.Core.List.{List, [], ◌∷◌, ◌++◌, append_assoc, append-nil}
@@ -7,11 +7,11 @@ use native.Mathlib.Decide.{dec_le}
 use native.Mathlib.Nat.{add-zero, zero-add, add-suc}
 use native.Mathlib.Omega.{arith}
 use borrow.Author.Tests.{eq-eqb, ne_eqb}
-use lib.Dec.{eqb, lit<}
-use lib.ListN.{length, take, drop, length-append}
+use lib.Dec.{lit<}
+use lib.ListN.{length, length-append}
 use lib.Seq.{take_at, drop_at}
 use Rattle.image.proofs.Bytes.{AreBytes, bytes-append, bytes-number}
-use Rattle.blocks.specs.Block.{count, framed, entries_well, well_laid}
+use Rattle.blocks.specs.Block.{entries_well, well_laid}
 use Rattle.blocks.proofs.Finished.{counted, from-eight, block-framed}
 use Rattle.traced.specs.Decoded.{entry_well}
 use Rattle.traced.specs.Entry.{Fits, entry_bytes}
@@ -20,7 +20,7 @@ use Rattle.traced.specs.declared.Traced.{Traced}
 use Rattle.traced.proofs.Back.{four, entry-back, entry_length}
 use Rattle.traced.proofs.Heads.{head_of, message_of}
 use Rattle.image.specs.Bytes.{bytes_of}
-use Rattle.trace.specs.Told.{Told, traced_at, entries_from, told_of, told_from, told, blocks_in}
+use Rattle.trace.specs.Told.{Told, traced_at, entries_from, told_of, told_from, blocks_in}
 use Rattle.trace.specs.Written.{entries_bytes, block_of, blocks_from, Entries, placed, ReadBack}
 use Rattle.trace.proofs.Apart.{block-first}
 use Rattle.trace.proofs.Filling.{joined_length, behind-length, entries-behind, block-of, length-of-block, no-entries, first_of, others-of}
