@@ -1,0 +1,5 @@
+use borrow.Author.Rules.{rules}
+use Rattle.interrupts.proofs.descriptor.reserved_descriptor.Goals as goal
+
+pub returns : goal.returns
+returns c = cc
