@@ -11,7 +11,7 @@ use borrow.Author.Tests.{lt-leb, not-true, lt-ltb, leb-true}
 use lib.Dec.{leb, ltb}
 use lib.ListN.{length, take, drop, take-append-drop, drop_of_length-le}
 use lib.Pow.{split, high, low, pow_pos, pow-add}
-use Rattle.image.specs.Choice.{if◌then◌else◌}
+use Rattle.std.specs.Prelude.{if◌then◌else◌}
 use Rattle.image.specs.Memory.{Memory, entry}
 use Rattle.image.specs.Rules.{run}
 use Rattle.image.specs.Windows.{Window, windows_of, end_of, holds_all, nowhere, spot_in, overlap, entry_in, of_windows}

@@ -11,7 +11,7 @@ use native.Mathlib.Omega.{arith}
 use borrow.Author.Tests.{eq-eqb, eqb-true}
 use lib.Dec.{eqb}
 use lib.Pow.{low, pow_pos}
-use Rattle.image.specs.Choice.{if◌then◌else◌}
+use Rattle.std.specs.Prelude.{if◌then◌else◌}
 use Rattle.image.proofs.Choices.{both as both_true}
 use Rattle.dma.specs.InterruptRange.{span_at}
 use Rattle.regions.specs.Region.{Region, is_listed}

@@ -1,7 +1,7 @@
 -- Document 02, Ask 4: the spans that are listed agree with the request engine, and lie in order. Proved in proofs/.
 use Rattle.std.specs.Prelude.{ℕ, ◌+◌, ◌-◌, ◌*◌, ◌≤◌, ◌<◌, Bool, true, false, ◌⊎◌, ◌≡◌, eqb, length, take}
 use mathlib.Core.List.{List, [], ◌∷◌, Memᴰ}
-use Rattle.image.specs.Choice.{if◌then◌else◌}
+use Rattle.std.specs.Prelude.{if◌then◌else◌}
 use Rattle.image.specs.Memory.{Memory, missing, entry}
 use Rattle.image.specs.Rules.{run}
 use Rattle.image.specs.Windows.{of_windows}

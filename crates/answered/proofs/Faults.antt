@@ -4,7 +4,8 @@ use mathlib.Core.Bool.{Bool, true, false, not}
 use mathlib.Core.Path.{◌≡◌, refl}
 use Rattle.image.specs.Bits.{bits, bit}
 use Rattle.image.specs.Check.{Check, stop, go}
-use Rattle.image.specs.Choice.{if◌then◌else◌, one-if}
+use Rattle.std.specs.Prelude.{if◌then◌else◌}
+use Rattle.image.specs.Choice.{one-if}
 use Rattle.image.specs.Place.{Place, no_entry, entry_at}
 use Rattle.registers.specs.declared.Registers.{Registers}
 use Rattle.faults.specs.Record.{FaultAnswer}

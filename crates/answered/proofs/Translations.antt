@@ -7,7 +7,8 @@ use native.Mathlib.Omega.{arith}
 use lib.Dec.{leb}
 use lib.ListN.{length}
 use Rattle.image.specs.Bits.{bits, bit, in_place}
-use Rattle.image.specs.Choice.{if◌then◌else◌, one-if}
+use Rattle.std.specs.Prelude.{if◌then◌else◌}
+use Rattle.image.specs.Choice.{one-if}
 use Rattle.image.specs.EntryKind.{EntryKind}
 use Rattle.image.specs.Memory.{Memory}
 use Rattle.image.specs.Place.{Place, no_entry, stopped_at}

@@ -1,6 +1,7 @@
 -- What is traced of the unit's requests and answers. A fault's record isn't: it follows from the request and the reason.
 use Rattle.std.specs.Prelude.{ℕ, ◌+◌, ◌*◌, ◌%◌, Bool, eqb}
-use Rattle.image.specs.Choice.{if◌then◌else◌, one-if}
+use Rattle.std.specs.Prelude.{if◌then◌else◌}
+use Rattle.image.specs.Choice.{one-if}
 use Rattle.image.specs.Place.{Place, no_entry, entry_at}
 use Rattle.faults.specs.Record.{FaultAnswer}
 use Rattle.dma.specs.Requests as dma

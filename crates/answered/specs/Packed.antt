@@ -1,7 +1,7 @@
 -- The entry of a request with an answer of include/galitzaf.h, by the answer's four words. Bytes that its kind doesn't name aren't looked at.
 use Rattle.std.specs.Prelude.{ℕ, ◌+◌, ◌*◌, min, List, eqb}
 use Rattle.image.specs.Bits.{bits}
-use Rattle.image.specs.Choice.{if◌then◌else◌}
+use Rattle.std.specs.Prelude.{if◌then◌else◌}
 use Rattle.image.specs.Memory.{entry, of_image, on_fetch}
 use Rattle.traced.specs.declared.Traced.{Traced}
 use Rattle.answered.specs.Answered.{width_of}

@@ -1,7 +1,7 @@
 -- What an entry of the trace tells: its request and its answer. A fault's record is made of the request and the reason, as document 01 has it.
 use Rattle.std.specs.Prelude.{ℕ, not, ◌&&◌, eqb}
 use Rattle.image.specs.Bits.{bits, bit}
-use Rattle.image.specs.Choice.{if◌then◌else◌}
+use Rattle.std.specs.Prelude.{if◌then◌else◌}
 use Rattle.image.specs.Place.{Place, no_entry, entry_at}
 use Rattle.faults.specs.Record.{FaultAnswer, memory_record, translation_record, interrupt_record}
 use Rattle.dma.specs.Requests as dma

@@ -1,7 +1,7 @@
 -- What a writer lays down: a block of so many entries, with its number and its sum.
 use Rattle.std.specs.Prelude.{ℕ, ◌*◌, ◌-◌, ◌&&◌, List, ◌∷◌, ◌++◌, eqb, leb, length, take, drop, replicate}
 use Rattle.image.specs.Bytes.{bytes_of}
-use Rattle.image.specs.Choice.{if◌then◌else◌}
+use Rattle.std.specs.Prelude.{if◌then◌else◌}
 use Rattle.blocks.specs.Block.{weighed}
 
 -- bytes 0 to 507, of a number, a count of entries and their bytes

@@ -8,7 +8,7 @@ use borrow.Author.Tests.{eqb-true, ltb-false, leb-false, lt-ltb, le-ltb, eq-eqb,
 use lib.Dec.{eqb, leb, ltb}
 use lib.ListN.{length}
 use lib.Pow.{pow_mono}
-use Rattle.image.specs.Choice.{if◌then◌else◌}
+use Rattle.std.specs.Prelude.{if◌then◌else◌}
 use Rattle.image.specs.Rules.{run}
 use Rattle.image.specs.Windows.{of_windows, bad_windows}
 use Rattle.image.proofs.Choices.{both, neither}

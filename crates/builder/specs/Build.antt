@@ -1,7 +1,7 @@
 -- Document 02, ask 8, the builder: what it answers, and what it leaves in the lent memory, copy and marks. The items are taken on the
 -- copy of the region; memory is written at the end, and only where no item had a reason against it.
 use Rattle.std.specs.Prelude.{ℕ, ◌/◌, List, eqb, length}
-use Rattle.image.specs.Choice.{if◌then◌else◌}
+use Rattle.std.specs.Prelude.{if◌then◌else◌}
 use Rattle.image.specs.Windows.{of_windows}
 use Rattle.registers.specs.declared.Registers.{Registers}
 use Rattle.marking.specs.Marking.{Marked, mark_all}

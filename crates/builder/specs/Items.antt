@@ -1,7 +1,7 @@
 -- Document 02, ask 8: a list of pages to map or unmap, taken in order up to the first item with a reason against it. Items are lent as
 -- numbers, four an item: what it asks for, place, size and frame.
 use Rattle.std.specs.Prelude.{ℕ, zero, suc, ◌+◌, ◌*◌, List, eqb, get_or}
-use Rattle.image.specs.Choice.{if◌then◌else◌}
+use Rattle.std.specs.Prelude.{if◌then◌else◌}
 use Rattle.registers.specs.declared.Registers.{Registers}
 use Rattle.tables.specs.Mapped.{mapped}
 use Rattle.tables.specs.Tables.{Tables}

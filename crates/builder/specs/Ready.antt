@@ -1,6 +1,6 @@
 -- Document 02, ask 8, before any item: refusal 1, then TE, the context and the region, in this order. No item is named.
 use Rattle.std.specs.Prelude.{ℕ, ◌+◌, ◌-◌, ◌*◌, ◌/◌, ◌%◌, ◌^◌, ◌<◌, Bool, not, ◌&&◌, ◌||◌, ◌≡◌, List, eqb, leb, ltb, length}
-use Rattle.image.specs.Choice.{if◌then◌else◌}
+use Rattle.std.specs.Prelude.{if◌then◌else◌}
 use Rattle.image.specs.Rules.{run}
 use Rattle.image.specs.Windows.{of_windows, bad_windows}
 use Rattle.registers.specs.Registers.{registers_bad}

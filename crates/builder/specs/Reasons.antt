@@ -1,7 +1,7 @@
 -- Document 02, ask 8: what an item asks for, and the reasons against it that its own numbers tell. 0 is no reason.
 use Rattle.std.specs.Prelude.{ℕ, ◌+◌, ◌%◌, ◌^◌, Bool, not, ◌&&◌, ◌||◌, eqb, leb}
 use Rattle.image.specs.Bits.{bits, bit}
-use Rattle.image.specs.Choice.{if◌then◌else◌}
+use Rattle.std.specs.Prelude.{if◌then◌else◌}
 use Rattle.registers.specs.declared.Registers.{Registers}
 use Rattle.dma.specs.InterruptRange.{meets_interrupt_range}
 use Rattle.dma.specs.Translation.{overflows}

@@ -7,7 +7,7 @@ use native.Mathlib.Decide.{dec_le}
 use native.Mathlib.Omega.{arith}
 use lib.Dec.{eqb}
 use lib.ListN.{length}
-use Rattle.image.specs.Choice.{if◌then◌else◌}
+use Rattle.std.specs.Prelude.{if◌then◌else◌}
 use Rattle.image.specs.Memory.{Fetched, found, missing, Memory, on_fetch}
 use Rattle.image.specs.Rules.{run}
 use Rattle.image.specs.Windows.{of_windows, bad_windows}

@@ -10,7 +10,7 @@ use borrow.Author.Tests.{eq-eqb, eqb-false}
 use lib.Dec.{eqb}
 use lib.ListN.{length}
 use Rattle.image.specs.Bits.{bits, bit, any_set}
-use Rattle.image.specs.Choice.{if◌then◌else◌}
+use Rattle.std.specs.Prelude.{if◌then◌else◌}
 use Rattle.image.specs.EntryKind.{is_page}
 use Rattle.image.specs.Memory.{Memory}
 use Rattle.image.specs.Place.{no_entry}

@@ -5,7 +5,7 @@ use mathlib.Core.Path.{◌≡◌, refl, ap, ◌∙◌}
 use mathlib.Core.List.{List}
 use native.Mathlib.Decide.{dec_le}
 use native.Mathlib.Omega.{arith}
-use Rattle.image.specs.Choice.{if◌then◌else◌}
+use Rattle.std.specs.Prelude.{if◌then◌else◌}
 use Rattle.builder.specs.Items.{item_at}
 use Rattle.builder.specs.Reasons.{unmaps, levels_below, leaf_of}
 use Rattle.builder.specs.declared.items.Item.{Item}

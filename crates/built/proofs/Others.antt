@@ -8,7 +8,7 @@ use borrow.Author.Tests.{leb-false, not-false}
 use lib.Dec.{eqb, leb}
 use Rattle.image.specs.Bits.{bits, bit}
 use Rattle.image.specs.Check.{Check, stop, go, on_check}
-use Rattle.image.specs.Choice.{if◌then◌else◌}
+use Rattle.std.specs.Prelude.{if◌then◌else◌}
 use Rattle.image.specs.EntryKind.{root_entry, context_entry, remapping_entry, posted_descriptor, is_page}
 use Rattle.image.specs.Memory.{Memory, missing, found, entry}
 use Rattle.image.specs.Rules.{Rules, answer, map_rules}

@@ -8,7 +8,7 @@ use borrow.Author.Tests.{leb-false}
 use lib.Dec.{eqb}
 use lib.ListN.{length}
 use lib.Pow.{pow_mono}
-use Rattle.image.specs.Choice.{if◌then◌else◌}
+use Rattle.std.specs.Prelude.{if◌then◌else◌}
 use Rattle.image.specs.EntryKind.{EntryKind, is_page}
 use Rattle.image.specs.Memory.{Memory}
 use Rattle.image.specs.Place.{Place, no_entry, entry_at, last_tried, stopped_at}

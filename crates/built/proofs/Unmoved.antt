@@ -5,7 +5,7 @@ use mathlib.Core.Bool.{true, false}
 use mathlib.Core.Path.{◌≡◌, refl, ap, sym, ◌∙◌, subst}
 use mathlib.Core.List.{[], ◌∷◌, ◌++◌, Memᴰ}
 use native.Mathlib.Omega.{arith}
-use Rattle.image.specs.Choice.{if◌then◌else◌}
+use Rattle.std.specs.Prelude.{if◌then◌else◌}
 use Rattle.image.specs.EntryKind.{EntryKind, page_entry, words_of, is_page}
 use Rattle.image.specs.Memory.{Memory, Fetched, missing, found, entry, on_fetch}
 use Rattle.image.specs.Place.{Place, entry_at, last_tried}

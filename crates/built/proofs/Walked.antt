@@ -6,7 +6,7 @@ use mathlib.Core.List.{List}
 use native.Mathlib.Omega.{arith}
 use lib.ListN.{length, get_or}
 use Rattle.image.specs.Bits.{bits, in_place}
-use Rattle.image.specs.Choice.{if◌then◌else◌}
+use Rattle.std.specs.Prelude.{if◌then◌else◌}
 use Rattle.image.specs.Memory.{Memory, found, entry}
 use Rattle.image.specs.Place.{Place, entry_at, last_tried}
 use Rattle.image.specs.Rules.{run}

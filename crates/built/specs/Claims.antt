@@ -2,7 +2,7 @@
 use Rattle.std.specs.Prelude.{ℕ, ◌+◌, ◌-◌, ◌/◌, ◌<◌, Bool, true, false, not, ◌&&◌, ◌||◌, ◌≡◌, eqb, length, get_or}
 use mathlib.Core.List.{List, Memᴰ}
 use Rattle.image.specs.Bits.{bit}
-use Rattle.image.specs.Choice.{if◌then◌else◌}
+use Rattle.std.specs.Prelude.{if◌then◌else◌}
 use Rattle.image.specs.EntryKind.{is_page}
 use Rattle.image.specs.Memory.{Memory}
 use Rattle.image.specs.Rules.{run, entries_of}

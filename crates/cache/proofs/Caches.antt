@@ -9,7 +9,7 @@ use lib.Dec.{eqb, ltb}
 use lib.ListN.{length}
 use Rattle.dma.specs.declared.MemoryRequest.{MemoryRequest}
 use Rattle.places.specs.Layout.{words}
-use Rattle.image.specs.Choice.{if◌then◌else◌}
+use Rattle.std.specs.Prelude.{if◌then◌else◌}
 use Rattle.image.proofs.Choices.{both}
 use Rattle.cache.specs.Numbers.{caches, newest}
 

@@ -9,7 +9,7 @@ use native.Mathlib.Omega.{arith}
 use borrow.Author.Tests.{eqb-true}
 use lib.Dec.{eqb}
 use lib.ListN.{length, length-take, take as firsts}
-use Rattle.image.specs.Choice.{if◌then◌else◌}
+use Rattle.std.specs.Prelude.{if◌then◌else◌}
 use Rattle.image.specs.Rules.{Rules, answer, run, named}
 use Rattle.registers.specs.Admission.{Admitted, refusal, pass, taken_up, on_admission}
 use Rattle.registers.specs.declared.Registers.{Registers}

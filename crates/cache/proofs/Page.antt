@@ -7,7 +7,7 @@ use lib.Dec.{eqb, leb}
 use lib.Pow.{shr-shr}
 use Rattle.image.specs.Bits.{bits, bit}
 use Rattle.image.specs.Check.{Check, stop, go, on_check}
-use Rattle.image.specs.Choice.{if◌then◌else◌}
+use Rattle.std.specs.Prelude.{if◌then◌else◌}
 use Rattle.image.specs.Memory.{Memory, Fetched, missing, found, entry, on_fetch}
 use Rattle.image.specs.Rules.{Rules, answer, run}
 use Rattle.registers.specs.declared.Registers.{Registers}

@@ -10,7 +10,7 @@ use Rattle.image.specs.Memory.{Memory}
 use Rattle.image.specs.Rules.{Rules, answer, run, map_rules, SameIn}
 use Rattle.registers.specs.Admission.{Admitted, refusal, pass, taken_up, on_admission, in_interrupt_range}
 use Rattle.registers.specs.declared.Registers.{Registers}
-use Rattle.image.specs.Choice.{if◌then◌else◌}
+use Rattle.std.specs.Prelude.{if◌then◌else◌}
 use Rattle.dma.specs.InterruptRange.{meets_interrupt_range, span_at}
 use Rattle.dma.specs.Requests.{granted, refused, memory_outcome, memory_rules}
 use Rattle.dma.specs.Translation.{Translation, through, leaf, fault, translation_rules}

@@ -8,7 +8,7 @@ use native.Mathlib.Decide.{ℕ_discrete}
 use borrow.Author.Tests.{eq-eqb, ne_eqb}
 use lib.Dec.{eqb}
 use lib.ListN.{length, length-append, take}
-use Rattle.image.specs.Choice.{if◌then◌else◌}
+use Rattle.std.specs.Prelude.{if◌then◌else◌}
 use Rattle.places.specs.Layout.{head_of, key_in, frame_in, domain_in, place_of_age}
 use Rattle.places.specs.Changes.{holding, freed, resettled, sifted}
 use Rattle.places.proofs.Kept.{head-new, freed-head}

@@ -4,7 +4,7 @@ use Rattle.image.specs.Memory.{Memory}
 use Rattle.image.specs.Rules.{Rules, answer, run, named, map_rules}
 use Rattle.registers.specs.Admission.{Admitted, refusal, pass, taken_up, admission, on_admission, in_interrupt_range}
 use Rattle.registers.specs.declared.Registers.{Registers}
-use Rattle.image.specs.Choice.{if◌then◌else◌}
+use Rattle.std.specs.Prelude.{if◌then◌else◌}
 use Rattle.dma.specs.InterruptRange.{meets_interrupt_range, span_at}
 use Rattle.dma.specs.Lookup.{on_lookup, lookup_rules}
 use Rattle.dma.specs.Page.{host_address}

@@ -1,6 +1,6 @@
 -- The second engine over the numbers of a lent state, whatever they are.
 use Rattle.std.specs.Prelude.{ℕ, ◌+◌, ◌*◌, ◌%◌, ◌^◌, min, Bool, ◌&&◌, List, eqb, ltb, length}
-use Rattle.image.specs.Choice.{if◌then◌else◌}
+use Rattle.std.specs.Prelude.{if◌then◌else◌}
 use Rattle.image.specs.Memory.{Memory}
 use Rattle.image.specs.Place.{Place, no_entry, stopped_at}
 use Rattle.image.specs.Rules.{Rules, answer, run, map_rules}

@@ -7,7 +7,7 @@ use lib.Dec.{eqb, lit≤}
 use lib.ListN.{length, take, set, replicate, length-set}
 use Rattle.image.specs.Bits.{bits}
 use Rattle.image.specs.Bytes.{little_endian, bytes_of, spell}
-use Rattle.image.specs.Choice.{if◌then◌else◌}
+use Rattle.std.specs.Prelude.{if◌then◌else◌}
 use Rattle.image.specs.Memory.{Memory, missing, word_at, entry}
 use Rattle.image.specs.Place.{last_tried}
 use Rattle.image.specs.Rules.{run, map_rules, words_from}

@@ -13,7 +13,7 @@ use lib.ListN.{length, get_or, set, take, drop, take-append-drop, length-set, le
 use lib.Seq.{get_or-set_same, get_or-set_other, take-append-le, drop-append-le}
 use Rattle.image.specs.Bits.{bits}
 use Rattle.image.specs.Bytes.{little_endian, bytes_of}
-use Rattle.image.specs.Choice.{if◌then◌else◌}
+use Rattle.std.specs.Prelude.{if◌then◌else◌}
 use Rattle.image.specs.Memory.{Memory, Fetched, missing, found, word_at, of_image, entry}
 use Rattle.image.specs.Rules.{run, map_rules, named, entries_of, words_from}
 use Rattle.image.specs.Windows.{Window, windows_of, Spot, nowhere, here, on_spot, spot_in, entry_in, of_windows, bad_with_any, bad_list, bad_windows, flat}

@@ -7,7 +7,7 @@ use native.Mathlib.Omega.{arith}
 use borrow.Author.Tests.{eqb-true}
 use lib.Dec.{leb, eqb}
 use lib.ListN.{length}
-use Rattle.image.specs.Choice.{if◌then◌else◌}
+use Rattle.std.specs.Prelude.{if◌then◌else◌}
 use Rattle.image.specs.EntryKind.{words_of}
 use Rattle.image.specs.Memory.{Memory, Fetched, missing, found, word_at, of_image, entry, on_fetch}
 use Rattle.image.specs.Place.{Place, entry_at, last_tried}

@@ -1,6 +1,6 @@
 -- Document 02, Ask 1: translation requests over the words of the bench image, some of them changed, as rows of one table.
 use Rattle.std.specs.Prelude.{ℕ, ◌+◌, Bool, true, false, List, [], ◌∷◌, ◌++◌, ◌≡◌, eqb, leb}
-use Rattle.image.specs.Choice.{if◌then◌else◌}
+use Rattle.std.specs.Prelude.{if◌then◌else◌}
 use Rattle.image.specs.Bytes.{spell}
 use Rattle.image.specs.Memory.{Memory, missing, found}
 use Rattle.image.specs.Place.{Place, no_entry, entry_at}

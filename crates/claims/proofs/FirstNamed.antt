@@ -8,7 +8,7 @@ use native.Mathlib.Decide.{dec_le}
 use borrow.Author.Tests.{lt-ltb}
 use lib.ListN.{length, take, length-take}
 use lib.Seq.{take_all}
-use Rattle.image.specs.Choice.{if◌then◌else◌}
+use Rattle.std.specs.Prelude.{if◌then◌else◌}
 use Rattle.image.specs.Windows.{windows_of, bad_list, bad_windows}
 use Rattle.refused.specs.FirstBad.{first_bad_window}
 use Rattle.claims.specs.FirstNamed.{FirstNamed}

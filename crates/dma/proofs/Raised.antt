@@ -8,7 +8,7 @@ use lib.Dec.{eqb}
 use lib.Pow.{shr-shr}
 use Rattle.image.specs.Bits.{bits, bit, any_set}
 use Rattle.image.specs.Check.{Check, stop, go, on_check}
-use Rattle.image.specs.Choice.{if◌then◌else◌}
+use Rattle.std.specs.Prelude.{if◌then◌else◌}
 use Rattle.image.specs.Memory.{Memory, Fetched}
 use Rattle.image.specs.Rules.{run}
 use Rattle.image.proofs.Choices.{past}

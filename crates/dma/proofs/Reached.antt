@@ -10,7 +10,7 @@ use borrow.Author.Tests.{eqb-true, not-false}
 use lib.Dec.{eqb, leb}
 use Rattle.image.specs.Bits.{any_set}
 use Rattle.image.specs.Check.{Check, stop, go, on_check}
-use Rattle.image.specs.Choice.{if◌then◌else◌}
+use Rattle.std.specs.Prelude.{if◌then◌else◌}
 use Rattle.image.specs.EntryKind.{EntryKind, is_page}
 use Rattle.image.specs.Memory.{Memory, Fetched, missing, found, entry, on_fetch}
 use Rattle.image.specs.Rules.{Rules, answer, fetch, run, entries_of}

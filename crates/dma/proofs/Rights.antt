@@ -8,7 +8,7 @@ use mathlib.Core.Logic.{◌⊎◌, inl, inr, ⊎_elim}
 use native.Mathlib.Omega.{arith}
 use native.Mathlib.Decide.{dec_le, ℕ_discrete}
 use Rattle.image.specs.Check.{go}
-use Rattle.image.specs.Choice.{if◌then◌else◌}
+use Rattle.std.specs.Prelude.{if◌then◌else◌}
 use Rattle.image.specs.EntryKind.{is_root_or_context}
 use Rattle.image.specs.Memory.{Memory, Fetched, missing, found, join, entry}
 use Rattle.image.specs.Rules.{Rules, run, entries_of}

@@ -5,7 +5,7 @@ use mathlib.Core.Path.{◌≡◌, refl, subst}
 use native.Mathlib.Omega.{arith}
 use mathlib.Core.Logic.{◌⊎◌, ⊎_elim}
 use Rattle.image.specs.Check.{Check, stop, go, on_check}
-use Rattle.image.specs.Choice.{if◌then◌else◌}
+use Rattle.std.specs.Prelude.{if◌then◌else◌}
 use Rattle.image.specs.Memory.{Memory, Fetched, missing, found, entry, on_fetch}
 use Rattle.image.specs.Place.{Place, entry_at, last_tried}
 use Rattle.image.specs.Rules.{run}

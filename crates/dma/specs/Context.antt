@@ -1,7 +1,7 @@
 -- Document 01, "Context entry": context table + 16 × (device and function), 16 bytes. 70:67 are not looked at.
 use Rattle.std.specs.Prelude.{ℕ, ◌+◌, ◌%◌, ◌<◌, ◌≤◌, Bool, false, not, ◌||◌, ◌≡◌, eqb}
 use Rattle.image.specs.Bits.{bits, bit, any_set, in_place}
-use Rattle.image.specs.Choice.{if◌then◌else◌}
+use Rattle.std.specs.Prelude.{if◌then◌else◌}
 use Rattle.registers.specs.declared.Registers.{Registers}
 use Rattle.image.specs.Check.{Check, stop, go}
 use Rattle.dma.specs.declared.context.Context.{Context}

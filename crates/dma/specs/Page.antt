@@ -1,7 +1,7 @@
 -- Document 01, "Page entries" and "Grant": an entry of 8 bytes at a level from 5 down to 1.
 use Rattle.std.specs.Prelude.{ℕ, ◌+◌, ◌-◌, ◌*◌, Bool, not, ◌&&◌, ◌||◌, eqb, leb}
 use Rattle.image.specs.Bits.{bits, bit, any_set, in_place}
-use Rattle.image.specs.Choice.{if◌then◌else◌}
+use Rattle.std.specs.Prelude.{if◌then◌else◌}
 use Rattle.registers.specs.declared.Registers.{Registers}
 use Rattle.image.specs.Check.{Check, stop, go}
 

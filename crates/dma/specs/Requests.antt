@@ -1,6 +1,6 @@
 -- A memory request, from registers to answer, as one rules tree.
 use Rattle.std.specs.Prelude.{ℕ, List}
-use Rattle.image.specs.Choice.{if◌then◌else◌}
+use Rattle.std.specs.Prelude.{if◌then◌else◌}
 use Rattle.image.specs.EntryKind.{is_page, is_root_or_context}
 use Rattle.image.specs.Memory.{Memory}
 use Rattle.image.specs.Place.{Place, no_entry, stopped_at}

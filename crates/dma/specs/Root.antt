@@ -1,7 +1,7 @@
 -- Document 01, "Root entry": root table + 16 × bus, 16 bytes.
 use Rattle.std.specs.Prelude.{ℕ, Bool, not, ◌||◌}
 use Rattle.image.specs.Bits.{bit, any_set, in_place}
-use Rattle.image.specs.Choice.{if◌then◌else◌}
+use Rattle.std.specs.Prelude.{if◌then◌else◌}
 use Rattle.image.specs.Check.{Check, stop, go}
 
 unfoldable pub root_reserved : (haw e : ℕ) → Bool

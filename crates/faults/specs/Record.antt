@@ -1,7 +1,7 @@
 -- A fault's answer: its reason, whether it may be recorded, and its record. A record's 16 bytes are one number of 128 bits.
 use Rattle.std.specs.Prelude.{ℕ, ◌+◌, ◌*◌, ◌^◌, min, Bool, true, false, not, ◌&&◌, ◌||◌, eqb, leb}
 use Rattle.image.specs.Bits.{in_place}
-use Rattle.image.specs.Choice.{if◌then◌else◌}
+use Rattle.std.specs.Prelude.{if◌then◌else◌}
 
 -- the number lies from low to high, ends included
 abbrev pub within : (low high n : ℕ) → Bool

@@ -1,6 +1,6 @@
 -- Document 01, the recorder, over the number of slots: what each call answers and leaves.
 use Rattle.std.specs.Prelude.{ℕ, ◌+◌, ◌%◌, Bool, true, false, not, ◌||◌, List, leb}
-use Rattle.image.specs.Choice.{if◌then◌else◌}
+use Rattle.std.specs.Prelude.{if◌then◌else◌}
 use Rattle.faults.specs.Slots.{record_at, with_record, standing, clear127, set127}
 
 -- the lent buffer, and the small state

@@ -2,7 +2,8 @@
 use Rattle.std.specs.Prelude.{ℕ, zero, suc, ◌+◌, ◌*◌, ◌%◌, ◌^◌, ◌≤◌, Bool, List, ◌++◌, ◌≡◌, eqb, length, take, drop}
 use Rattle.image.specs.Bits.{bit}
 use Rattle.image.specs.Bytes.{little_endian, bytes_of}
-use Rattle.image.specs.Choice.{if◌then◌else◌, one-if}
+use Rattle.std.specs.Prelude.{if◌then◌else◌}
+use Rattle.image.specs.Choice.{one-if}
 
 -- how many slots a length gives: any power of two from 8 to 256, and none for any other length
 unfoldable pub slots_of : (len : ℕ) → ℕ

@@ -1,6 +1,6 @@
 -- What each call answers, and what it leaves in the buffers that are lent to be written. The first line that applies decides.
 use Rattle.std.specs.Prelude.{ℕ, List, ltb, length}
-use Rattle.image.specs.Choice.{if◌then◌else◌}
+use Rattle.std.specs.Prelude.{if◌then◌else◌}
 use Rattle.image.specs.Place.{Place}
 use Rattle.dma.specs.Requests.{memory_answer, memory_answer_place}
 use Rattle.interrupts.specs.Interrupts.{InterruptOutcome, interrupt_answer, interrupt_answer_place}

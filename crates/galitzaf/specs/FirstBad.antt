@@ -1,6 +1,6 @@
 -- What the call that names the first bad register or window answers.
 use Rattle.std.specs.Prelude.{ℕ, ◌+◌, List}
-use Rattle.image.specs.Choice.{if◌then◌else◌}
+use Rattle.std.specs.Prelude.{if◌then◌else◌}
 use Rattle.refused.specs.FirstBad.{first_bad}
 use Rattle.packing.specs.Arguments.{malformed_windows}
 use Rattle.packing.specs.Registers.{malformed_registers, unpacked}

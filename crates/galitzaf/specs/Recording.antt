@@ -1,6 +1,7 @@
 -- The recorder's calls: what each answers, and what it leaves in the buffers lent to be written. The first line that applies decides.
 use Rattle.std.specs.Prelude.{ℕ, Bool, not, ◌||◌, List, [], ◌∷◌, eqb, leb, ltb, length}
-use Rattle.image.specs.Choice.{if◌then◌else◌, one-if}
+use Rattle.std.specs.Prelude.{if◌then◌else◌}
+use Rattle.image.specs.Choice.{one-if}
 use Rattle.image.specs.Bytes.{spell}
 use Rattle.faults.specs.Recorder.{After, refused, out_of_place, recording, clearing, clearing_overflow}
 use Rattle.faults.specs.Slots.{slots_in}

@@ -1,6 +1,6 @@
 -- What a take's call answers, and what it leaves in the image.
 use Rattle.std.specs.Prelude.{ℕ, ◌+◌, List}
-use Rattle.image.specs.Choice.{if◌then◌else◌}
+use Rattle.std.specs.Prelude.{if◌then◌else◌}
 use Rattle.takes.specs.Take as rules
 use Rattle.takes.specs.Take.{TakeOutcome}
 use Rattle.packing.specs.Arguments.{malformed_windows}

@@ -1,6 +1,6 @@
 -- Document 02, Ask 8: the call that maps and unmaps a list of pages, its status and every lent buffer.
 use Rattle.std.specs.Prelude.{ℕ, ◌+◌, ◌%◌, not, List, eqb, length, set}
-use Rattle.image.specs.Choice.{if◌then◌else◌}
+use Rattle.std.specs.Prelude.{if◌then◌else◌}
 use Rattle.builder.specs.Build.{Built, all_taken, refused, not_ready, at_item, LentBuffers, built}
 use Rattle.packing.specs.Arguments.{malformed_windows}
 use Rattle.packing.specs.Registers.{malformed_registers, unpacked}

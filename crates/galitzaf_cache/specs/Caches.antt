@@ -1,6 +1,6 @@
 -- What the calls with a cache answer, and what they leave in its numbers. The first line that applies decides.
 use Rattle.std.specs.Prelude.{ℕ, Bool, not, List, eqb, ltb, length, replicate}
-use Rattle.image.specs.Choice.{if◌then◌else◌}
+use Rattle.std.specs.Prelude.{if◌then◌else◌}
 use Rattle.places.specs.Layout.{words}
 use Rattle.cache.specs.Numbers.{cached_answer, cached_place, cached_state, state_without}
 use Rattle.packing.specs.Answer.{memory_bytes}

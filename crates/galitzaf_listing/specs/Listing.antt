@@ -1,6 +1,6 @@
 -- Document 02, Ask 4: the call that lists a source's spans, its status and both buffers.
 use Rattle.std.specs.Prelude.{ℕ, ◌+◌, ◌≤◌, List, length, replicate}
-use Rattle.image.specs.Choice.{if◌then◌else◌}
+use Rattle.std.specs.Prelude.{if◌then◌else◌}
 use Rattle.mapping.specs.Mapping.{Mapped, mapping_answer}
 use Rattle.mapping.specs.Rows.{rows_of, laid_over}
 use Rattle.mapping.specs.Told.{Told, refused, passed, faulted, listed, room, shown, told_of}

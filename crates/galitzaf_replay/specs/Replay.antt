@@ -1,6 +1,6 @@
 -- A replay's call: malformed registers and windows first.
 use Rattle.std.specs.Prelude.{ℕ, List}
-use Rattle.image.specs.Choice.{if◌then◌else◌}
+use Rattle.std.specs.Prelude.{if◌then◌else◌}
 use Rattle.packing.specs.Arguments.{malformed_windows}
 use Rattle.packing.specs.Registers.{malformed_registers, unpacked}
 use Rattle.packing.specs.Status.{bad_registers, bad_window_count}

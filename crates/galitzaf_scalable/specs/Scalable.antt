@@ -1,7 +1,7 @@
 -- A request in scalable mode, for C: the capabilities are bits of one number, and so is what the request is.
 use Rattle.std.specs.Prelude.{ℕ, ◌^◌, Bool, not, List, eqb, leb, ltb, length}
 use Rattle.image.specs.Bits.{bit}
-use Rattle.image.specs.Choice.{if◌then◌else◌}
+use Rattle.std.specs.Prelude.{if◌then◌else◌}
 use Rattle.pasid.specs.declared.ScalableRegisters.{ScalableRegisters}
 use Rattle.scalable.specs.Requests.{scalable_answer, scalable_answer_place, scalable_written}
 use Rattle.scalable.specs.declared.ScalableRequest.{ScalableRequest}

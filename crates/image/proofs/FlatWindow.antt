@@ -2,7 +2,7 @@
 use Rattle.std.proofs.Common.{◌≡◌, ℕ, zero, suc, ◌+◌, ◌-◌, ◌^◌, ◌≤◌, false, leb, List, [], ◌∷◌, length, sym, refl, ap, ◌∙◌, arith, le-leb}
 use native.Mathlib.Decide.{dec_le}
 use borrow.Author.Tests.{lt-leb}
-use Rattle.image.specs.Choice.{if◌then◌else◌}
+use Rattle.std.specs.Prelude.{if◌then◌else◌}
 use Rattle.image.specs.Memory.{missing, found, word_at, of_image}
 use Rattle.image.specs.Windows.{Window, windows_of, holds_all, nowhere, here, spot_in, on_spot, entry_in, of_windows, bad_with_any, bad_list, bad_windows, flat}
 use Rattle.image.proofs.GoodWindows.{holding, past-it, window-good}

@@ -2,7 +2,7 @@
 use Rattle.std.proofs.Common.{◌≡◌, ℕ, zero, suc, ◌+◌, ◌-◌, ◌*◌, ◌%◌, ◌≤◌, min, leb, List, [], ◌∷◌, length, take, drop, sym, refl, ap, ◌∙◌, add_assoc, suc-add, zero-add, arith, length-drop, drop_of_length-le, length-take, take_all, take-take, drop-drop, le-leb}
 use borrow.Author.Tests.{lt-leb}
 use Rattle.image.specs.Bytes.{little_endian}
-use Rattle.image.specs.Choice.{if◌then◌else◌}
+use Rattle.std.specs.Prelude.{if◌then◌else◌}
 use Rattle.image.specs.Memory.{Fetched, missing, found, word_at, of_image, entry}
 use native.Mathlib.Decide.{dec_le}
 use lib.Seq.{take-nil}

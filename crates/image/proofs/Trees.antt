@@ -1,6 +1,6 @@
 -- Laws that hold of every rules tree.
 use Rattle.std.proofs.Common.{◌≡◌, ℕ, Bool, true, false, List, [], ◌∷◌, ◌++◌, sym, refl, ap, ◌∙◌}
-use Rattle.image.specs.Choice.{if◌then◌else◌}
+use Rattle.std.specs.Prelude.{if◌then◌else◌}
 use Rattle.image.specs.EntryKind.{EntryKind, words_of}
 use Rattle.image.specs.Memory.{Memory, Fetched, missing, found, entry, on_fetch}
 use Rattle.image.specs.Rules.{Rules, answer, fetch, run, entries_of, map_rules}

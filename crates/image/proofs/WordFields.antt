@@ -3,7 +3,7 @@ use Rattle.std.proofs.Common.{◌≡◌, ℕ, zero, suc, ◌+◌, ◌*◌, ◌/�
 use borrow.Author.Tests.{eqb-false}
 use lib.Arith.{digits_lt}
 use Rattle.image.specs.Bits.{bits, in_one_word}
-use Rattle.image.specs.Choice.{if◌then◌else◌}
+use Rattle.std.specs.Prelude.{if◌then◌else◌}
 use Rattle.image.specs.Bytes.{spell}
 use Rattle.image.proofs.Bytes.{no_bits}
 use Rattle.image.proofs.Fields.{in-first, in_rest}

@@ -1,7 +1,7 @@
 -- Host memory as the rules see it: at each address a whole word of 8 bytes, or nothing.
 use Rattle.std.specs.Prelude.{ℕ, zero, suc, ◌+◌, ◌*◌, ◌^◌, List, ◌++◌, length, take, drop, nat_le}
 use Rattle.image.specs.Bytes.{little_endian, bytes_of}
-use Rattle.image.specs.Choice.{if◌then◌else◌}
+use Rattle.std.specs.Prelude.{if◌then◌else◌}
 
 -- what a fetch finds: nothing, or a number
 pub data Fetched : Type 0 where

@@ -1,7 +1,7 @@
 -- A request's rules: a tree whose forks are fetches and whose leaves are answers. One tree gives the answer, the named
 -- words and the entries that a request read, so no two of them can disagree.
 use Rattle.std.specs.Prelude.{◌≡◌, ℕ, zero, suc, ◌+◌, Bool, List, [], ◌∷◌, ◌++◌}
-use Rattle.image.specs.Choice.{if◌then◌else◌}
+use Rattle.std.specs.Prelude.{if◌then◌else◌}
 use Rattle.image.specs.EntryKind.{EntryKind, words_of}
 use Rattle.image.specs.Memory.{Memory, entry, on_fetch}
 

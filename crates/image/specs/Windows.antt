@@ -2,7 +2,7 @@
 -- window: the host address of its first byte, the place of that byte in the run, and its length.
 use Rattle.std.specs.Prelude.{ℕ, zero, suc, ◌+◌, ◌-◌, ◌%◌, ◌^◌, min, Bool, false, not, ◌&&◌, ◌||◌, List, [], ◌∷◌, length, get_or, take, drop, ◌==◌, nat_le, nat_lt}
 use Rattle.image.specs.Bytes.{little_endian}
-use Rattle.image.specs.Choice.{if◌then◌else◌}
+use Rattle.std.specs.Prelude.{if◌then◌else◌}
 use Rattle.image.specs.Memory.{Fetched, missing, found, Memory}
 
 -- the host address of its first byte, and its part of the run

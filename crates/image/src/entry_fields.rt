@@ -2,7 +2,7 @@
 // that the rules read lies in one word; one that doesn't is answered 0, or not set.
 ghost use Rattle.std.specs.Prelude.{◌≡◌, ◌%◌, false, slice_index};
 ghost use Rattle.image.specs.Bits.{bits, bit, any_set, in_one_word};
-ghost use Rattle.image.specs.Choice.{if◌then◌else◌};
+ghost use Rattle.std.specs.Prelude.{if◌then◌else◌};
 ghost use Rattle.image.specs.Answers.{words64, number16, number64};
 
 use crate::{Entry16, Entry64, field};

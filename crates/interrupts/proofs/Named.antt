@@ -5,7 +5,7 @@ use mathlib.Core.List.{List, [], ◌∷◌, ◌++◌}
 use mathlib.Core.Path.{◌≡◌, refl}
 use native.Mathlib.Omega.{arith}
 use Rattle.image.specs.Bits.{bit}
-use Rattle.image.specs.Choice.{if◌then◌else◌}
+use Rattle.std.specs.Prelude.{if◌then◌else◌}
 use Rattle.image.specs.EntryKind.{words_of}
 use Rattle.image.specs.Memory.{Memory, Fetched, missing, found, on_fetch, entry}
 use Rattle.image.specs.Rules.{Rules, answer, fetch, run, named, words_from}

@@ -5,7 +5,7 @@ use mathlib.Core.Path.{◌≡◌, refl, ap, sym, ◌∙◌}
 use native.Mathlib.Omega.{arith}
 use Rattle.image.specs.Bits.{bits}
 use Rattle.image.specs.Check.{go}
-use Rattle.image.specs.Choice.{if◌then◌else◌}
+use Rattle.std.specs.Prelude.{if◌then◌else◌}
 use Rattle.image.specs.Windows.{of_windows}
 use Rattle.image.proofs.Choices.{past, same-go}
 use Rattle.interrupts.specs.Claims.{bit_at, due, indexed_entry, NotificationExactly}

@@ -13,7 +13,7 @@ use lib.Dec.{eqb}
 use lib.Pow.{pow-lt, pow-add}
 use types.Run.{OneOf}
 use Rattle.image.specs.Bits.{bits, bit}
-use Rattle.image.specs.Choice.{if◌then◌else◌}
+use Rattle.std.specs.Prelude.{if◌then◌else◌}
 use Rattle.interrupts.specs.Answers.{outcome_of}
 use Rattle.interrupts.specs.Post.{with_bit, interrupt_written}
 use Rattle.interrupts.specs.declared.answer.InterruptAnswer.{InterruptAnswer}

@@ -9,7 +9,7 @@ use lib.Dec.{leb}
 use lib.ListN.{length}
 use Rattle.image.specs.Bits.{bits, bit}
 use Rattle.image.specs.Check.{Check, stop, go, on_check}
-use Rattle.image.specs.Choice.{if◌then◌else◌}
+use Rattle.std.specs.Prelude.{if◌then◌else◌}
 use Rattle.image.specs.EntryKind.{remapping_entry, posted_descriptor}
 use Rattle.image.specs.Memory.{Memory, found, entry}
 use Rattle.image.specs.Rules.{answer, run}

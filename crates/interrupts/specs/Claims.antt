@@ -3,7 +3,7 @@
 -- in proofs/: Exact, Notifications, Named, Isolation, Unfetched.
 use Rattle.std.specs.Prelude.{ℕ, ◌+◌, ◌*◌, ◌/◌, ◌%◌, ◌≤◌, ◌<◌, Bool, true, false, not, ◌&&◌, ◌||◌, List, [], ◌∷◌, ◌≡◌, eqb, length, get_or}
 use Rattle.image.specs.Bits.{bits, bit}
-use Rattle.image.specs.Choice.{if◌then◌else◌}
+use Rattle.std.specs.Prelude.{if◌then◌else◌}
 use Rattle.image.specs.Memory.{Memory}
 use Rattle.image.specs.Rules.{run, named, SameIn}
 use Rattle.image.specs.Unfetched.{EndsUnfetched}

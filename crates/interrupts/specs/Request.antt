@@ -2,7 +2,7 @@
 use Rattle.std.specs.Prelude.{ℕ, ◌+◌, ◌*◌, ◌^◌, not, ◌||◌}
 use Rattle.image.specs.Bits.{bits, bit, any_set}
 use Rattle.image.specs.Check.{Check, stop, go}
-use Rattle.image.specs.Choice.{if◌then◌else◌}
+use Rattle.std.specs.Prelude.{if◌then◌else◌}
 use Rattle.registers.specs.declared.Registers.{Registers}
 
 -- bits 19:5, with bit 2 as bit 15

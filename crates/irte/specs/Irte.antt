@@ -3,7 +3,7 @@
 use Rattle.std.specs.Prelude.{ℕ, ◌+◌, ◌*◌, ◌^◌, Bool, not, ◌&&◌, ◌||◌, eqb}
 use Rattle.image.specs.Bits.{bits, bit, any_set}
 use Rattle.image.specs.Check.{Check, stop, go, on_check}
-use Rattle.image.specs.Choice.{if◌then◌else◌}
+use Rattle.std.specs.Prelude.{if◌then◌else◌}
 use Rattle.registers.specs.declared.Registers.{Registers}
 use Rattle.irte.specs.Source.{source_allowed}
 

@@ -1,7 +1,7 @@
 -- Document 01, "Source check": SVT is 83:82 of the remapping entry, SQ 81:80, SID 79:64.
 use Rattle.std.specs.Prelude.{ℕ, Bool, true, ◌&&◌, eqb, leb}
 use Rattle.image.specs.Bits.{bits}
-use Rattle.image.specs.Choice.{if◌then◌else◌}
+use Rattle.std.specs.Prelude.{if◌then◌else◌}
 use Rattle.registers.specs.Source.{bus_of}
 
 -- SQ 0 compares all bits, 1 ignores bit 2, 2 ignores bits 2:1, 3 ignores bits 2:0

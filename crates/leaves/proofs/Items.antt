@@ -8,7 +8,7 @@ use borrow.Author.Tests.{eqb-true, eqb-false, ne_eqb, leb-true, leb-false, ltb-t
 use lib.Dec.{eqb, leb, ltb}
 use lib.Pow.{pow_mono}
 use Rattle.image.specs.Bits.{bits}
-use Rattle.image.specs.Choice.{if◌then◌else◌}
+use Rattle.std.specs.Prelude.{if◌then◌else◌}
 use Rattle.image.proofs.Choices.{both, neither}
 use Rattle.image.proofs.Fields.{fits}
 use Rattle.registers.specs.declared.Registers.{Registers}

@@ -6,7 +6,7 @@ use native.Mathlib.Omega.{arith}
 use borrow.Author.Tests.{ltb-false}
 use lib.Dec.{ltb}
 use lib.ListN.{get_or, set}
-use Rattle.image.specs.Choice.{if◌then◌else◌}
+use Rattle.std.specs.Prelude.{if◌then◌else◌}
 use Rattle.image.specs.Memory.{with_word}
 use Rattle.tables.specs.Mapped.{new_table, with_leaf, mapped}
 use Rattle.tables.specs.Pages.{lowest, free_pages}

@@ -7,7 +7,7 @@ use native.Mathlib.Omega.{arith}
 use borrow.Author.Tests.{eqb-true, ne_eqb}
 use lib.Dec.{eqb}
 use lib.ListN.{length, get_or, set}
-use Rattle.image.specs.Choice.{if◌then◌else◌}
+use Rattle.std.specs.Prelude.{if◌then◌else◌}
 use Rattle.tables.specs.Pages.{lowest, free_pages}
 
 pub lowest-free : (marks : List ℕ) → 0 < free_pages marks → (lowest marks < length marks) × (get_or marks (lowest marks) 0 ≡ 0)

@@ -7,7 +7,7 @@ use native.Mathlib.Omega.{arith}
 use borrow.Author.Tests.{eqb-true}
 use lib.Dec.{eqb}
 use lib.ListN.{get_or}
-use Rattle.image.specs.Choice.{if◌then◌else◌}
+use Rattle.std.specs.Prelude.{if◌then◌else◌}
 use Rattle.image.specs.Memory.{with_word}
 use Rattle.image.proofs.Choices.{both}
 use Rattle.tables.specs.Tables.{Tables, tables, held_entry, present, maps_page, empty_table}

@@ -1,6 +1,6 @@
 -- Document 02, ask 8: the page that tables map at an address, and what a list of pages to map and unmap leaves of it.
 use Rattle.std.specs.Prelude.{ℕ, zero, suc, ◌+◌, Bool, ◌&&◌, List, leb, ltb}
-use Rattle.image.specs.Choice.{if◌then◌else◌}
+use Rattle.std.specs.Prelude.{if◌then◌else◌}
 use Rattle.image.specs.Place.{Place, no_entry, entry_at}
 use Rattle.tables.specs.Tables.{present}
 use Rattle.tables.specs.Way.{way}

@@ -1,6 +1,6 @@
 -- Document 02, Ask 4: what is mapped for a source.
 use Rattle.std.specs.Prelude.{ℕ, ◌+◌, ◌*◌, ◌^◌, min, Bool, false, List, eqb}
-use Rattle.image.specs.Choice.{if◌then◌else◌}
+use Rattle.std.specs.Prelude.{if◌then◌else◌}
 use Rattle.image.specs.Memory.{Memory}
 use Rattle.image.specs.Rules.{Rules, answer, run}
 use Rattle.image.specs.Windows.{of_windows, over_windows}

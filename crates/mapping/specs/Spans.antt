@@ -1,6 +1,6 @@
 -- The listing of an address space, over any account of what stands at its addresses.
 use Rattle.std.specs.Prelude.{ℕ, zero, suc, ◌+◌, ◌-◌, ◌/◌, ◌%◌, min, Bool, ◌&&◌, List, [], ◌∷◌, ◌++◌, eqb}
-use Rattle.image.specs.Choice.{if◌then◌else◌}
+use Rattle.std.specs.Prelude.{if◌then◌else◌}
 use Rattle.dma.specs.InterruptRange.{span_at}
 use Rattle.translation.specs.declared.Rights.{Rights}
 use Rattle.regions.specs.Region.{What, Region, is_listed}

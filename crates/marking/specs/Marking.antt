@@ -3,7 +3,7 @@
 -- entry that leads to a table leads, with both rights, to a page of the region that is no table yet, and of which none but the top one
 -- is empty. The marks stand as they are where the first is found that isn't good.
 use Rattle.std.specs.Prelude.{ℕ, zero, suc, ◌+◌, ◌*◌, ◌/◌, Bool, true, false, not, ◌&&◌, ◌||◌, List, eqb, length, get_or, set, replicate}
-use Rattle.image.specs.Choice.{if◌then◌else◌}
+use Rattle.std.specs.Prelude.{if◌then◌else◌}
 use Rattle.tables.specs.Tables.{held_entry, present, maps_page, table_entry, table_of, empty_table}
 use Rattle.tables.specs.declared.Tree.{Tree}
 

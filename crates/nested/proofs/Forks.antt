@@ -8,7 +8,7 @@ use native.Mathlib.Nat.{suc-mul}
 use native.Mathlib.Omega.{arith}
 use borrow.Author.Tests.{eqb-true}
 use lib.Dec.{eqb}
-use Rattle.image.specs.Choice.{if◌then◌else◌}
+use Rattle.std.specs.Prelude.{if◌then◌else◌}
 use Rattle.image.specs.EntryKind.{EntryKind, words_of, first_level_entry}
 use Rattle.image.specs.Rules.{Rules, answer, fetch, map_rules}
 use Rattle.image.proofs.Forks.{Every, every-answer, every-fetch, every_more, every-outside, every_map}

@@ -1,7 +1,7 @@
 -- First-level and nested translation (document 003, 3.6 and 3.8). Both walk the first level's tables. In a nested translation the addresses of
 -- its entries, and that of its page, are intermediate ones, which the second level translates.
 use Rattle.std.specs.Prelude.{ℕ, ◌%◌, ◌^◌, ◌<◌, ◌≤◌, Bool, true, false, not, List, [], ◌++◌, map, ◌≡◌, eqb}
-use Rattle.image.specs.Choice.{if◌then◌else◌}
+use Rattle.std.specs.Prelude.{if◌then◌else◌}
 use Rattle.image.specs.EntryKind.{first_level_entry}
 use Rattle.image.specs.Rules.{Rules, answer, map_rules}
 use Rattle.dma.specs.Page.{host_address}

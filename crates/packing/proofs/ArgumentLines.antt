@@ -7,7 +7,7 @@ use native.Mathlib.Omega.{arith}
 use borrow.Author.Tests.{eqb-true}
 use lib.Dec.{eqb}
 use lib.ListN.{length}
-use Rattle.image.specs.Choice.{if◌then◌else◌}
+use Rattle.std.specs.Prelude.{if◌then◌else◌}
 use Rattle.packing.specs.Arguments.{malformed_windows, on_arguments, argument_status}
 use Rattle.packing.specs.Registers.{malformed_registers}
 use Rattle.packing.specs.Status.{ok, bad_registers, bad_window_count, bad_answer}

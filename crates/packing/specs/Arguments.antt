@@ -1,6 +1,6 @@
 -- The arguments that calls have in common.
 use Rattle.std.specs.Prelude.{ℕ, ◌%◌, Bool, not, List, eqb, length}
-use Rattle.image.specs.Choice.{if◌then◌else◌}
+use Rattle.std.specs.Prelude.{if◌then◌else◌}
 use Rattle.dma.specs.declared.MemoryRequest.{MemoryRequest}
 use Rattle.packing.specs.Registers.{malformed_registers}
 use Rattle.packing.specs.Status.{ok, bad_registers, bad_window_count, bad_answer}

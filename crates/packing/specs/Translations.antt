@@ -1,6 +1,7 @@
 -- Document 02, Ask 1: the 32 bytes of a translation request's answer, and its call.
 use Rattle.std.specs.Prelude.{ℕ, List, [], ◌∷◌, eqb, length}
-use Rattle.image.specs.Choice.{if◌then◌else◌, one-if}
+use Rattle.std.specs.Prelude.{if◌then◌else◌}
+use Rattle.image.specs.Choice.{one-if}
 use Rattle.image.specs.Bytes.{spell}
 use Rattle.image.specs.Place.{Place}
 use Rattle.translation.specs.Requests.{TranslationOutcome, passed, translated, blocked, refused, translation_answer, translation_answer_place}

@@ -2,7 +2,7 @@
 use Rattle.std.specs.Prelude.{ℕ, Bool, not, ◌||◌}
 use Rattle.image.specs.Bits.{bit, any_set, in_place}
 use Rattle.image.specs.Check.{Check, stop, go}
-use Rattle.image.specs.Choice.{if◌then◌else◌}
+use Rattle.std.specs.Prelude.{if◌then◌else◌}
 use Rattle.pasid.specs.declared.directory.PasidTable.{PasidTable}
 
 unfoldable pub directory_reserved : (haw e : ℕ) → Bool

@@ -1,7 +1,7 @@
 -- A fault's answer in scalable mode. Its record is that of legacy mode with the PASID fields.
 use Rattle.std.specs.Prelude.{ℕ, ◌+◌, ◌*◌, ◌^◌, Bool, not, ◌&&◌, ◌||◌}
 use Rattle.image.specs.Bits.{bits}
-use Rattle.image.specs.Choice.{if◌then◌else◌}
+use Rattle.std.specs.Prelude.{if◌then◌else◌}
 use Rattle.faults.specs.Record.{within, memory_record, FaultAnswer}
 use Rattle.pasid.specs.declared.Pasid.{Pasid}
 

@@ -3,7 +3,7 @@
 use Rattle.std.specs.Prelude.{ℕ, Bool, true, false, not, ◌&&◌, ◌||◌}
 use Rattle.image.specs.Bits.{bits, bit, any_set, in_place}
 use Rattle.image.specs.Check.{Check, stop, go}
-use Rattle.image.specs.Choice.{if◌then◌else◌}
+use Rattle.std.specs.Prelude.{if◌then◌else◌}
 
 abbrev pub half : (upper : Bool) (e : ℕ) → ℕ
 half upper e = if upper then bits e 127 64 else bits e 63 0

@@ -6,7 +6,7 @@ use native.Mathlib.Omega.{arith}
 use native.Mathlib.Decide.{dec_lt, dec_le, ℕ_discrete}
 use borrow.Author.Tests.{eq-eqb, ne_eqb}
 use lib.Dec.{eqb}
-use Rattle.image.specs.Choice.{if◌then◌else◌}
+use Rattle.std.specs.Prelude.{if◌then◌else◌}
 use Rattle.places.specs.Layout.{head_of, flag_in, key_in, link_in, bucket_in, place_of_age, age_of, bucket_of, key_level}
 use Rattle.places.specs.Chain.{chained, first_age, age_of_key}
 use Rattle.places.proofs.Chains.{age-lt, no_place, not-older, has_key, goes_on}

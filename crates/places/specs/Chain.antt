@@ -1,6 +1,6 @@
 -- Looking a key up: along the links of its bucket, from its newest place to older ones.
 use Rattle.std.specs.Prelude.{ℕ, zero, suc, ◌+◌, ◌&&◌, List, eqb, ltb, leb}
-use Rattle.image.specs.Choice.{if◌then◌else◌}
+use Rattle.std.specs.Prelude.{if◌then◌else◌}
 use Rattle.places.specs.Layout.{key_in, link_in, bucket_in, age_of, bucket_of, key_level, flag_in}
 
 -- the age of the first place with the key, or 64: a link that is no place, or that leads to a place not older, ends the chain

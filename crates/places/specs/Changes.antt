@@ -1,6 +1,6 @@
 -- What is changed in the state: one more is held, a place is made free, those of a domain are taken out.
 use Rattle.std.specs.Prelude.{ℕ, zero, suc, ◌+◌, ◌%◌, ◌||◌, List, eqb, set}
-use Rattle.image.specs.Choice.{if◌then◌else◌}
+use Rattle.std.specs.Prelude.{if◌then◌else◌}
 use Rattle.places.specs.Layout.{head_of, key_in, frame_in, domain_in, bucket_in, bucket_of, key_level}
 
 -- the place before the newest: free, or the oldest one's where 64 are held

@@ -9,7 +9,7 @@ use borrow.Author.Tests.{ltb-false, le-ltb, eq-eqb}
 use lib.Dec.{eqb, ltb}
 use lib.ListN.{length, take, length-take}
 use lib.Seq.{take_all}
-use Rattle.image.specs.Choice.{if◌then◌else◌}
+use Rattle.std.specs.Prelude.{if◌then◌else◌}
 use Rattle.image.specs.Windows.{Window, windows_of, bad_window, bad_pair, bad_with_any, bad_list, bad_numbers, bad_windows}
 use Rattle.image.proofs.Choices.{neither, nor}
 use Rattle.registers.specs.Registers.{outside, bad_table, registers_bad}

@@ -1,6 +1,6 @@
 -- Which register or window refusal 1 is for, by number: the first in the order of docs/RULES.md's list, registers before windows.
 use Rattle.std.specs.Prelude.{ℕ, not, ◌||◌, List, ◌≡◌, eqb, take}
-use Rattle.image.specs.Choice.{if◌then◌else◌}
+use Rattle.std.specs.Prelude.{if◌then◌else◌}
 use Rattle.image.specs.Windows.{bad_windows}
 use Rattle.registers.specs.Registers.{outside, bad_table, registers_bad}
 use Rattle.registers.specs.declared.Registers.{Registers}

@@ -1,7 +1,7 @@
 -- Document 02, ask 8: a region shares no byte with root, context or interrupt tables or posted descriptors, those of present entries.
 use Rattle.std.specs.Prelude.{ℕ, zero, suc, ◌+◌, ◌*◌, ◌^◌, Bool, true, false, not, ◌&&◌, ◌||◌, eqb}
 use Rattle.image.specs.Bits.{bit, in_place}
-use Rattle.image.specs.Choice.{if◌then◌else◌}
+use Rattle.std.specs.Prelude.{if◌then◌else◌}
 use Rattle.image.specs.Memory.{Memory, entry, on_fetch}
 use Rattle.image.specs.Windows.{overlap}
 use Rattle.irte.specs.Irte.{descriptor_address}

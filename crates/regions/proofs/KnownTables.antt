@@ -10,7 +10,7 @@ use native.Mathlib.Omega.{arith}
 use lib.ListN.{length, get_or, set, length-set, get_or-replicate, length-replicate, replicate}
 use lib.Pow.{split, high, low, pow_pos, pow-lt}
 use lib.Seq.{get_or-set_same, get_or-set_other}
-use Rattle.image.specs.Choice.{if◌then◌else◌}
+use Rattle.std.specs.Prelude.{if◌then◌else◌}
 use Rattle.image.specs.Memory.{Memory}
 use Rattle.registers.specs.declared.Registers.{Registers}
 use Rattle.dma.specs.Walk.{down}

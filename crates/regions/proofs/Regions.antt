@@ -6,7 +6,7 @@ use mathlib.Core.Path.{◌≡◌, refl, ap, sym, ◌∙◌, subst}
 use native.Mathlib.Omega.{arith}
 use lib.Dec.{lit≤}
 use lib.Pow.{field, mod-mod-pow}
-use Rattle.image.specs.Choice.{if◌then◌else◌}
+use Rattle.std.specs.Prelude.{if◌then◌else◌}
 use Rattle.image.specs.Bits.{in_place}
 use Rattle.image.proofs.Fields.{in-place-lt}
 use Rattle.image.specs.Memory.{Memory, Fetched, missing, found, entry, on_fetch}

@@ -7,7 +7,7 @@ use native.Mathlib.Decide.{dec_le}
 use native.Mathlib.Omega.{arith}
 use borrow.Author.Tests.{le-leb, lt-leb, lt-ltb, le-ltb}
 use lib.Dec.{leb, ltb}
-use Rattle.image.specs.Choice.{if◌then◌else◌}
+use Rattle.std.specs.Prelude.{if◌then◌else◌}
 use Rattle.image.specs.Windows.{Window, windows_of, end_of, holds_all, Spot, nowhere, here, spot_in, overlap, bad_windows}
 use Rattle.image.proofs.GoodWindows.{GoodWindow, Good, good}
 use Rattle.regions.specs.Outside.{touched_by_any, table_outside}

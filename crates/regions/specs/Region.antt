@@ -1,7 +1,7 @@
 -- What stands at an address of a source's pages: one walk for this address, that of a translation request, tells the entry at which it
 -- ends, its span, and the rights joined down to it.
 use Rattle.std.specs.Prelude.{ℕ, zero, suc, Bool, true, false}
-use Rattle.image.specs.Choice.{if◌then◌else◌}
+use Rattle.std.specs.Prelude.{if◌then◌else◌}
 use Rattle.image.specs.Memory.{Memory}
 use Rattle.registers.specs.declared.Registers.{Registers}
 use Rattle.dma.specs.InterruptRange.{meets_interrupt_range, span_at}

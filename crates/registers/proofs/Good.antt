@@ -8,7 +8,7 @@ use borrow.Author.Tests.{ltb-false, leb-false, eqb-true, not-false}
 use lib.Dec.{leb, ltb, eqb}
 use lib.Pow.{pow_mono}
 use Rattle.registers.specs.declared.Registers.{Registers}
-use Rattle.image.specs.Choice.{if◌then◌else◌}
+use Rattle.std.specs.Prelude.{if◌then◌else◌}
 use Rattle.image.proofs.Choices.{neither}
 use Rattle.registers.specs.Admission.{refusal, pass, taken_up, admission}
 use Rattle.registers.specs.Registers.{outside, bad_table, registers_bad}

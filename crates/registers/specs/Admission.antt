@@ -1,6 +1,6 @@
 -- Document 01, refusals: 1 and 2 in their order, then the switch. One definition for every kind of request.
 use Rattle.std.specs.Prelude.{ℕ, Bool, ◌&&◌, leb}
-use Rattle.image.specs.Choice.{if◌then◌else◌}
+use Rattle.std.specs.Prelude.{if◌then◌else◌}
 use Rattle.image.specs.Rules.{Rules, answer}
 use Rattle.registers.specs.Registers.{registers_bad}
 use Rattle.registers.specs.declared.Registers.{Registers}

@@ -7,7 +7,7 @@ use borrow.Author.Tests.{eqb-true}
 use lib.Dec.{eqb, leb}
 use lib.ListN.{length, take, drop}
 use lib.Seq.{get_or-drop}
-use Rattle.image.specs.Choice.{if◌then◌else◌}
+use Rattle.std.specs.Prelude.{if◌then◌else◌}
 use Rattle.image.proofs.Bytes.{AreBytes, bytes-taken}
 use Rattle.image.proofs.Choices.{either, chosen}
 use Rattle.registers.specs.declared.Registers.{Registers}

@@ -1,6 +1,6 @@
 -- A traced request asked again, under given registers and over given memory.
 use Rattle.std.specs.Prelude.{ℕ, Bool, ◌&&◌, List, eqb}
-use Rattle.image.specs.Choice.{if◌then◌else◌}
+use Rattle.std.specs.Prelude.{if◌then◌else◌}
 use Rattle.registers.specs.declared.Registers.{Registers}
 use Rattle.interrupts.specs.Interrupts.{interrupt_answer}
 use Rattle.interrupts.specs.Post.{interrupt_written}

@@ -1,7 +1,7 @@
 -- Document 02, Ask 12: a trace replayed. The entries of undamaged blocks are run in order over one image, each post made before the next
 -- request, whether or not its answer differs; those whose answer differs are named by block and place, damaged blocks by their place.
 use Rattle.std.specs.Prelude.{ℕ, zero, suc, ◌*◌, ◌<◌, List, [], ◌∷◌, ◌++◌, ◌≡◌, get_or}
-use Rattle.image.specs.Choice.{if◌then◌else◌}
+use Rattle.std.specs.Prelude.{if◌then◌else◌}
 use Rattle.registers.specs.declared.Registers.{Registers}
 use Rattle.traced.specs.Entry.{traced_in}
 use Rattle.traced.specs.declared.Traced.{Traced}

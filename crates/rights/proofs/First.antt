@@ -4,7 +4,7 @@ use mathlib.Core.Bool.{Bool, true, false, not, ◌&&◌, ◌||◌}
 use mathlib.Core.Path.{◌≡◌, refl, ap, sym, ◌∙◌}
 use native.Mathlib.Omega.{arith}
 use Rattle.image.specs.Bits.{bits, bit, in_place}
-use Rattle.image.specs.Choice.{if◌then◌else◌}
+use Rattle.std.specs.Prelude.{if◌then◌else◌}
 use Rattle.dma.specs.Page.{leaf_at}
 use Rattle.dma.proofs.Raised.{Raised, same-field, same-leaf}
 use Rattle.pasid.specs.declared.ScalableRegisters.{ScalableRegisters}

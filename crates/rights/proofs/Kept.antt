@@ -6,7 +6,7 @@ use mathlib.Core.List.Memᴰ
 use mathlib.Core.List.{List, [], Memᴰ}
 use mathlib.Core.Path.{◌≡◌, refl, ap, sym, ◌∙◌}
 use native.Mathlib.Omega.{arith}
-use Rattle.image.specs.Choice.{if◌then◌else◌}
+use Rattle.std.specs.Prelude.{if◌then◌else◌}
 use Rattle.image.specs.EntryKind.{EntryKind, root_entry, context_entry, page_entry, remapping_entry, posted_descriptor, scalable_context_entry, pasid_directory_entry, pasid_table_entry, first_level_entry, words_of}
 use Rattle.image.specs.Memory.{Memory, Fetched, missing, found, join, entry, on_fetch}
 use Rattle.image.specs.Rules.{Rules, answer, fetch, run, map_rules, words_from}

@@ -8,7 +8,7 @@ use native.Mathlib.Nat.{div-one}
 use lib.Dec.{eqb}
 use lib.Pow.{mod-mod-pow}
 use Rattle.image.specs.Bits.{bits}
-use Rattle.image.specs.Choice.{if◌then◌else◌}
+use Rattle.std.specs.Prelude.{if◌then◌else◌}
 use Rattle.image.specs.EntryKind.{first_level_entry}
 use Rattle.image.specs.Rules.{Rules, answer, map_rules}
 use Rattle.dma.specs.Page.{host_address}

@@ -1,6 +1,6 @@
 -- Which entries the claims on rights speak of, over any rules tree.
 use Rattle.std.specs.Prelude.{ℕ, ◌+◌, ◌≤◌, ◌<◌, Bool, true, false, List, [], ◌++◌}
-use Rattle.image.specs.Choice.{if◌then◌else◌}
+use Rattle.std.specs.Prelude.{if◌then◌else◌}
 use Rattle.image.specs.EntryKind.{EntryKind, root_entry, context_entry, page_entry, remapping_entry, posted_descriptor, scalable_context_entry, pasid_directory_entry, pasid_table_entry, first_level_entry, words_of}
 use Rattle.image.specs.Memory.{Memory, entry, on_fetch}
 use Rattle.image.specs.Rules.{Rules, answer, fetch, words_from}

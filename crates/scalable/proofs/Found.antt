@@ -7,7 +7,7 @@ use borrow.Author.Tests.{eqb-true}
 use lib.Dec.{eqb}
 use Rattle.image.specs.Bits.{bits, bit, any_set}
 use Rattle.image.specs.Check.{go}
-use Rattle.image.specs.Choice.{if◌then◌else◌}
+use Rattle.std.specs.Prelude.{if◌then◌else◌}
 use Rattle.image.specs.Memory.{Memory}
 use Rattle.image.specs.Place.{Place, last_tried}
 use Rattle.image.specs.Rules.{run}

@@ -9,7 +9,7 @@ use lib.Pow.{pow_mono, pow_pos}
 use borrow.Author.Tests.{leb-false}
 use Rattle.image.specs.Bits.{bits, bit, any_set, in_place}
 use Rattle.image.specs.Check.{go}
-use Rattle.image.specs.Choice.{if◌then◌else◌}
+use Rattle.std.specs.Prelude.{if◌then◌else◌}
 use Rattle.image.proofs.Choices.{past, neither, same-go}
 use Rattle.image.proofs.Fields.{fits, above-digit}
 use Rattle.dma.proofs.Address.{above}

@@ -10,7 +10,7 @@ use native.Mathlib.Omega.{arith}
 use borrow.Author.Tests.{eqb-true, leb-true}
 use lib.Dec.{eqb, leb, lit≤}
 use Rattle.image.specs.Bits.{bits}
-use Rattle.image.specs.Choice.{if◌then◌else◌}
+use Rattle.std.specs.Prelude.{if◌then◌else◌}
 use Rattle.image.specs.Memory.{Fetched, missing, found, entry}
 use Rattle.image.specs.Rules.{run, map_rules, entries_of, words_from}
 use Rattle.registers.specs.Admission.{admission}

@@ -2,7 +2,7 @@
 -- page tables, with the flags A (bit 8) and D (bit 9) where SLADE is set.
 use Rattle.std.specs.Prelude.{ℕ, ◌%◌, ◌^◌, ◌<◌, ◌≤◌, Bool, true, false, not, ◌&&◌, ◌||◌, List, [], ◌∷◌, ◌++◌, ◌≡◌}
 use Rattle.image.specs.Bits.{bit, in_place}
-use Rattle.image.specs.Choice.{if◌then◌else◌}
+use Rattle.std.specs.Prelude.{if◌then◌else◌}
 use Rattle.image.specs.Memory.{Memory}
 use Rattle.image.specs.Rules.{Rules}
 use Rattle.dma.specs.Page.{leaf_at, page_reserved}

@@ -1,6 +1,6 @@
 -- Document 02, ask 8: a page is mapped. Missing tables are made from the top down, each in the lowest free page.
 use Rattle.std.specs.Prelude.{ℕ, zero, suc, ◌+◌, ◌-◌, ◌*◌, ltb, set}
-use Rattle.image.specs.Choice.{if◌then◌else◌}
+use Rattle.std.specs.Prelude.{if◌then◌else◌}
 use Rattle.image.specs.Memory.{with_word}
 use Rattle.dma.specs.Walk.{place_in}
 use Rattle.tables.specs.Pages.{lowest, free_pages}

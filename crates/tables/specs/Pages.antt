@@ -1,6 +1,6 @@
 -- The pages of the region by their marks: 0 for a free page, else the level of the table that it is.
 use Rattle.std.specs.Prelude.{ℕ, suc, ◌+◌, List, [], ◌∷◌, eqb}
-use Rattle.image.specs.Choice.{if◌then◌else◌}
+use Rattle.std.specs.Prelude.{if◌then◌else◌}
 
 -- the lowest free page; where there is none, as many as there are
 unfoldable pub lowest : (marks : List ℕ) → ℕ

@@ -1,6 +1,6 @@
 -- Document 02, ask 8: a page is unmapped, and the pages of emptied tables, the top one apart, are free.
 use Rattle.std.specs.Prelude.{ℕ, zero, suc, ◌-◌, ◌/◌, Bool, ◌&&◌, eqb, set}
-use Rattle.image.specs.Choice.{if◌then◌else◌}
+use Rattle.std.specs.Prelude.{if◌then◌else◌}
 use Rattle.image.specs.Memory.{with_word}
 use Rattle.tables.specs.Tables.{Tables, tables, present, maps_page, empty_table}
 use Rattle.tables.specs.Way.{way}

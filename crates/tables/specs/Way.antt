@@ -1,7 +1,7 @@
 -- The way to a place: from the top table down, to an entry that isn't present or maps a page, or to a level asked for. Levels are counted
 -- by how many come below them: 0 is the last.
 use Rattle.std.specs.Prelude.{ℕ, zero, suc, Bool, not, ◌||◌, List, eqb}
-use Rattle.image.specs.Choice.{if◌then◌else◌}
+use Rattle.std.specs.Prelude.{if◌then◌else◌}
 use Rattle.dma.specs.Walk.{place_in}
 use Rattle.tables.specs.Tables.{held_entry, present, maps_page, table_of}
 use Rattle.tables.specs.declared.way.Stop.{Stop}

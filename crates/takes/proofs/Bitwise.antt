@@ -12,7 +12,7 @@ use lib.ListN.{get_or}
 use lib.Arith.{digits_div}
 use lib.Pow.{pow-lt, mod-pow-add, shr-shr}
 use Rattle.image.specs.Bits.{bits, bit}
-use Rattle.image.specs.Choice.{if◌then◌else◌}
+use Rattle.std.specs.Prelude.{if◌then◌else◌}
 use Rattle.image.specs.Bytes.{spell}
 use Rattle.image.proofs.Fields.{past_top, to-top}
 use Rattle.image.proofs.Stores.{Words}

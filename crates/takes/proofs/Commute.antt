@@ -10,7 +10,8 @@ use lib.Dec.{eqb}
 use lib.ListN.{length, get_or, set}
 use lib.Seq.{get_or-set_same, get_or-set_other, set_out, set-set, set_comm}
 use Rattle.image.specs.Bits.{bit}
-use Rattle.image.specs.Choice.{if◌then◌else◌, one-if}
+use Rattle.std.specs.Prelude.{if◌then◌else◌}
+use Rattle.image.specs.Choice.{one-if}
 use Rattle.interrupts.specs.Claims.{due}
 use Rattle.interrupts.specs.Descriptor.{Notification, silent, notification}
 use Rattle.interrupts.specs.Post.{with_bit, set_bit, notified}

@@ -10,7 +10,7 @@ use denote.Enum.Declared.{tag_of}
 use types.Run.{OneOf}
 use lib.ListN.{length}
 use Rattle.image.specs.Bits.{bit}
-use Rattle.image.specs.Choice.{if◌then◌else◌}
+use Rattle.std.specs.Prelude.{if◌then◌else◌}
 use Rattle.image.specs.Memory.{missing, found, entry}
 use Rattle.image.specs.Rules.{run}
 use Rattle.image.specs.Windows.{windows_of, here, on_spot, spot_in, of_windows, bad_windows}

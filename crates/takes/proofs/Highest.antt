@@ -7,7 +7,7 @@ use mathlib.Core.Path.{◌≡◌, refl, ap, sym, ◌∙◌}
 use native.Mathlib.Decide.{dec_le}
 use native.Mathlib.Nat.{zero-add, add-zero, add-suc, zero-div, zero-mod}
 use native.Mathlib.Omega.{arith}
-use Rattle.image.specs.Choice.{if◌then◌else◌}
+use Rattle.std.specs.Prelude.{if◌then◌else◌}
 use Rattle.image.specs.Bits.{bits, bit}
 use Rattle.image.specs.Bytes.{spell}
 use Rattle.image.specs.declared.Entry64.{Entry64}

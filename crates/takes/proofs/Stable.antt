@@ -7,7 +7,7 @@ use native.Mathlib.Omega.{arith}
 use lib.Dec.{eqb, leb}
 use Rattle.image.specs.Bits.{bit, any_set}
 use Rattle.image.specs.Check.{stop, go, on_check}
-use Rattle.image.specs.Choice.{if◌then◌else◌}
+use Rattle.std.specs.Prelude.{if◌then◌else◌}
 use Rattle.image.specs.EntryKind.{remapping_entry, posted_descriptor}
 use Rattle.image.specs.Memory.{Memory, Fetched, missing, found, on_fetch, entry}
 use Rattle.image.specs.Rules.{Rules, answer, run}

@@ -14,7 +14,7 @@ use lib.Arith.{digits_div}
 use lib.Pow.{pow-lt, pow_pos, split}
 use lib.Seq.{get_or-set_same, get_or-set_other, set_out}
 use Rattle.image.specs.Bits.{bits, bit}
-use Rattle.image.specs.Choice.{if◌then◌else◌}
+use Rattle.std.specs.Prelude.{if◌then◌else◌}
 use Rattle.image.proofs.Bytes.{AreBytes}
 use Rattle.image.specs.Windows.{windows_of, Spot, nowhere, here, on_spot, spot_in, bad_windows}
 use Rattle.interrupts.specs.Claims.{bit_at}

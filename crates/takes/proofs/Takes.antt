@@ -8,7 +8,7 @@ use borrow.Author.Tests.{ne_eqb, eqb-true, not-false}
 use lib.Dec.{eqb}
 use lib.ListN.{length, get_or}
 use Rattle.image.specs.Bits.{bit}
-use Rattle.image.specs.Choice.{if◌then◌else◌}
+use Rattle.std.specs.Prelude.{if◌then◌else◌}
 use Rattle.image.specs.Memory.{Memory, Fetched, missing, found, on_fetch, entry}
 use Rattle.image.specs.Rules.{answer, run}
 use Rattle.image.specs.Windows.{windows_of, Spot, nowhere, here, on_spot, spot_in, of_windows, bad_windows}

@@ -1,7 +1,7 @@
 -- Document 02, Ask 13, the taking side of posted interrupts: what a take answers, and what it leaves in the lent run.
 use Rattle.std.specs.Prelude.{ℕ, zero, suc, ◌+◌, ◌-◌, ◌/◌, ◌%◌, ◌^◌, Bool, not, List, eqb, get_or, set}
 use Rattle.image.specs.Bits.{bit}
-use Rattle.image.specs.Choice.{if◌then◌else◌}
+use Rattle.std.specs.Prelude.{if◌then◌else◌}
 use Rattle.image.specs.EntryKind.{posted_descriptor}
 use Rattle.image.specs.Rules.{Rules, answer, fetch, run}
 use Rattle.image.specs.Windows.{windows_of, on_spot, spot_in, over_windows}

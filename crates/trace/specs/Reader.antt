@@ -1,6 +1,6 @@
 -- A reader's step over a trace, and its steps to the end.
 use Rattle.std.specs.Prelude.{ℕ, zero, suc, ◌+◌, ◌*◌, ◌<◌, Bool, not, ◌&&◌, ◌||◌, List, [], ◌∷◌, ◌≡◌, eqb, leb, ltb, length, get_or, take, drop}
-use Rattle.image.specs.Choice.{if◌then◌else◌}
+use Rattle.std.specs.Prelude.{if◌then◌else◌}
 use Rattle.blocks.specs.Block.{count, well_laid}
 use Rattle.traced.specs.Decoded.{Decoded, entry_well, decoded}
 use Rattle.traced.specs.Decoded as of

@@ -1,7 +1,7 @@
 -- Document 02, Ask 12: what a reader tells of a trace, block by block: each entry of a block that is laid out well, by block and
 -- place, or that the block is damaged.
 use Rattle.std.specs.Prelude.{ℕ, zero, suc, ◌+◌, ◌*◌, ◌/◌, List, [], ◌∷◌, ◌++◌, ◌≡◌, length, take, drop}
-use Rattle.image.specs.Choice.{if◌then◌else◌}
+use Rattle.std.specs.Prelude.{if◌then◌else◌}
 use Rattle.blocks.specs.Block.{count, well_laid}
 use Rattle.traced.specs.Decoded.{entry_well}
 

@@ -1,6 +1,6 @@
 -- A writer over a lent buffer of 512 bytes: entries are laid into it, and a block is handed out when it is full or the trace is closed.
 use Rattle.std.specs.Prelude.{ℕ, ◌+◌, ◌*◌, ◌^◌, ◌≤◌, Bool, not, ◌||◌, List, [], ◌∷◌, ◌++◌, ◌≡◌, eqb, leb, ltb, length, take, drop}
-use Rattle.image.specs.Choice.{if◌then◌else◌}
+use Rattle.std.specs.Prelude.{if◌then◌else◌}
 use Rattle.blocks.specs.Written.{finished}
 use Rattle.traced.specs.Entry.{entry_bytes}
 use Rattle.traced.specs.Well.{well_traced}

@@ -8,7 +8,7 @@ use borrow.Author.Tests.{eqb-true, not-false, leb-false}
 use lib.Dec.{eqb, leb}
 use lib.ListN.{length, get_or, take, drop}
 use lib.Seq.{drop-length}
-use Rattle.image.specs.Choice.{if◌then◌else◌}
+use Rattle.std.specs.Prelude.{if◌then◌else◌}
 use Rattle.faults.proofs.Recording.{neither}
 use Rattle.trace_calls.specs.Calls.{bad_writer, bad_cursor}
 

@@ -10,7 +10,8 @@ use lib.Dec.{eqb, leb}
 use lib.ListN.{length, length-append}
 use Rattle.image.specs.Bits.{bits}
 use Rattle.image.specs.Bytes.{bytes_of, spell}
-use Rattle.image.specs.Choice.{if◌then◌else◌, one-if}
+use Rattle.std.specs.Prelude.{if◌then◌else◌}
+use Rattle.image.specs.Choice.{one-if}
 use Rattle.image.specs.Memory.{word_at, entry}
 use Rattle.image.specs.Place.{Place, no_entry, entry_at}
 use Rattle.image.proofs.Bytes.{number-back, length-bytes_of, bytes-beside}

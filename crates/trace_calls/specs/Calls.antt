@@ -1,6 +1,6 @@
 -- The calls on traces: what each answers, and what it leaves in the buffers lent to be written. The first line that applies decides.
 use Rattle.std.specs.Prelude.{ℕ, Bool, not, ◌||◌, List, [], ◌∷◌, eqb, leb, length, get_or}
-use Rattle.image.specs.Choice.{if◌then◌else◌}
+use Rattle.std.specs.Prelude.{if◌then◌else◌}
 use Rattle.registers.specs.declared.Registers.{Registers}
 use Rattle.blocks.specs.Block.{well_laid}
 use Rattle.traced.specs.Decoded.{entry_well}

@@ -11,7 +11,7 @@ use lib.ListN.{length, take, drop, length-take, length-drop}
 use lib.Seq.{drop-drop, take-take, length-take-le}
 use Rattle.image.specs.Bits.{bits}
 use Rattle.image.specs.Bytes.{little_endian, bytes_of, spell}
-use Rattle.image.specs.Choice.{if◌then◌else◌}
+use Rattle.std.specs.Prelude.{if◌then◌else◌}
 use Rattle.image.specs.Memory.{word_at, with_word}
 use Rattle.image.proofs.Pages.{drop-take}
 use Rattle.image.proofs.Stores.{with_words, Words, all-stored, words-beside}

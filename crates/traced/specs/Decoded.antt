@@ -1,6 +1,6 @@
 -- What a run of bytes says as an entry: malformed where it isn't the 32 bytes of one that is laid out well.
 use Rattle.std.specs.Prelude.{ℕ, Bool, ◌&&◌, List, ◌≡◌, eqb, length}
-use Rattle.image.specs.Choice.{if◌then◌else◌}
+use Rattle.std.specs.Prelude.{if◌then◌else◌}
 use Rattle.traced.specs.Entry.{Fits, entry_bytes, traced_in}
 use Rattle.traced.specs.Well.{well_traced}
 use Rattle.traced.specs.declared.Traced.{Traced}

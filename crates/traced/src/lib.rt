@@ -3,7 +3,7 @@
 
 ghost use Rattle.std.specs.Prelude.{◌≡◌, ◌++◌, ◌+◌, ◌≤◌, length, take, drop, leb};
 ghost use Rattle.image.specs.Bytes.{bytes_of};
-ghost use Rattle.image.specs.Choice.{if◌then◌else◌};
+ghost use Rattle.std.specs.Prelude.{if◌then◌else◌};
 ghost use Rattle.traced.specs.Decoded.{decoded};
 ghost use Rattle.traced.specs.Answers.{decoded_of};
 ghost use Rattle.traced.specs.Entry.{head_bytes, entry_bytes, traced_in};

@@ -6,7 +6,7 @@ use native.Mathlib.Omega.{arith}
 use borrow.Author.Tests.{eqb-false}
 use lib.Dec.{eqb}
 use Rattle.image.specs.Check.{Check, stop, go, on_check}
-use Rattle.image.specs.Choice.{if◌then◌else◌}
+use Rattle.std.specs.Prelude.{if◌then◌else◌}
 use Rattle.image.specs.Memory.{Memory, Fetched, missing, found, entry, on_fetch}
 use Rattle.image.specs.Rules.{Rules, answer, run, map_rules}
 use Rattle.image.proofs.Choices.{neither}

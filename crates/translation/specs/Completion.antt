@@ -2,7 +2,7 @@
 -- context entries, the width, the reserved bits of page entries and the walk by levels are those of untranslated requests.
 use Rattle.std.specs.Prelude.{ℕ, Bool, not, ◌||◌, eqb}
 use Rattle.image.specs.Bits.{any_set, in_place}
-use Rattle.image.specs.Choice.{if◌then◌else◌}
+use Rattle.std.specs.Prelude.{if◌then◌else◌}
 use Rattle.image.specs.Memory.{Memory}
 use Rattle.image.specs.Rules.{Rules, answer}
 use Rattle.registers.specs.declared.Registers.{Registers}

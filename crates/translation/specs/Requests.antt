@@ -1,6 +1,6 @@
 -- A translation request, from registers to answer, as one rules tree.
 use Rattle.std.specs.Prelude.{ℕ, List}
-use Rattle.image.specs.Choice.{if◌then◌else◌}
+use Rattle.std.specs.Prelude.{if◌then◌else◌}
 use Rattle.image.specs.Memory.{Memory}
 use Rattle.image.specs.Place.{Place, no_entry, stopped_at}
 use Rattle.image.specs.Rules.{Rules, run, map_rules}

@@ -1,7 +1,7 @@
 -- Document 02, Ask 1: the read and write rights joined over all levels.
 use Rattle.std.specs.Prelude.{ℕ, Bool, true, false, ◌&&◌, ◌||◌}
 use Rattle.image.specs.Bits.{bit}
-use Rattle.image.specs.Choice.{if◌then◌else◌}
+use Rattle.std.specs.Prelude.{if◌then◌else◌}
 use Rattle.translation.specs.declared.Rights.{Rights}
 
 -- what a walk begins with

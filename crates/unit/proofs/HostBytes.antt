@@ -10,7 +10,7 @@ use lib.Dec.{leb}
 use lib.ListN.{length}
 use Rattle.image.specs.Bits.{bits}
 use Rattle.image.specs.Bytes.{little_endian}
-use Rattle.image.specs.Choice.{if◌then◌else◌}
+use Rattle.std.specs.Prelude.{if◌then◌else◌}
 use Rattle.image.specs.Memory.{Fetched, missing, found}
 use Rattle.image.specs.Windows.{Window, windows_of, end_of, holds_all, Spot, nowhere, here, on_spot, spot_in, entry_in, of_windows}
 use Rattle.image.proofs.GoodWindows.{GoodWithAll, Good, good, held, holding, before-it, past-it, spot-next}

@@ -1,7 +1,7 @@
 use mathlib.Core.Bool.{Bool}
 use mathlib.Core.Path.{◌≡◌, ap, sym, ◌∙◌}
 use borrow.Author.Rules.{rules}
-use Rattle.image.specs.Choice.{if◌then◌else◌}
+use Rattle.std.specs.Prelude.{if◌then◌else◌}
 use Rattle.packing.specs.Status.{ok}
 use Rattle.trace_calls.specs.Calls.{block_damaged}
 use Rattle.trace_calls.proofs.reading.galitzaf_trace_check.Statement.{statement}

@@ -1,7 +1,7 @@
 use mathlib.Core.Bool.{◌&&◌}
 use mathlib.Core.Path.{◌≡◌, refl}
 use lib.Dec.{eqb}
-use Rattle.image.specs.Choice.{if◌then◌else◌}
+use Rattle.std.specs.Prelude.{if◌then◌else◌}
 use Rattle.dma.specs.Walk.{done, down}
 use Rattle.translation.specs.Completion.{page, entry_step}
 use Rattle.translation.specs.declared.Rights.{Rights}
