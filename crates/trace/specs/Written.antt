@@ -1,6 +1,6 @@
 -- A trace as it is written: each block is filled before the next.
 use Rattle.std.specs.Prelude.{ℕ, suc, ◌*◌, ◌/◌, ◌%◌, ◌^◌, ◌≤◌, true, List, [], ◌∷◌, ◌++◌, ◌≡◌, eqb, length}
-use Rattle.image.specs.Choice.{if◌then◌else◌}
+use Rattle.std.specs.Prelude.{if◌then◌else◌}
 use Rattle.blocks.specs.Written.{block_bytes}
 use Rattle.traced.specs.Entry.{Fits, entry_bytes}
 use Rattle.traced.specs.Well.{well_traced}
