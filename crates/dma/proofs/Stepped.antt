@@ -3,7 +3,6 @@ use Prim.Native.Nat.{ℕ, zero, suc, ◌-◌, ◌%◌, ◌<◌}
 use mathlib.Core.Bool.{Bool, true, false}
 use mathlib.Core.Path.{◌≡◌, refl, subst}
 use native.Mathlib.Omega.{arith}
-use mathlib.Core.Logic.{◌⊎◌, ⊎_elim}
 use Rattle.image.specs.Check.{Check, stop, go, on_check}
 use Rattle.std.specs.Prelude.{if◌then◌else◌}
 use Rattle.image.specs.Memory.{Memory, Fetched, missing, found, entry, on_fetch}
@@ -15,8 +14,6 @@ use Rattle.dma.specs.Translation.{Translation, leaf, fault, checked, page_step, 
 use Rattle.dma.specs.Walk.{Step, done, down, place_in, step_over}
 use Rattle.dma.specs.Answers.{step_of, Names}
 use Rattle.dma.specs.declared.translation.Translation.{Translation as TranslationCode}
-use denote.Enum.Declared.{tag_of}
-use Rattle.dma.specs.contracts.page.Step.{the_type}
 use Rattle.dma.specs.declared.page.Step.{Step as StepCode}
 use Rattle.dma.specs.declared.page.Step.TheVariants as step
 use Rattle.dma.proofs.Steps.{page-frame}
@@ -39,15 +36,15 @@ module _ (registers : Registers) (address : ℕ) (write fpd : Bool) (m : Memory)
   unfetched h = rw (← h)
 
   module _ {e : ℕ} (h : found e ≡ entry 1 m (place_in address table n)) where
-    -- a check that is no go-ahead: Down is variant 0
-    pub stopped : (r : StepCode) → (tag_of the_type r ≡ 1) ⊎ (tag_of the_type r ≡ 2) → step_of r ≡ checked fpd (page_check registers write (suc n) e)
+    -- a check that is no go-ahead
+    pub stopped : (r : StepCode) → ((table : ℕ) → r ≡ step.Down table → ⊥) → step_of r ≡ checked fpd (page_check registers write (suc n) e)
         → step_of r ≡ page_over registers address write fpd m n table
     unfolding step_over
     stopped r other told = rw (← h) (on r (page_check registers write (suc n) e) other told)
       where
-        on : (r : StepCode) (k : Check ℕ) → (tag_of the_type r ≡ 1) ⊎ (tag_of the_type r ≡ 2) → step_of r ≡ checked fpd k
+        on : (r : StepCode) (k : Check ℕ) → ((table : ℕ) → r ≡ step.Down table → ⊥) → step_of r ≡ checked fpd k
             → step_of r ≡ on_check k (λ reason. done (fault reason fpd)) (λ frame. if leaf_at (suc n) e then done (leaf frame (suc n)) else down frame tt)
-        on (step.Down table) k other told = absurd (⊎_elim (λ x. omega arith) (λ x. omega arith) other)
+        on (step.Down table) k other told = absurd (other table refl)
         on (step.Leaf frame level) (stop reason) other told = told
         on (step.Leaf frame level) (go a) other told = let z : ◌≡◌ {A = ℕ} 0 1 = cc in absurd (omega arith)
         on (step.Fault reason f at) (stop r) other told = told

@@ -1,0 +1,12 @@
+use mathlib.Core.Path.{◌≡◌}
+use native.Mathlib.Omega.{arith}
+use Rattle.image.specs.Bits.{bits}
+use Rattle.image.specs.Answers.{number16}
+use Rattle.image.proofs.Fields.{fits}
+use borrow.Author.Rules.{rules}
+use Rattle.dma.proofs.context.address_width.Goals as goal
+
+pub returns : goal.returns
+returns c =
+    let is : c.bits16.result ≡ bits (number16 c.args.e) 66 64 = c.bits16.ensures in
+    (is, omega (arith, is, fits (number16 c.args.e) 66 64))

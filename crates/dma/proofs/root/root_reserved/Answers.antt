@@ -1,0 +1,17 @@
+use Prim.Native.Nat.{◌<◌, ◌^◌}
+use mathlib.Core.Path.{◌≡◌, refl, ap, ap₂, sym, ◌∙◌}
+use native.Mathlib.Omega.{arith}
+use lib.Dec.{lit<}
+use Rattle.registers.proofs.Powers.{from-bit}
+use Rattle.image.proofs.Fields.{low_field}
+use Rattle.dma.specs.Root.{root_reserved}
+use borrow.Author.Rules.{rules}
+use Rattle.dma.proofs.root.root_reserved.Goals as goal
+
+pub returns : goal.returns
+unfolding root_reserved
+returns c =
+    let s = c in
+    let low : s.args.e.low < 2 ^ 64 = omega arith in
+    let high : s.args.e.high < 2 ^ 64 = omega arith in
+    rw (low_field low high 63 s.args.haw (lit< tt), from-bit s.args.haw low, c.any_set16.ensures, c.any_set16-2.ensures, c.at_or_above_power.ensures)

@@ -1,0 +1,6 @@
+use mathlib.Core.Path.{◌∙◌}
+use borrow.Author.Rules.{rules}
+use Rattle.dma.proofs.translation.overflows.Goals as goal
+
+pub returns : goal.returns
+returns c = c.at_or_above_power.ensures ∙ rw c.smaller.ensures

@@ -1,0 +1,29 @@
+use Prim.Native.Nat.{◌-◌, ◌%◌, ◌<◌, ◌≤◌}
+use mathlib.Core.Path.{◌≡◌, refl, ap, sym, ◌∙◌}
+use native.Mathlib.Omega.{arith}
+use lib.ListN.{length}
+use borrow.Author.Rules.{rules}
+use Rattle.image.specs.Place.{Place, entry_at, last_tried}
+use Rattle.image.specs.Rules.{run}
+use Rattle.image.specs.Spans.{Opened}
+use Rattle.image.specs.Windows.{of_windows}
+use Rattle.dma.specs.Answers.{step_of, step_place}
+use Rattle.dma.specs.Translation.{page_rules}
+use Rattle.dma.specs.Walk.{place_in}
+use Rattle.dma.proofs.Stepped.{ended, onward, ended_at, onward-at, anew, down_to, renamed}
+use Rattle.dma.proofs.walk.walk.Given as goal
+
+abbrev pub invariant-loop-level : goal.invariant-loop-level
+invariant-loop-level l =
+    Opened l.given.first l.windows (length l.image)
+    × (0 < l.level)
+    × (l.level ≤ 5)
+    × (l.at % 4096 ≡ 0)
+    × (run (page_rules l.registers l.given.address l.write l.given.fpd l.level l.at) (of_windows l.windows l.image)
+    ≡ run (page_rules l.registers l.given.address l.write l.given.fpd l.initial.level l.initial.at) (of_windows l.windows l.image))
+    × ((before before' : Place)
+    → last_tried before (page_rules l.registers l.given.address l.write l.given.fpd l.level l.at) (of_windows l.windows l.image)
+    ≡ last_tried before' (page_rules l.registers l.given.address l.write l.given.fpd l.initial.level l.initial.at) (of_windows l.windows l.image))
+
+abbrev pub decreases-loop-level : goal.decreases-loop-level
+decreases-loop-level l = l.level
