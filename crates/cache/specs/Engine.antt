@@ -1,10 +1,9 @@
 -- The second engine, and runs of operations on it and on the plain engine.
-use Rattle.std.specs.Prelude.{ℕ, ◌≡◌, ◌⊎◌, List, [], ◌∷◌}
+use Rattle.std.specs.Prelude.{ℕ, ◌≡◌, ◌⊎◌, cond, List, [], ◌∷◌}
 use Rattle.image.specs.Memory.{Memory}
 use Rattle.image.specs.Rules.{Rules, answer, run, named, map_rules}
 use Rattle.registers.specs.Admission.{Admitted, refusal, pass, taken_up, admission, on_admission, in_interrupt_range}
 use Rattle.registers.specs.declared.Registers.{Registers}
-use Rattle.std.specs.Prelude.{if◌then◌else◌}
 use Rattle.dma.specs.InterruptRange.{meets_interrupt_range, span_at}
 use Rattle.dma.specs.Lookup.{on_lookup, lookup_rules}
 use Rattle.dma.specs.Page.{host_address}
@@ -16,7 +15,7 @@ use Rattle.cache.specs.Held.{Held, Hit, miss, on_hit, lookup, insert, without}
 -- a page that a walk ended with and that is granted: one that meets the interrupt range is refusal 4
 abbrev pub on_grant {ℓ} : {A : Type ℓ} → Translation → A → (ℕ → ℕ → A) → A
 on_grant through none some = none
-on_grant (leaf frame level) none some = if meets_interrupt_range frame (span_at level) then none else some frame level
+on_grant (leaf frame level) none some = cond (meets_interrupt_range frame (span_at level)) none (some frame level)
 on_grant (fault reason fpd) none some = none
 
 abbrev pub if_taken {ℓ} : {A : Type ℓ} → Admitted → A → A → A
