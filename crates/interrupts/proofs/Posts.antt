@@ -2,23 +2,20 @@
 use Prim.Native.Nat.{ℕ, suc, ◌+◌, ◌-◌, ◌*◌, ◌/◌, ◌%◌, ◌^◌, ◌<◌}
 use mathlib.Core.Bool.{Bool, true, false}
 use mathlib.Core.List.{List, [], ◌∷◌}
-use mathlib.Core.Logic.{⊎_elim}
 use mathlib.Core.Path.{◌≡◌, refl, ap, sym, ◌∙◌}
 use native.Mathlib.Nat.{mod-lt, mod-eq_of_lt, one-mul, zero-mul}
 use native.Mathlib.Omega.{arith}
 use borrow.Author.Tests.{eqb-true, eqb-false}
-use denote.Enum.Declared.{tag_of}
 use lib.Bits.{bit_and, bit_or, and_high, or_add_and}
 use lib.Dec.{eqb}
 use lib.Pow.{pow-lt, pow-add}
-use types.Run.{OneOf}
 use Rattle.image.specs.Bits.{bits, bit}
 use Rattle.std.specs.Prelude.{if◌then◌else◌}
 use Rattle.interrupts.specs.Answers.{outcome_of}
 use Rattle.interrupts.specs.Post.{with_bit, interrupt_written}
 use Rattle.interrupts.specs.declared.answer.InterruptAnswer.{InterruptAnswer}
 use Rattle.interrupts.specs.declared.answer.InterruptAnswer.TheVariants.{Passed, Remapped, Posted, Blocked, Refused}
-use Rattle.interrupts.specs.contracts.answer.InterruptAnswer as declared
+use Rattle.interrupts.specs.declared.answer.Posted as posted
 
 -- one bit is below 2
 pub one_bit : (byte place : ℕ) → bits byte place place ≡ byte / 2 ^ place % 2
@@ -52,11 +49,10 @@ module _ (byte place : ℕ) where
   with-bit h = ap (bit_or byte) (mod-eq_of_lt (rw (one-mul (2 ^ place)) (pow-lt h)) ∙ one-mul (2 ^ place)) ∙ or-power
 
 -- an answer that isn't a post leaves the image
-pub unposted : (r : InterruptAnswer) (windows image : List ℕ) → OneOf (0 ∷ 1 ∷ 3 ∷ 4 ∷ []) (tag_of declared.the_type r)
+pub unposted : (r : InterruptAnswer) (windows image : List ℕ) → ((p : posted.Posted) → r ≡ Posted p → ⊥)
     → image ≡ interrupt_written windows (outcome_of r) image
 unposted Passed windows image h = refl
 unposted (Remapped r) windows image h = refl
-unposted (Posted p) windows image h =
-    absurd (⊎_elim (λ e. omega arith) (⊎_elim (λ e. omega arith) (⊎_elim (λ e. omega arith) (λ e. omega arith))) h)
+unposted (Posted p) windows image h = absurd (h p refl)
 unposted (Blocked f at) windows image h = refl
 unposted (Refused n) windows image h = refl

@@ -14,38 +14,33 @@ use Rattle.interrupts.specs.declared.answer.InterruptAnswer.TheVariants as answe
 use Rattle.interrupts.specs.declared.answer.Posted as posted
 use Rattle.interrupts.proofs.Raised.{Stands, Within, within}
 use Rattle.interrupts.proofs.Posts.{unposted}
+use Rattle.interrupts.proofs.interrupt_request.Goals.{After-decide-answer}
 use Rattle.interrupts.proofs.interrupt_request.Goals as goal
 
 pub returns-then-bad_windows : goal.returns-then-bad_windows
 returns-then-bad_windows c =
     let b = c in
-    let bad = sym b.bad_windows.ensures ∙ c.if-bad_windows.true in
-    rw bad (refl, (refl, refl))
+    let bad = sym c.bad_windows.ensures ∙ c.if-bad_windows.true in
+    rw bad (record { result_value = refl; result_value_2 = refl; image_after = refl })
 
 pub decide-answer-requires : goal.decide-answer-requires
 decide-answer-requires c = let e = c in sym e.bad_windows.ensures ∙ e.if-bad_windows.false
 
-pub enum_known-answer : goal.enum_known-answer
-enum_known-answer c = search rules
-
-module _ (c : tie.After-decide) where
-  abbrev b : tie.After-bad-windows
-  b = c
-
+module _ (c : After-decide-answer) where
   abbrev registers : Registers
-  registers = b.args.registers
+  registers = c.args.registers
 
   abbrev request : InterruptRequest
-  request = b.args.request
+  request = c.args.request
 
   abbrev windows : List ℕ
-  windows = b.args.windows.now
+  windows = c.args.windows.now
 
   abbrev bytes : List ℕ
-  bytes = b.args.image.now
+  bytes = c.args.image.now
 
   good : bad_windows windows (length bytes) ≡ false
-  good = sym b.bad_windows.ensures ∙ c.if-bad_windows.false
+  good = sym c.bad_windows.ensures ∙ c.if-bad_windows.false
 
   decided : outcome_of c.decide-answer.result ≡ interrupt_answer registers request windows bytes
   decided = rw good c.decide-answer.ensures.result_value
@@ -61,20 +56,26 @@ module _ (c : tie.After-decide) where
 -- what was decided is the answer over windows that aren't refused
 pub write_post-requires : goal.write_post-requires
 write_post-requires c =
-    let told = c in
-    let s = stands told told.in-Posted.is in
+    let s = stands (goal.at.write_post-requires c).After-decide-answer c.in-Posted.is in
     (s.good, (s.place, s.left, s.there), s.aligned)
 
 pub returns-in-Posted : goal.returns-in-Posted
 returns-in-Posted c =
-    let told = c in
-    let k = told in
-    let same = sym (ap outcome_of told.in-Posted.is) ∙ decided k in
-    let place = sym (ap entry_of told.in-Posted.is) ∙ concerned k in
-    (same, (place, c.write_post.ensures ∙ ap (λ (o : InterruptOutcome). interrupt_written (windows k) o (bytes k)) same))
+    let k = (goal.at.returns-in-Posted c).After-decide-answer in
+    let same = sym (ap outcome_of c.in-Posted.is) ∙ decided k in
+    let place = sym (ap entry_of c.in-Posted.is) ∙ concerned k in
+    record {
+      result_value = same;
+      result_value_2 = place;
+      image_after = c.write_post.ensures ∙ ap (λ (o : InterruptOutcome). interrupt_written (windows k) o (bytes k)) same;
+    }
 
 pub returns-in_default : goal.returns-in_default
 returns-in_default c =
-    let k = c in
-    let left = unposted k.decide-answer.result (windows k) (bytes k) c.in-Posted.keys2 in
-    (decided k, (concerned k, left ∙ ap (λ (o : InterruptOutcome). interrupt_written (windows k) o (bytes k)) (decided k)))
+    let k = (goal.at.returns-in_default c).After-decide-answer in
+    let left = unposted c.decide-answer.result (windows k) (bytes k) c.in_default.not-Posted in
+    record {
+      result_value = decided k;
+      result_value_2 = concerned k;
+      image_after = left ∙ ap (λ (o : InterruptOutcome). interrupt_written (windows k) o (bytes k)) (decided k);
+    }

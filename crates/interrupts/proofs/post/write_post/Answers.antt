@@ -18,7 +18,7 @@ whole : (c : After-place64-at) → c.place64-at.result + 64 ≤ length c.args.im
 whole c =
     let start = c in
     let a = start.args in
-    at-inside a.windows.now a.image-1.now a.posted.descriptor c.place64-at.ensures start.requires.1.2 start.requires.0
+    at-inside a.windows.now a.image.now a.posted.descriptor c.place64-at.ensures start.requires.1.2 start.requires.0
 
 pub set_bit-requires : goal.set_bit-requires
 set_bit-requires c = let w = whole (goal.at.set_bit-requires c).After-place64-at in omega (arith, w)
@@ -28,7 +28,7 @@ set_bit-requires-in-Due c =
     let first = c in
     let p = first in
     let a = p.args in
-    let kept = ap length first.set_bit.ensures ∙ length-set_bit a.image-1.now p.place64-at.result a.posted.vector in
+    let kept = ap length first.set_bit.ensures ∙ length-set_bit a.image.now p.place64-at.result a.posted.vector in
     let w = whole (goal.at.set_bit-requires-in-Due c).After-place64-at in
     omega (arith, kept, w)
 
@@ -41,8 +41,8 @@ returns-in-Due c =
     let start = p in
     let a = start.args in
     s.set_bit-in-Due.ensures ∙ ap (set_bit p.place64-at.result 256) first.set_bit.ensures
-    ∙ sym (ap (λ n. notified p.place64-at.result (due_of n) (set_bit p.place64-at.result a.posted.vector a.image-1.now)) told.in-Due.is)
-    ∙ written_at a.windows.now a.image-1.now a.posted.descriptor p.place64-at.ensures start.requires.1.2 a.posted.vector (due_of a.posted.notification)
+    ∙ sym (ap (λ n. notified p.place64-at.result (due_of n) (set_bit p.place64-at.result a.posted.vector a.image.now)) told.in-Due.is)
+    ∙ written_at a.windows.now a.image.now a.posted.descriptor p.place64-at.ensures start.requires.1.2 a.posted.vector (due_of a.posted.notification)
 
 pub returns-in_default : goal.returns-in_default
 returns-in_default c =
@@ -51,5 +51,5 @@ returns-in_default c =
     let start = p in
     let a = start.args in
     first.set_bit.ensures
-    ∙ sym (ap (λ n. notified p.place64-at.result (due_of n) (set_bit p.place64-at.result a.posted.vector a.image-1.now)) c.in_default.is)
-    ∙ written_at a.windows.now a.image-1.now a.posted.descriptor p.place64-at.ensures start.requires.1.2 a.posted.vector (due_of a.posted.notification)
+    ∙ sym (ap (λ n. notified p.place64-at.result (due_of n) (set_bit p.place64-at.result a.posted.vector a.image.now)) c.in_default.is)
+    ∙ written_at a.windows.now a.image.now a.posted.descriptor p.place64-at.ensures start.requires.1.2 a.posted.vector (due_of a.posted.notification)
