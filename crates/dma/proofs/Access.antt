@@ -2,7 +2,7 @@
 -- answer is settled by the named words.
 use Prim.Native.Nat.{ℕ}
 use mathlib.Core.Bool.{Bool, true, false}
-use mathlib.Core.Path.{◌≡◌, ap, ap₂, sym, ◌∙◌}
+use mathlib.Core.Path.{◌≡◌, ap₂, sym, ◌∙◌}
 use native.Mathlib.Omega.{arith}
 use Rattle.image.specs.Place.{no_entry}
 use Rattle.image.proofs.Forks.{every-outside}

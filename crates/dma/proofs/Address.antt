@@ -1,6 +1,6 @@
 -- Address bits from HAW up, for any HAW.
 use Prim.Native.Nat.{ℕ, suc, ◌^◌, ◌≤◌}
-use mathlib.Core.Path.{◌≡◌, ap, sym, ◌∙◌}
+use mathlib.Core.Path.{◌≡◌}
 use native.Mathlib.Omega.{arith}
 use native.Mathlib.Decide.{dec_le}
 use native.Mathlib.Nat.{sub-zero}

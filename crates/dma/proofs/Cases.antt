@@ -1,7 +1,6 @@
 -- What holds of every way through a part of the rules, whatever property of rules it is.
 use Prim.Native.Nat.{ℕ, ◌+◌, ◌*◌, ◌^◌, min}
 use mathlib.Core.Bool.{Bool, true, false}
-use mathlib.Core.Path.{◌≡◌, refl}
 use lib.Dec.{eqb, leb}
 use Rattle.std.specs.Prelude.{if◌then◌else◌}
 use Rattle.image.specs.Rules.{Rules, answer}

@@ -1,7 +1,7 @@
 -- What every fork of a memory request's rules satisfies, and every answer: the one traversal of its tree.
 use Prim.Native.Nat.{ℕ, suc, ◌%◌, ◌<◌, ◌≤◌}
 use mathlib.Core.Bool.{Bool, true, false}
-use mathlib.Core.Path.{◌≡◌, refl, sym, ◌∙◌, subst}
+use mathlib.Core.Path.{◌≡◌, refl}
 use native.Mathlib.Omega.{arith}
 use Rattle.image.specs.Check.{Check, stop, go, on_check}
 use Rattle.std.specs.Prelude.{if◌then◌else◌}

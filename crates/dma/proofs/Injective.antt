@@ -1,6 +1,6 @@
 -- No two answers of the code stand for the same outcome: a memory request's promise leaves one answer.
 use Prim.Native.Nat.{ℕ, ◌^◌, ◌<◌}
-use mathlib.Core.Path.{◌≡◌, refl, ap, ap₂}
+use mathlib.Core.Path.{◌≡◌, ap₂}
 use native.Mathlib.Omega.{arith}
 use Rattle.image.proofs.Places.{place_of-injective}
 use Rattle.faults.specs.Answers.{fault_of}

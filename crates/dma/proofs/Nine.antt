@@ -1,5 +1,5 @@
 -- Document 01: never more than nine words for a memory request; and with TE off, or refused by 1 or 2, none.
-use mathlib.Core.Path.{◌≡◌, refl, ap, sym, ◌∙◌}
+use mathlib.Core.Path.{◌≡◌, refl}
 use mathlib.Core.List.{[]}
 use Rattle.image.specs.Rules.{map_rules, named}
 use Rattle.image.proofs.Forks.{every-named}

@@ -4,9 +4,8 @@ use mathlib.Core.Bool.{Bool, true, false, not}
 use mathlib.Core.Path.{◌≡◌, refl, ap, sym, ◌∙◌}
 use native.Mathlib.Omega.{arith}
 use borrow.Author.Tests.{eq-eqb, ne_eqb, eqb-true, not-false}
-use lib.Dec.{eqb}
 use lib.Pow.{shr-shr}
-use Rattle.image.specs.Bits.{bits, bit, any_set}
+use Rattle.image.specs.Bits.{bits, any_set}
 use Rattle.image.specs.Check.{Check, stop, go, on_check}
 use Rattle.std.specs.Prelude.{if◌then◌else◌}
 use Rattle.image.specs.Memory.{Memory, Fetched}
@@ -16,7 +15,7 @@ use Rattle.registers.specs.declared.Registers.{Registers}
 use Rattle.dma.specs.Isolation.{SwitchedEntry, BothFetched}
 use Rattle.dma.specs.Page.{denied, own_right, leaf_at, page_reserved, page_check}
 use Rattle.dma.specs.Translation.{Translation, through, leaf, fault, page_step, page_rules}
-use Rattle.dma.specs.Walk.{Step, done, down}
+use Rattle.dma.specs.Walk.{done, down}
 use Rattle.dma.proofs.Steps.{page-frame}
 use Rattle.dma.proofs.Stepped.{leads-aligned}
 use Rattle.dma.proofs.Walks.{KeptStep, kept-walk}

@@ -1,9 +1,9 @@
 -- A granted request was let through, or its own walk reached the page.
-use Prim.Native.Nat.{ℕ, zero, suc, ◌+◌, ◌-◌, ◌*◌, ◌^◌, min}
+use Prim.Native.Nat.{ℕ, zero, suc, ◌+◌, ◌*◌, ◌^◌, min}
 use mathlib.Core.Bool.{Bool, true, false, not}
-use mathlib.Core.Path.{◌≡◌, refl, ap, sym, ◌∙◌, subst}
+use mathlib.Core.Path.{◌≡◌, refl, ap, sym, ◌∙◌}
 use mathlib.Core.List.Memᴰ
-use mathlib.Core.List.{List, [], ◌∷◌, Memᴰ}
+use mathlib.Core.List.{List, [], ◌∷◌}
 use mathlib.Core.Logic.{◌⊎◌, inl, inr, ⊎_elim}
 use native.Mathlib.Omega.{arith}
 use borrow.Author.Tests.{eqb-true, not-false}
@@ -13,7 +13,7 @@ use Rattle.image.specs.Check.{Check, stop, go, on_check}
 use Rattle.std.specs.Prelude.{if◌then◌else◌}
 use Rattle.image.specs.EntryKind.{EntryKind, is_page}
 use Rattle.image.specs.Memory.{Memory, Fetched, missing, found, entry, on_fetch}
-use Rattle.image.specs.Rules.{Rules, answer, fetch, run, entries_of}
+use Rattle.image.specs.Rules.{Rules, answer, run, entries_of}
 use Rattle.image.proofs.Choices.{past}
 use Rattle.image.proofs.Forks.{every-run}
 use Rattle.image.proofs.Same.{one_word}

@@ -1,7 +1,7 @@
 -- No check of an entry stops with 07h, 08h or 09h.
 use Prim.Native.Nat.{ℕ}
 use mathlib.Core.Bool.{Bool, true, false, not}
-use mathlib.Core.Path.{◌≡◌, refl, ap, sym, ◌∙◌, subst}
+use mathlib.Core.Path.{◌≡◌, refl, sym, ◌∙◌, subst}
 use native.Mathlib.Omega.{arith}
 use Rattle.image.specs.Bits.{bit, any_set}
 use Rattle.image.specs.Check.{Check, stop, go}

@@ -1,12 +1,12 @@
 -- The stages before the page walk: where a root entry leads, and what a context entry's check ensures.
-use Prim.Native.Nat.{ℕ, ◌-◌, ◌%◌, ◌≤◌}
+use Prim.Native.Nat.{ℕ, ◌%◌, ◌≤◌}
 use mathlib.Core.Bool.{Bool, true, false, not, ◌||◌}
-use mathlib.Core.Path.{◌≡◌, refl, ap, sym, ◌∙◌}
+use mathlib.Core.Path.{◌≡◌, refl}
 use native.Mathlib.Omega.{arith}
 use borrow.Author.Tests.{eqb-true}
 use lib.Dec.{eqb}
 use Rattle.image.specs.Bits.{bit, in_place}
-use Rattle.image.specs.Check.{Check, go}
+use Rattle.image.specs.Check.{go}
 use Rattle.std.specs.Prelude.{if◌then◌else◌}
 use Rattle.image.proofs.Choices.{past}
 use Rattle.registers.specs.declared.Registers.{Registers}

@@ -1,13 +1,13 @@
 -- Laws of page entries.
 use Prim.Native.Nat.{ℕ, suc, ◌+◌, ◌*◌, ◌-◌, ◌/◌, ◌%◌, ◌^◌, ◌<◌, ◌≤◌}
 use mathlib.Core.Bool.{Bool, true, not}
-use mathlib.Core.Path.{◌≡◌, refl, ap, sym, ◌∙◌, subst}
+use mathlib.Core.Path.{◌≡◌, subst}
 use native.Mathlib.Omega.{arith}
 use native.Mathlib.Nat.{div-one}
 use lib.Dec.{lit≤}
 use lib.Pow.{pow_mono}
 use Rattle.image.specs.Bits.{bits, in_place, any_set}
-use Rattle.image.specs.Check.{Check, go}
+use Rattle.image.specs.Check.{go}
 use Rattle.image.proofs.Choices.{past}
 use Rattle.image.proofs.Fields.{fits, in-place-lt}
 use Rattle.registers.specs.declared.Registers.{Registers}

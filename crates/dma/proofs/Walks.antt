@@ -5,7 +5,7 @@ use native.Mathlib.Omega.{arith}
 use Rattle.image.specs.EntryKind.{EntryKind, page_entry}
 use Rattle.image.specs.Memory.{Memory, Fetched, missing, found, entry, on_fetch}
 use Rattle.image.specs.Place.{Place, entry_at, last_tried}
-use Rattle.image.specs.Rules.{Rules, answer, fetch, run}
+use Rattle.image.specs.Rules.{answer, run}
 use Rattle.image.proofs.Forks.{Every, every-answer, every-fetch}
 use Rattle.image.proofs.Same.{one_word}
 use Rattle.dma.specs.Isolation.{BothFetched}

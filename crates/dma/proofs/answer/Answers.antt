@@ -1,8 +1,7 @@
-use mathlib.Core.Path.{◌≡◌, refl, ap, sym, ◌∙◌, subst}
+use mathlib.Core.Path.{refl, ap, sym, ◌∙◌, subst}
 use Rattle.dma.specs.Answers.{translation_of, Names}
 use Rattle.dma.specs.Requests.{blocked, memory_outcome}
 use Rattle.dma.specs.Translation.{Reachable}
-use borrow.Author.Rules.{rules}
 use Rattle.dma.proofs.answer.Goals as goal
 
 pub page_answer-requires : goal.page_answer-requires

@@ -1,5 +1,5 @@
 use mathlib.Core.Bool.{false}
-use mathlib.Core.Path.{◌≡◌, refl, ap, sym, ◌∙◌}
+use mathlib.Core.Path.{◌≡◌, ap, sym, ◌∙◌}
 use lib.ListN.{length}
 use Rattle.registers.specs.Admission.{taken_up, admission}
 use Rattle.registers.specs.Answers.{admitted_of}
@@ -7,7 +7,6 @@ use Rattle.image.specs.Windows.{of_windows, bad_windows}
 use Rattle.image.proofs.GoodWindows.{three-each}
 use Rattle.dma.proofs.Admissions.{taken-root, refuses-bad, refuses, passes, memory-told, memory-taken}
 use Rattle.dma.proofs.Forks.{reachable}
-use borrow.Author.Rules.{rules}
 use Rattle.dma.proofs.memory_request.Goals.{After-first_span-first, Else-bad_windows}
 use Rattle.dma.proofs.memory_request.Goals as goal
 

@@ -1,6 +1,5 @@
-use mathlib.Core.Path.{◌≡◌, refl, ap, ap₂, sym, ◌∙◌}
+use mathlib.Core.Path.{refl}
 use Rattle.dma.specs.Context.{context_check}
-use borrow.Author.Rules.{rules}
 use Rattle.dma.proofs.context.context_check.Goals as goal
 
 pub returns-then-not-present : goal.returns-then-not-present

@@ -1,6 +1,4 @@
-use mathlib.Core.Path.{◌≡◌, refl, ap, ap₂, sym, ◌∙◌}
 use Rattle.dma.specs.Context.{context_invalid}
-use borrow.Author.Rules.{rules}
 use Rattle.dma.proofs.context.context_invalid.Goals as goal
 
 pub returns : goal.returns

@@ -1,5 +1,3 @@
-use mathlib.Core.Path.{◌≡◌, refl, ap, sym, ◌∙◌}
-use borrow.Author.Rules.{rules}
 use Rattle.dma.proofs.context.context_of.Goals as goal
 
 pub returns : goal.returns

@@ -1,11 +1,9 @@
 use Prim.Native.Nat.{◌<◌, ◌^◌}
-use mathlib.Core.Path.{◌≡◌, refl, ap, ap₂, sym, ◌∙◌}
 use native.Mathlib.Omega.{arith}
 use lib.Dec.{lit<}
 use Rattle.registers.proofs.Powers.{from-bit}
 use Rattle.image.proofs.Fields.{low_field}
 use Rattle.dma.specs.Context.{context_reserved}
-use borrow.Author.Rules.{rules}
 use Rattle.dma.proofs.context.context_reserved.Goals as goal
 
 pub returns : goal.returns

@@ -1,4 +1,3 @@
-use mathlib.Core.Path.{◌≡◌, refl, ap, ap₂, sym, ◌∙◌}
 use borrow.Author.Tests.{eq-eqb, ne_eqb}
 use Rattle.dma.proofs.context.width_supported.Goals as goal
 

@@ -1,8 +1,7 @@
 use Prim.Native.Nat.{ℕ, ◌*◌}
-use mathlib.Core.Path.{◌≡◌, ap}
+use mathlib.Core.Path.{ap}
 use native.Mathlib.Omega.{arith}
 use Rattle.dma.proofs.Steps.{index_of, index-lt}
-use borrow.Author.Rules.{rules}
 use Rattle.dma.proofs.entry.entry_offset.Goals as goal
 
 pub overflow_mul-result-2 : goal.overflow_mul-result-2

@@ -12,7 +12,6 @@ use Rattle.image.proofs.Stages.{unfetched, checked, only}
 use Rattle.registers.specs.Source.{devfn_of}
 use Rattle.dma.specs.Context.{context_check, fault_processing_disabled}
 use Rattle.dma.specs.Lookup.{context, no_context, context_rules}
-use borrow.Author.Rules.{rules}
 use Rattle.dma.proofs.lookup.context_in.Goals.{After-page_entry16_by}
 use Rattle.dma.proofs.lookup.context_in.Goals as goal
 

@@ -1,6 +1,6 @@
 use Prim.Native.Nat.{ℕ, ◌+◌, ◌*◌}
 use mathlib.Core.Bool.{false}
-use mathlib.Core.Path.{◌≡◌, refl, ap, sym, ◌∙◌}
+use mathlib.Core.Path.{◌≡◌, ap, sym, ◌∙◌}
 use native.Mathlib.Omega.{arith}
 use Rattle.image.specs.Answers.{fetched16, number16}
 use Rattle.image.specs.Memory.{found, entry}
@@ -17,7 +17,6 @@ use Rattle.dma.specs.Lookup.{context, no_context, stopped_lookup, context_rules,
 use Rattle.dma.specs.Root.{root_check}
 use Rattle.dma.proofs.Lookups.{context-place}
 use Rattle.dma.proofs.Stages.{root-aligned}
-use borrow.Author.Rules.{rules}
 use Rattle.dma.proofs.lookup.find_context.Goals.{After-page_entry16_by, In-Entry}
 use Rattle.dma.proofs.lookup.find_context.Goals as goal
 

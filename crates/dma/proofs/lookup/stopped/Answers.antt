@@ -1,7 +1,6 @@
-use mathlib.Core.Path.{◌≡◌, ap, sym}
+use mathlib.Core.Path.{ap, sym}
 use Rattle.dma.specs.Answers.{check_of, check_place}
 use Rattle.dma.specs.Lookup.{stopped_lookup}
-use borrow.Author.Rules.{rules}
 use Rattle.dma.proofs.lookup.stopped.Goals as goal
 
 pub returns-in-Stop : goal.returns-in-Stop

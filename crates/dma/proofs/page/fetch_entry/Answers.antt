@@ -1,9 +1,8 @@
 use Prim.Native.Nat.{ℕ, ◌+◌}
-use mathlib.Core.Path.{◌≡◌, ap, ◌∙◌}
+use mathlib.Core.Path.{ap, ◌∙◌}
 use native.Mathlib.Omega.{arith}
 use Rattle.image.specs.Memory.{entry}
 use Rattle.image.specs.Windows.{of_windows}
-use borrow.Author.Rules.{rules}
 use Rattle.dma.proofs.page.fetch_entry.Goals as goal
 
 pub entry_offset-offset-requires : goal.entry_offset-offset-requires

@@ -2,7 +2,6 @@ use Prim.Native.Nat.{◌+◌, ◌*◌, ◌-◌}
 use native.Mathlib.Omega.{arith}
 use lib.Pow.{pow_pos}
 use Rattle.dma.proofs.Steps.{offset-of, offset-lt, span-le}
-use borrow.Author.Rules.{rules}
 use Rattle.dma.proofs.page.host_address.Goals as goal
 
 pub nonzero_rem-result : goal.nonzero_rem-result

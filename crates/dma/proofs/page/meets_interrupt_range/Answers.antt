@@ -6,7 +6,6 @@ use borrow.Author.Tests.{le-ltb, le-leb, lt-leb}
 use lib.Dec.{ltb}
 use Rattle.dma.specs.InterruptRange.{span_at}
 use Rattle.dma.proofs.Steps.{span-le}
-use borrow.Author.Rules.{rules}
 use Rattle.dma.proofs.page.meets_interrupt_range.Goals as goal
 
 pub returns-then-frame : goal.returns-then-frame

@@ -1,5 +1,3 @@
-use mathlib.Core.Path.{◌≡◌, refl, ap, ap₂, sym, ◌∙◌}
-use borrow.Author.Rules.{rules}
 use Rattle.dma.proofs.page.own_right.Goals as goal
 
 pub returns-then-write : goal.returns-then-write

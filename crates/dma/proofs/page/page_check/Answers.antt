@@ -1,8 +1,7 @@
-use mathlib.Core.Path.{◌≡◌, refl, ap, ap₂, sym, ◌∙◌}
+use mathlib.Core.Path.{refl, sym}
 use borrow.Author.Tests.{eq-eqb, ne_eqb}
 use Rattle.image.specs.Bits.{bits}
 use Rattle.dma.specs.Page.{own_right, page_check}
-use borrow.Author.Rules.{rules}
 use Rattle.dma.proofs.page.page_check.Goals as goal
 
 pub returns-then-field-eq0 : goal.returns-then-field-eq0

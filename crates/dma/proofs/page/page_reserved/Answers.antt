@@ -1,4 +1,4 @@
-use mathlib.Core.Path.{◌≡◌, refl, ap, ap₂, sym, ◌∙◌}
+use mathlib.Core.Path.{◌≡◌, ap, sym, ◌∙◌}
 use Prim.Native.Nat.{◌^◌}
 use mathlib.Core.Bool.{true, false}
 use borrow.Author.Tests.{eq-eqb, ne_eqb}
@@ -6,7 +6,6 @@ use lib.Dec.{leb}
 use Rattle.image.specs.Bits.{bit, any_set}
 use Rattle.dma.proofs.Address.{above}
 use Rattle.dma.proofs.Reserved.{small, at-2, at-3, elsewhere}
-use borrow.Author.Rules.{rules}
 use Rattle.dma.proofs.page.page_reserved.Goals.{After-at_or_above_power-beyond, Else-field-ne1}
 use Rattle.dma.proofs.page.page_reserved.Goals as goal
 

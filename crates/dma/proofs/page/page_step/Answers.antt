@@ -2,7 +2,6 @@ use Prim.Native.Nat.{suc}
 use mathlib.Core.Path.{◌≡◌, refl, ap, sym, ◌∙◌, subst}
 use native.Mathlib.Numerals.{add-one}
 use Rattle.image.specs.Answers.{fetched8}
-use Rattle.image.specs.Check.{go}
 use Rattle.image.specs.Memory.{found, entry}
 use Rattle.image.specs.Place.{Place, entry_at}
 use Rattle.image.specs.Windows.{of_windows}
@@ -11,7 +10,6 @@ use Rattle.dma.specs.Page.{page_check}
 use Rattle.dma.specs.Translation.{checked}
 use Rattle.dma.specs.Walk.{place_in}
 use Rattle.dma.proofs.Stepped.{gone, unfetched, stopped, at_leaf, at_table_lem}
-use borrow.Author.Rules.{rules}
 use Rattle.dma.proofs.page.page_step.Goals.{After-page_check-check, In-Entry}
 use Rattle.dma.proofs.page.page_step.Goals as goal
 

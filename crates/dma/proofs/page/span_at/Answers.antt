@@ -1,7 +1,6 @@
 use Prim.Native.Nat.{◌+◌, ◌*◌, ◌-◌}
 use native.Mathlib.Omega.{arith}
 use Rattle.image.proofs.Fields.{shifted_one}
-use borrow.Author.Rules.{rules}
 use Rattle.dma.proofs.page.span_at.Goals as goal
 
 pub returns : goal.returns

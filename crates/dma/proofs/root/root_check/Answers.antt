@@ -1,6 +1,5 @@
-use mathlib.Core.Path.{◌≡◌, refl, ap, ap₂, sym, ◌∙◌}
+use mathlib.Core.Path.{refl}
 use Rattle.dma.specs.Root.{root_check}
-use borrow.Author.Rules.{rules}
 use Rattle.dma.proofs.root.root_check.Goals as goal
 
 pub returns-then-not-present : goal.returns-then-not-present

@@ -1,11 +1,9 @@
 use Prim.Native.Nat.{◌<◌, ◌^◌}
-use mathlib.Core.Path.{◌≡◌, refl, ap, ap₂, sym, ◌∙◌}
 use native.Mathlib.Omega.{arith}
 use lib.Dec.{lit<}
 use Rattle.registers.proofs.Powers.{from-bit}
 use Rattle.image.proofs.Fields.{low_field}
 use Rattle.dma.specs.Root.{root_reserved}
-use borrow.Author.Rules.{rules}
 use Rattle.dma.proofs.root.root_reserved.Goals as goal
 
 pub returns : goal.returns

@@ -1,10 +1,8 @@
-use mathlib.Core.Path.{◌≡◌, refl, ap, sym, ◌∙◌}
+use mathlib.Core.Path.{refl}
 use borrow.Author.Tests.{eq-eqb, ne_eqb}
 use Rattle.image.specs.Place.{last_tried}
 use Rattle.image.specs.Rules.{run}
 use Rattle.dma.specs.Translation.{width_rules}
-use Rattle.dma.proofs.Stepped.{renamed}
-use borrow.Author.Rules.{rules}
 use Rattle.dma.proofs.translation.translate_in.Goals as goal
 
 pub overflows-requires : goal.overflows-requires

@@ -1,7 +1,6 @@
-use mathlib.Core.Path.{◌≡◌, refl, ap, sym}
+use mathlib.Core.Path.{refl, ap, sym}
 use Rattle.dma.specs.Answers.{lookup_of, lookup_place}
 use Rattle.dma.specs.Translation.{without_context}
-use borrow.Author.Rules.{rules}
 use Rattle.dma.proofs.translation.without_context.Goals as goal
 
 pub returns-in-Fault : goal.returns-in-Fault

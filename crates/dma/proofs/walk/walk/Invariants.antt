@@ -1,16 +1,11 @@
-use Prim.Native.Nat.{◌-◌, ◌%◌, ◌<◌, ◌≤◌}
-use mathlib.Core.Path.{◌≡◌, refl, ap, sym, ◌∙◌}
-use native.Mathlib.Omega.{arith}
+use Prim.Native.Nat.{◌%◌, ◌<◌, ◌≤◌}
+use mathlib.Core.Path.{◌≡◌}
 use lib.ListN.{length}
-use borrow.Author.Rules.{rules}
-use Rattle.image.specs.Place.{Place, entry_at, last_tried}
+use Rattle.image.specs.Place.{Place, last_tried}
 use Rattle.image.specs.Rules.{run}
 use Rattle.image.specs.Spans.{Opened}
 use Rattle.image.specs.Windows.{of_windows}
-use Rattle.dma.specs.Answers.{step_of, step_place}
 use Rattle.dma.specs.Translation.{page_rules}
-use Rattle.dma.specs.Walk.{place_in}
-use Rattle.dma.proofs.Stepped.{ended, onward, ended_at, onward-at, anew, down_to, renamed}
 use Rattle.dma.proofs.walk.walk.Given as goal
 
 abbrev pub invariant-loop-level : goal.invariant-loop-level
