@@ -1,6 +1,6 @@
 -- What a step of a translation request makes of a page entry, by the facts that the code has of its fields.
 use Prim.Native.Nat.{ℕ}
-use mathlib.Core.Bool.{Bool, true, false, not, ◌&&◌, ◌||◌}
+use mathlib.Core.Bool.{Bool, true, false, ◌&&◌, ◌||◌}
 use mathlib.Core.Path.{◌≡◌}
 use borrow.Author.Tests.{eq-eqb, ne_eqb}
 use lib.Dec.{eqb}
@@ -23,10 +23,10 @@ module _ (registers : Registers) (fpd : Bool) (level place : ℕ) (above : Right
 
     module _ (free : reserved ≡ false) {r w : ℕ} (r-is : r ≡ bits e 0 0) (w-is : w ≡ bits e 1 1) where
       -- no joined right
-      pub none_left : not (above.read && eqb r 1 || above.write && eqb w 1) ≡ true → done empty ≡ entry_step registers fpd level place above e
+      pub none_left : (above.read && eqb r 1 || above.write && eqb w 1) ≡ false → done empty ≡ entry_step registers fpd level place above e
       none_left none = rw (← own_is, ne_eqb own 0 some, ← reserved-is, free, ← r-is, ← w-is, none)
 
-      module _ (left : not (above.read && eqb r 1 || above.write && eqb w 1) ≡ false) {leaf : Bool} (leaf-is : leaf ≡ leaf_at level e)
+      module _ (left : (above.read && eqb r 1 || above.write && eqb w 1) ≡ true) {leaf : Bool} (leaf-is : leaf ≡ leaf_at level e)
           {frame : ℕ} (frame_is : frame ≡ in_place e 51 12) where
         -- a page, or the next table
         pub at-end : (if leaf then done (page frame level (record { read = above.read && eqb r 1; write = above.write && eqb w 1 }))

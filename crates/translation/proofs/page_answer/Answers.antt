@@ -1,0 +1,21 @@
+use mathlib.Core.Path.{refl}
+use Rattle.translation.proofs.Completed.{on-range, off-range}
+use borrow.Author.Rules.{rules}
+use Rattle.translation.proofs.page_answer.Goals as goal
+
+pub returns-then-meets_interrupt_range : goal.returns-then-meets_interrupt_range
+returns-then-meets_interrupt_range c =
+    let a = c.args in
+    record {
+      result_value = on-range a.request a.frame a.level a.rights c.meets_interrupt_range.ensures c.if-meets_interrupt_range.true;
+      result_value_2 = λ place. refl;
+    }
+
+pub returns : goal.returns
+returns c =
+    let a = c.args in
+    record {
+      result_value = off-range a.request a.frame a.level a.rights c.meets_interrupt_range.ensures c.if-meets_interrupt_range.false
+          c.page_size.ensures;
+      result_value_2 = λ place. refl;
+    }
