@@ -1,6 +1,5 @@
 use mathlib.Core.Path.{refl}
 use Rattle.translation.proofs.Completed.{on-range, off-range}
-use borrow.Author.Rules.{rules}
 use Rattle.translation.proofs.page_answer.Goals as goal
 
 pub returns-then-meets_interrupt_range : goal.returns-then-meets_interrupt_range

@@ -1,5 +1,5 @@
 use mathlib.Core.Bool.{false}
-use mathlib.Core.Path.{◌≡◌, refl, ap, sym, ◌∙◌}
+use mathlib.Core.Path.{◌≡◌, ap, sym, ◌∙◌}
 use lib.ListN.{length}
 use Rattle.registers.specs.Admission.{taken_up, admission}
 use Rattle.registers.specs.Answers.{admitted_of}
@@ -8,7 +8,6 @@ use Rattle.image.proofs.GoodWindows.{three-each}
 use Rattle.dma.proofs.Admissions.{taken-root}
 use Rattle.translation.proofs.Admissions.{refuses-bad, refuses, passes, translation-told, translation-taken}
 use Rattle.translation.proofs.Forks.{reachable}
-use borrow.Author.Rules.{rules}
 use Rattle.translation.proofs.translation_request.Goals.{After-first_span-first, Else-bad_windows}
 use Rattle.translation.proofs.translation_request.Goals as goal
 

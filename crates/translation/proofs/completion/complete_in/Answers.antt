@@ -3,7 +3,6 @@ use Rattle.image.specs.Place.{entry_at}
 use Rattle.image.specs.Windows.{of_windows}
 use Rattle.translation.proofs.Completed.{type-blocked, type-blocked-at, too_wide, walked, walked_at}
 use Rattle.translation.proofs.Stepped.{renamed}
-use borrow.Author.Rules.{rules}
 use Rattle.translation.proofs.completion.complete_in.Goals as goal
 
 pub returns-then-context : goal.returns-then-context

@@ -1,5 +1,4 @@
 use mathlib.Core.Path.{ap, sym}
-use borrow.Author.Rules.{rules}
 use Rattle.dma.specs.Answers.{lookup_of, lookup_place}
 use Rattle.translation.specs.Completion.{without_context}
 use Rattle.translation.proofs.completion.without_context.Goals as goal

@@ -1,11 +1,10 @@
-use mathlib.Core.Path.{◌≡◌, ap, sym, ◌∙◌, subst}
+use mathlib.Core.Path.{ap, sym, ◌∙◌, subst}
 use native.Mathlib.Numerals.{add-one}
 use Rattle.image.specs.Answers.{fetched8}
 use Rattle.image.specs.Place.{Place, entry_at}
 use Rattle.image.specs.Windows.{of_windows}
 use Rattle.translation.specs.Answers.{StepNames}
 use Rattle.translation.proofs.Stepped.{unfetched, fetched}
-use borrow.Author.Rules.{rules}
 use Rattle.translation.proofs.step.entry_step.Goals as goal
 
 pub fetch_entry-at-requires : goal.fetch_entry-at-requires

@@ -6,7 +6,6 @@ use Rattle.dma.specs.Walk.{done, down}
 use Rattle.translation.specs.Completion.{page, entry_step}
 use Rattle.translation.specs.declared.Rights.{Rights}
 use Rattle.translation.proofs.Joined.{no-right, reserved-set, none_left, at-end}
-use borrow.Author.Rules.{rules}
 use Rattle.translation.proofs.step.joined_step.Goals.{After-is_leaf}
 use Rattle.translation.proofs.step.joined_step.Goals as goal
 

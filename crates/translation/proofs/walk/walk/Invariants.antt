@@ -1,17 +1,12 @@
-use Prim.Native.Nat.{◌-◌, ◌%◌, ◌<◌, ◌≤◌}
-use mathlib.Core.Path.{◌≡◌, refl, ap, sym, ◌∙◌}
-use native.Mathlib.Omega.{arith}
+use Prim.Native.Nat.{◌%◌, ◌<◌, ◌≤◌}
+use mathlib.Core.Path.{◌≡◌}
 use lib.ListN.{length}
-use borrow.Author.Rules.{rules}
-use Rattle.image.specs.Place.{Place, entry_at, last_tried}
+use Rattle.image.specs.Place.{Place, last_tried}
 use Rattle.image.specs.Rules.{run}
 use Rattle.image.specs.Spans.{Opened}
 use Rattle.image.specs.Windows.{of_windows}
-use Rattle.dma.specs.Walk.{place_in}
-use Rattle.translation.specs.Answers.{step_of, step_place}
 use Rattle.translation.specs.Completion.{joined_rules}
 use Rattle.translation.specs.Rights.{both}
-use Rattle.translation.proofs.Stepped.{ended, led, ended_at, led-at, anew, down_to}
 use Rattle.translation.proofs.walk.walk.Given as goal
 
 abbrev pub invariant-loop-level : goal.invariant-loop-level
