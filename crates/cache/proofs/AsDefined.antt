@@ -2,7 +2,7 @@
 use Prim.Native.Nat.{ℕ, ◌+◌, ◌-◌, ◌*◌, ◌%◌, ◌^◌, ◌<◌, ◌≤◌, min}
 use mathlib.Core.Bool.{Bool, true, false}
 use mathlib.Core.List.{List, [], ◌∷◌}
-use mathlib.Core.Path.{◌≡◌, refl, ap, ap₂, sym, ◌∙◌, subst}
+use mathlib.Core.Path.{◌≡◌, refl, ap₂, sym, ◌∙◌}
 use native.Mathlib.Omega.{arith}
 use native.Mathlib.Nat.{lt_of_lt_of_le}
 use borrow.Author.Tests.{eq-eqb, lt-ltb, le-ltb, leb-false}
@@ -11,7 +11,7 @@ use lib.ListN.{length, replicate}
 use lib.Pow.{pow_mono}
 use Rattle.std.specs.Prelude.{if◌then◌else◌}
 use Rattle.image.specs.Memory.{Memory}
-use Rattle.image.specs.Rules.{Rules, answer, run, map_rules}
+use Rattle.image.specs.Rules.{answer, run, map_rules}
 use Rattle.image.specs.Windows.{of_windows, bad_windows}
 use Rattle.registers.specs.Admission.{Admitted, refusal, pass, taken_up, on_admission, in_interrupt_range}
 use Rattle.registers.specs.declared.Registers.{Registers}
@@ -28,7 +28,7 @@ use Rattle.dma.proofs.Lookups.{looked-up}
 use Rattle.dma.proofs.Steps.{offset-of}
 use Rattle.places.specs.Layout.{words, head_of}
 use Rattle.places.specs.Changes.{holding}
-use Rattle.cache.specs.Held.{Held, Hit, miss, on_hit, lookup, insert, without}
+use Rattle.cache.specs.Held.{Held, on_hit, lookup, insert, without}
 use Rattle.cache.specs.Engine.{on_grant, if_taken, admitted, rules_of, held_answer, domain_over, cached_rules, cached_as, held_after, step, answers, plain_answers}
 use Rattle.cache.specs.Keys.{key_for}
 use Rattle.cache.specs.Lent.{CacheCall, ask, change, drop_all, drop_domain, call_answers, plain_calls, operations, Fair, AsDefined, EqualCalls}

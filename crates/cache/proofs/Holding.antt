@@ -1,7 +1,7 @@
 -- What is cached, held and answered.
 use Prim.Native.Nat.{ℕ, zero, suc, ◌≤◌}
 use mathlib.Core.Bool.{Bool, true, false}
-use mathlib.Core.Path.{◌≡◌, refl, ap, sym, ◌∙◌}
+use mathlib.Core.Path.{◌≡◌, refl, ap, ◌∙◌}
 use mathlib.Core.List.Memᴰ
 use mathlib.Core.List.{List, [], ◌∷◌, Memᴰ}
 use mathlib.Core.Logic.{◌⊎◌, inl, inr, ⊎_elim}
@@ -10,7 +10,7 @@ use borrow.Author.Tests.{eqb-true}
 use lib.Dec.{eqb}
 use lib.ListN.{length, length-take, take as firsts}
 use Rattle.std.specs.Prelude.{if◌then◌else◌}
-use Rattle.image.specs.Rules.{Rules, answer, run, named}
+use Rattle.image.specs.Rules.{answer, run, named}
 use Rattle.registers.specs.Admission.{Admitted, refusal, pass, taken_up, on_admission}
 use Rattle.registers.specs.declared.Registers.{Registers}
 use Rattle.dma.specs.InterruptRange.{meets_interrupt_range, span_at}

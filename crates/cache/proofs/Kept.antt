@@ -7,7 +7,7 @@ use native.Mathlib.Omega.{arith}
 use native.Mathlib.Decide.{ℕ_discrete}
 use Rattle.image.specs.EntryKind.{EntryKind}
 use Rattle.image.specs.Memory.{Memory, Fetched, missing, found}
-use Rattle.image.specs.Rules.{Rules, answer, run, named, SameIn}
+use Rattle.image.specs.Rules.{run, named, SameIn}
 use Rattle.image.proofs.Forks.{Every, every-answer, every_more, every-outside}
 use Rattle.image.proofs.Local.{local}
 use Rattle.image.proofs.Trees.{Outside, met}

@@ -5,17 +5,17 @@ use mathlib.Core.Path.{◌≡◌, refl, ap, sym, ◌∙◌}
 use native.Mathlib.Omega.{arith}
 use lib.Dec.{eqb, leb}
 use lib.Pow.{shr-shr}
-use Rattle.image.specs.Bits.{bits, bit}
+use Rattle.image.specs.Bits.{bits}
 use Rattle.image.specs.Check.{Check, stop, go, on_check}
 use Rattle.std.specs.Prelude.{if◌then◌else◌}
 use Rattle.image.specs.Memory.{Memory, Fetched, missing, found, entry, on_fetch}
-use Rattle.image.specs.Rules.{Rules, answer, run}
+use Rattle.image.specs.Rules.{answer, run}
 use Rattle.registers.specs.declared.Registers.{Registers}
 use Rattle.registers.proofs.Powers.{shifted}
 use Rattle.dma.specs.Lookup.{Lookup, context, no_context, on_lookup, lookup_rules}
 use Rattle.dma.specs.Page.{page_check, leaf_at}
 use Rattle.dma.specs.Translation.{Translation, through, leaf, fault, page_step, page_rules, width_rules, translation_rules}
-use Rattle.dma.specs.Walk.{Step, done, down, on_step, place_in, walk_rules}
+use Rattle.dma.specs.Walk.{done, down, on_step, place_in, walk_rules}
 use Rattle.dma.specs.declared.context.Context.{Context}
 use Rattle.dma.proofs.Lookups.{looked-up}
 use Rattle.dma.proofs.Steps.{leaf-low}

@@ -16,7 +16,7 @@ use Rattle.dma.specs.Lookup.{context_rules, root_rules}
 use Rattle.dma.specs.Page.{page_check, leaf_at}
 use Rattle.dma.specs.Root.{root_check}
 use Rattle.dma.specs.Translation.{Translation, through, leaf, fault, page_step, page_rules, width_rules}
-use Rattle.dma.specs.Walk.{Step, done, down, on_step, place_in, walk_rules}
+use Rattle.dma.specs.Walk.{done, down, on_step, place_in, walk_rules}
 use Rattle.dma.specs.declared.context.Context.{Context}
 use Rattle.cache.specs.Claims.{PageWords}
 use Rattle.cache.specs.Held.{page_of}

@@ -7,7 +7,7 @@ use mathlib.Core.List.{List, [], ◌∷◌, Memᴰ}
 use mathlib.Core.Logic.{◌⊎◌, inl, inr, ⊎_elim}
 use native.Mathlib.Omega.{arith}
 use Rattle.image.specs.Memory.{Memory}
-use Rattle.image.specs.Rules.{Rules, answer, run, map_rules, SameIn}
+use Rattle.image.specs.Rules.{answer, run, map_rules, SameIn}
 use Rattle.registers.specs.Admission.{Admitted, refusal, pass, taken_up, on_admission, in_interrupt_range}
 use Rattle.registers.specs.declared.Registers.{Registers}
 use Rattle.std.specs.Prelude.{if◌then◌else◌}
@@ -16,7 +16,7 @@ use Rattle.dma.specs.Requests.{granted, refused, memory_outcome, memory_rules}
 use Rattle.dma.specs.Translation.{Translation, through, leaf, fault, translation_rules}
 use Rattle.dma.specs.declared.MemoryRequest.{MemoryRequest}
 use Rattle.dma.proofs.Admissions.{takes}
-use Rattle.cache.specs.Held.{Held, Hit, miss, hit, on_hit, lookup, insert, without}
+use Rattle.cache.specs.Held.{Held, Hit, miss, hit, on_hit, lookup, insert}
 use Rattle.cache.specs.Engine.{Operation, request, edit, invalidate_all, invalidate_domain, State, from, on_grant, if_taken, admitted, rules_of, held_answer, cached_rules, cached_as, held_after, held_words, step, left, answers, plain_answers, TakenOut}
 use Rattle.cache.specs.Claims.{Proviso, Equal, AsCached, AsNow}
 use Rattle.cache.proofs.Lists.{mem-insert, mem-without, mem-lookup, fitting}

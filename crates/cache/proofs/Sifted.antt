@@ -1,5 +1,5 @@
 -- Sifting takes out what is of a domain and leaves the others in their order.
-use Prim.Native.Nat.{ℕ, zero, suc, ◌+◌, ◌-◌, ◌%◌, ◌≤◌}
+use Prim.Native.Nat.{ℕ, zero, suc, ◌+◌, ◌%◌, ◌≤◌}
 use mathlib.Core.Bool.{Bool, true, false, ◌||◌}
 use mathlib.Core.List.{List, [], ◌∷◌, ◌++◌, append-nil, append_assoc}
 use mathlib.Core.Path.{◌≡◌, refl, ap, sym, ◌∙◌, subst}
@@ -14,7 +14,7 @@ use Rattle.places.specs.Changes.{holding, freed, resettled, sifted}
 use Rattle.places.proofs.Kept.{head-new, freed-head}
 use Rattle.cache.specs.Held.{Held, without}
 use Rattle.cache.specs.Keys.{key_of}
-use Rattle.cache.proofs.Holds.{holdable-key, used-key, Slot, free, of, slot_at, HeldAt, Slots, Holds, slot-past, slot-seam, hold_holds, freed-holds}
+use Rattle.cache.proofs.Holds.{holdable-key, used-key, of, slot_at, HeldAt, Slots, Holds, slot-past, slot-seam, hold_holds, freed-holds}
 use Rattle.cache.proofs.Holding.{held64}
 
 -- a list that isn't empty has a last one

@@ -10,7 +10,7 @@ use Rattle.dma.specs.Page.{host_address}
 use Rattle.dma.specs.Requests.{MemoryOutcome, granted, refused, memory_outcome, memory_rules}
 use Rattle.dma.specs.Translation.{Translation, through, leaf, fault, translation_rules}
 use Rattle.dma.specs.declared.MemoryRequest.{MemoryRequest}
-use Rattle.cache.specs.Held.{Held, Hit, miss, on_hit, lookup, insert, without}
+use Rattle.cache.specs.Held.{Held, on_hit, lookup, insert, without}
 
 -- a page that a walk ended with and that is granted: one that meets the interrupt range is refusal 4
 abbrev pub on_grant {ℓ} : {A : Type ℓ} → Translation → A → (ℕ → ℕ → A) → A
