@@ -1,5 +1,4 @@
-// A row of meters, lent together and changed in place. Both functions are proved by hand: the checker doesn't cover a
-// lent slice of structs.
+// A row of meters, lent together and changed in place.
 ghost use Rattle.std.specs.Prelude.{◌≡◌};
 ghost use Rattle.meter.specs.Row.{tick_row, reset_row};
 
