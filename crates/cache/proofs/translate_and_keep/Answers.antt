@@ -17,22 +17,26 @@ find_context-found-requires c = c.requires
 
 pub returns-in_default : goal.returns-in_default
 returns-in_default c =
-    let f = c in
-    let a = f.args in
+    let a = c.args in
     let m = of_windows a.windows.now a.image.now in
     let is = c.in_default.is in
     let told =
     no-context-told translation_of Names a.registers fault (width_rules a.registers a.request.address a.request.write) m a.request.source.id
-    (f.find_context-found.ensures.result_value, f.find_context-found.ensures.result_value_2) (λ x. through) c.without_context.result is (c.without_context.ensures.result_value, c.without_context.ensures.names) in
-    record { result_value = told.0; names = told.1; state_after = stopped-kept a.registers a.request m _ _ (sym f.find_context-found.ensures.result_value ∙ ap lookup_of is) a.state.now _ }
+    (c.find_context-found.ensures.result_value, c.find_context-found.ensures.result_value_2) (λ x. through)
+    c.without_context.result is (c.without_context.ensures.result_value, c.without_context.ensures.names) in
+    record {
+      result_value = told.0;
+      names = told.1;
+      state_after = stopped-kept a.registers a.request m _ _ (sym c.find_context-found.ensures.result_value ∙ ap lookup_of is) a.state.now _;
+    }
 
 pub translate_in-translated-requires : goal.translate_in-translated-requires
 translate_in-translated-requires c =
-    let f = c in
     let a = c.args in (
       c.requires.0,
       context-usable translation_of Names a.registers fault (width_rules a.registers a.request.address a.request.write)
-          (of_windows a.windows.now a.image.now) a.request.source.id (f.find_context-found.ensures.result_value, f.find_context-found.ensures.result_value_2) c.in-Found.is,
+          (of_windows a.windows.now a.image.now) a.request.source.id
+          (c.find_context-found.ensures.result_value, c.find_context-found.ensures.result_value_2) c.in-Found.is,
     )
 
 -- what is answered, and the entry that it names
@@ -40,23 +44,27 @@ told : (c : After-translate_in-translated) → let a = c.args in
     (translation_of c.translate_in-translated.result ≡ run (rules_of a.registers a.request) (of_windows a.windows.now a.image.now))
     × Names c.translate_in-translated.result (stopped_at (rules_of a.registers a.request) (of_windows a.windows.now a.image.now))
 told c =
-    let f = c in
-    let a = f.args in
+    let a = c.args in
     context-told translation_of Names a.registers fault (width_rules a.registers a.request.address a.request.write)
-    (of_windows a.windows.now a.image.now) a.request.source.id (f.find_context-found.ensures.result_value, f.find_context-found.ensures.result_value_2)
+    (of_windows a.windows.now a.image.now) a.request.source.id
+    (c.find_context-found.ensures.result_value, c.find_context-found.ensures.result_value_2)
     c.translate_in-translated.result c.in-Found.is (c.translate_in-translated.ensures.result_value, c.translate_in-translated.ensures.names)
 
 pub keep-requires : goal.keep-requires
 keep-requires c =
     let a = c.args in
-    rw (told (goal.at.keep-requires c).After-translate_in-translated).0 (reachable a.registers a.request (of_windows a.windows.now a.image.now) c.requires.1)
+    rw (told (goal.at.keep-requires c).After-translate_in-translated).0
+    (reachable a.registers a.request (of_windows a.windows.now a.image.now) c.requires.1)
 
 pub returns : goal.returns
 returns c =
-    let f = c in
     let a = c.args in
     let m = of_windows a.windows.now a.image.now in
-    let found = sym f.find_context-found.ensures.result_value ∙ ap lookup_of c.in-Found.is in
-    let kept-so = c.keep.ensures ∙ ap₂ (λ r d. state_kept a.state.now a.request r d) (told (goal.at.returns c).After-translate_in-translated).0 (sym (context-domain a.registers a.request m _ found)) in
+    let found = sym c.find_context-found.ensures.result_value ∙ ap lookup_of c.in-Found.is in
     let t = told (goal.at.returns c).After-translate_in-translated in
-    record { result_value = t.0; names = t.1; state_after = kept-so }
+    record {
+      result_value = t.0;
+      names = t.1;
+      state_after = c.keep.ensures
+          ∙ ap₂ (λ r d. state_kept a.state.now a.request r d) t.0 (sym (context-domain a.registers a.request m _ found));
+    }
