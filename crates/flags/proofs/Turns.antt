@@ -1,5 +1,5 @@
 -- The setting of flags by its turns, and what a spot tells: for the code.
-use Rattle.std.proofs.Common.{◌≡◌, ℕ, suc, ◌*◌, ◌/◌, ◌%◌, ◌^◌, ◌<◌, ◌≤◌, List, length, get_or, take, drop, set, sym, refl, ap, ◌∙◌, arith, length-set, drop_of_length-le, length-take, length-take-le, drop-cons, get_or-take}
+use Rattle.std.proofs.Common.{◌≡◌, ℕ, suc, ◌*◌, ◌/◌, ◌%◌, ◌^◌, ◌<◌, ◌≤◌, List, length, get_or, take, drop, set, sym, refl, ap, ◌∙◌, arith, length-set, drop_of_length-le, length-take-le, drop-cons, get_or-take}
 use lib.Bits.{bit_or}
 use Rattle.image.specs.Windows.{windows_of, Spot, nowhere, here, on_spot, spot_in}
 use Rattle.interrupts.specs.Post.{with_bit}

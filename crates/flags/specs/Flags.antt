@@ -1,6 +1,6 @@
 -- Flags of entries: accessed, extended accessed and dirty bits (document 003, 3.6.2 and 3.7.2). A granted request sets those of the entries
 -- that it used, all of them after its last read; anything else sets none.
-use Rattle.std.specs.Prelude.{ℕ, ◌+◌, ◌*◌, ◌/◌, ◌%◌, List, [], ◌∷◌, set, slice_index, slice_set}
+use Rattle.std.specs.Prelude.{ℕ, ◌+◌, ◌*◌, ◌/◌, ◌%◌, List, [], ◌∷◌, slice_index, slice_set}
 use Rattle.image.specs.Windows.{windows_of, on_spot, spot_in}
 use Rattle.interrupts.specs.Post.{with_bit}
 

@@ -1,4 +1,4 @@
-use Rattle.std.proofs.Common.{◌≡◌, suc, ◌+◌, refl, arith, take-suc-set, rules}
+use Rattle.std.proofs.Common.{◌≡◌, suc, ◌+◌, refl, arith, take-suc-set}
 use Rattle.flags.specs.Flags.{flag}
 use Rattle.flags.proofs.push.Goals as goal
 

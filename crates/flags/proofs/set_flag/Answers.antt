@@ -1,4 +1,4 @@
-use Rattle.std.proofs.Common.{◌≡◌, ℕ, ◌+◌, ◌-◌, ◌*◌, ◌/◌, ◌%◌, ◌^◌, ◌<◌, length, get_or, set, sym, ap, ◌∙◌, subst, arith, rules}
+use Rattle.std.proofs.Common.{ℕ, ◌*◌, ◌/◌, ◌%◌, ◌^◌, ◌<◌, length, get_or, set, ap, ◌∙◌, subst, arith}
 use lib.Bits.{bit_or}
 use Rattle.image.specs.Spans.{window_by, Holds}
 use Rattle.image.specs.Answers.{HeldBy}

@@ -1,6 +1,5 @@
-use Rattle.std.proofs.Common.{◌≡◌, suc, ◌+◌, ◌-◌, ◌≤◌, length, get_or, take, drop, sym, refl, ap, ◌∙◌, arith, rules}
+use Rattle.std.proofs.Common.{◌≡◌, suc, ◌+◌, length, get_or, refl, ap, ◌∙◌, arith}
 use Rattle.image.proofs.GoodWindows.{three-each}
-use Rattle.flags.specs.Flags.{set_flags}
 use Rattle.flags.proofs.Turns.{turn, done, length-set_flag}
 use Rattle.flags.proofs.set_flags.Goals as goal
 

@@ -1,7 +1,5 @@
-use Rattle.std.proofs.Common.{◌≡◌, suc, ◌+◌, ◌-◌, ◌≤◌, length, get_or, take, drop, sym, refl, ap, ◌∙◌, arith, rules}
-use Rattle.image.proofs.GoodWindows.{three-each}
+use Rattle.std.proofs.Common.{◌≡◌, ◌-◌, ◌≤◌, length, take, drop}
 use Rattle.flags.specs.Flags.{set_flags}
-use Rattle.flags.proofs.Turns.{turn, done, length-set_flag}
 use Rattle.flags.proofs.set_flags.Given as goal
 
 abbrev pub invariant-loop-i : goal.invariant-loop-i

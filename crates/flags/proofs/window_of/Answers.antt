@@ -1,4 +1,4 @@
-use Rattle.std.proofs.Common.{sym, ◌∙◌, arith, rules, lt-ltb}
+use Rattle.std.proofs.Common.{sym, ◌∙◌, arith, lt-ltb}
 use Rattle.image.specs.Spans.{window_by}
 use Rattle.image.proofs.GoodWindows.{one-test}
 use Rattle.image.proofs.Spans.{first-top, first-held}
