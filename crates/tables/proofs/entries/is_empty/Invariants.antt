@@ -1,0 +1,15 @@
+use Prim.Native.Nat.{ℕ, ◌+◌, ◌*◌, ◌≤◌}
+use mathlib.Core.Bool.{Bool}
+use mathlib.Core.Path.{◌≡◌, refl, ap, sym, ◌∙◌}
+use native.Mathlib.Omega.{arith}
+use borrow.Author.Rules.{rules}
+use Rattle.tables.specs.Tables.{held_entry, present, absent}
+use Rattle.tables.proofs.Folds.{absent-on, absent-stop, absent-done}
+use Rattle.tables.proofs.entries.is_empty.Given as goal
+
+abbrev pub invariant-loop-left : goal.invariant-loop-left
+invariant-loop-left l =
+    (absent l.left l.bytes l.at ≡ absent 512 l.bytes l.table) × (l.left ≤ 512) × (l.at + 8 * l.left ≡ l.table + 4096)
+
+abbrev pub decreases-loop-left : goal.decreases-loop-left
+decreases-loop-left l = l.left

@@ -1,0 +1,21 @@
+use Prim.Native.Nat.{ℕ, ◌-◌, ◌<◌, ◌≤◌, ◌^◌}
+use mathlib.Core.Bool.{Bool}
+use mathlib.Core.Path.{◌≡◌, refl, ap, sym, ◌∙◌}
+use native.Mathlib.Omega.{arith}
+use borrow.Author.Rules.{rules}
+use Rattle.dma.specs.Walk.{place_in}
+use Rattle.tables.specs.Tables.{held_entry, table_of}
+use Rattle.tables.specs.Way.{ends, way_to, way}
+use Rattle.tables.proofs.Folds.{way-ends, way_on, way-done, made-stop}
+use Rattle.tables.proofs.way.way_to.Given as goal
+
+-- What is left of the way leads where the whole way does.
+abbrev pub invariant-loop-below : goal.invariant-loop-below
+invariant-loop-below l =
+    (way_to l.bytes l.tree.start l.place l.last l.below l.table ≡ way l.bytes l.tree l.place l.last)
+    × (l.below ≤ l.tree.below)
+    × (l.tree.below < 5)
+    × (l.table < 2 ^ 52)
+
+abbrev pub decreases-loop-below : goal.decreases-loop-below
+decreases-loop-below l = l.below
