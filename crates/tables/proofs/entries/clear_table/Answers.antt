@@ -1,9 +1,6 @@
-use Prim.Native.Nat.{◌+◌, ◌*◌, ◌≤◌}
-use mathlib.Core.Path.{◌≡◌, refl, ap, sym, ◌∙◌}
+use mathlib.Core.Path.{refl, sym, ◌∙◌}
 use native.Mathlib.Omega.{arith}
 use borrow.Author.Rules.{rules}
-use lib.ListN.{length}
-use Rattle.tables.specs.Tables.{words_zeroed}
 use Rattle.tables.proofs.Folds.{zeroed-on, zeroed-done}
 use Rattle.tables.proofs.entries.clear_table.Goals as goal
 

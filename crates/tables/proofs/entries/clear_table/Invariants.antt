@@ -1,10 +1,7 @@
 use Prim.Native.Nat.{◌+◌, ◌*◌, ◌≤◌}
-use mathlib.Core.Path.{◌≡◌, refl, ap, sym, ◌∙◌}
-use native.Mathlib.Omega.{arith}
-use borrow.Author.Rules.{rules}
+use mathlib.Core.Path.{◌≡◌}
 use lib.ListN.{length}
 use Rattle.tables.specs.Tables.{words_zeroed}
-use Rattle.tables.proofs.Folds.{zeroed-on, zeroed-done}
 use Rattle.tables.proofs.entries.clear_table.Given as goal
 
 abbrev pub invariant-loop-left : goal.invariant-loop-left

@@ -1,4 +1,3 @@
-use borrow.Author.Rules.{rules}
 use Rattle.tables.specs.Tables.{held_entry}
 use Rattle.tables.proofs.entries.entry_of.Goals as goal
 

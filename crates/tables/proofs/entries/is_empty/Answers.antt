@@ -1,9 +1,8 @@
-use Prim.Native.Nat.{ℕ, ◌+◌, ◌*◌, ◌≤◌}
+use Prim.Native.Nat.{ℕ}
 use mathlib.Core.Bool.{Bool}
 use mathlib.Core.Path.{◌≡◌, refl, ap, sym, ◌∙◌}
 use native.Mathlib.Omega.{arith}
-use borrow.Author.Rules.{rules}
-use Rattle.tables.specs.Tables.{held_entry, present, absent}
+use Rattle.tables.specs.Tables.{held_entry, present}
 use Rattle.tables.proofs.Folds.{absent-on, absent-stop, absent-done}
 use Rattle.tables.proofs.entries.is_empty.Goals.{After-is_present}
 use Rattle.tables.proofs.entries.is_empty.Goals as goal

@@ -1,10 +1,6 @@
-use Prim.Native.Nat.{ℕ, ◌+◌, ◌*◌, ◌≤◌}
-use mathlib.Core.Bool.{Bool}
-use mathlib.Core.Path.{◌≡◌, refl, ap, sym, ◌∙◌}
-use native.Mathlib.Omega.{arith}
-use borrow.Author.Rules.{rules}
-use Rattle.tables.specs.Tables.{held_entry, present, absent}
-use Rattle.tables.proofs.Folds.{absent-on, absent-stop, absent-done}
+use Prim.Native.Nat.{◌+◌, ◌*◌, ◌≤◌}
+use mathlib.Core.Path.{◌≡◌}
+use Rattle.tables.specs.Tables.{absent}
 use Rattle.tables.proofs.entries.is_empty.Given as goal
 
 abbrev pub invariant-loop-left : goal.invariant-loop-left

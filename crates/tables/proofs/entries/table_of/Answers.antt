@@ -1,5 +1,4 @@
 use native.Mathlib.Omega.{arith}
-use borrow.Author.Rules.{rules}
 use lib.Dec.{lit≤}
 use Rattle.image.proofs.Fields.{in-place-lt}
 use Rattle.tables.specs.Tables.{table_of}

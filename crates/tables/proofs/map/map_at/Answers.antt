@@ -1,7 +1,6 @@
 use Prim.Native.Nat.{ℕ}
 use mathlib.Core.Path.{ap, sym, ◌∙◌}
 use native.Mathlib.Omega.{arith}
-use borrow.Author.Rules.{rules}
 use Rattle.tables.specs.Mapped.{with_leaf}
 use Rattle.tables.specs.Tables.{tables}
 use Rattle.tables.proofs.Changes.{met, too_few, put}

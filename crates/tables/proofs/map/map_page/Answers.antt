@@ -1,5 +1,4 @@
 use mathlib.Core.Path.{ap, ◌∙◌}
-use borrow.Author.Rules.{rules}
 use Rattle.tables.specs.Mapped.{map_at, mapped}
 use Rattle.tables.specs.Tables.{tables}
 use Rattle.tables.specs.declared.way.Stop.{Stop}

@@ -1,11 +1,8 @@
 use Prim.Native.Nat.{◌≤◌}
-use mathlib.Core.Path.{◌≡◌, refl, ◌∙◌}
-use native.Mathlib.Omega.{arith}
-use borrow.Author.Rules.{rules}
+use mathlib.Core.Path.{◌≡◌}
 use lib.ListN.{length}
 use Rattle.tables.specs.Mapped.{with_leaf}
 use Rattle.tables.specs.Tables.{tables}
-use Rattle.tables.proofs.Changes.{leaf-on, leaf-done}
 use Rattle.tables.proofs.map.put_leaf.Given as goal
 
 -- What is left to make leads to what the whole does.

@@ -1,9 +1,4 @@
-use Prim.Native.Nat.{◌+◌, ◌-◌, ◌≤◌}
-use mathlib.Core.Path.{◌≡◌}
 use native.Mathlib.Omega.{arith}
-use borrow.Author.Rules.{rules}
-use lib.ListN.{length, drop}
-use Rattle.tables.specs.Pages.{free_pages}
 use Rattle.tables.proofs.Folds.{free_on, free-done}
 use Rattle.tables.proofs.pages.count_free.Goals as goal
 

@@ -1,10 +1,7 @@
 use Prim.Native.Nat.{◌+◌, ◌-◌, ◌≤◌}
 use mathlib.Core.Path.{◌≡◌}
-use native.Mathlib.Omega.{arith}
-use borrow.Author.Rules.{rules}
 use lib.ListN.{length, drop}
 use Rattle.tables.specs.Pages.{free_pages}
-use Rattle.tables.proofs.Folds.{free_on, free-done}
 use Rattle.tables.proofs.pages.count_free.Given as goal
 
 abbrev pub invariant-loop-page : goal.invariant-loop-page

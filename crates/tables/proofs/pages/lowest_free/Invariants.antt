@@ -1,10 +1,7 @@
 use Prim.Native.Nat.{◌+◌, ◌-◌, ◌≤◌}
 use mathlib.Core.Path.{◌≡◌}
-use native.Mathlib.Omega.{arith}
-use borrow.Author.Rules.{rules}
 use lib.ListN.{length, drop}
 use Rattle.tables.specs.Pages.{lowest}
-use Rattle.tables.proofs.Folds.{lowest-here, lowest-on, lowest-done}
 use Rattle.tables.proofs.pages.lowest_free.Given as goal
 
 abbrev pub invariant-loop-page : goal.invariant-loop-page

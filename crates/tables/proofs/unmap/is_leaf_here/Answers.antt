@@ -1,4 +1,3 @@
-use borrow.Author.Rules.{rules}
 use Rattle.tables.proofs.unmap.is_leaf_here.Goals as goal
 
 pub returns : goal.returns

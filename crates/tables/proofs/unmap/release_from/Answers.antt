@@ -1,12 +1,7 @@
-use Prim.Native.Nat.{◌+◌}
-use mathlib.Core.Bool.{true, false, not}
-use mathlib.Core.Path.{◌≡◌, refl, sym, ◌∙◌}
+use mathlib.Core.Path.{refl, sym, ◌∙◌}
 use native.Mathlib.Omega.{arith}
 use borrow.Author.Rules.{rules}
-use borrow.Author.Tests.{not-true, not-false}
-use lib.ListN.{length}
 use Rattle.tables.specs.Tables.{tables}
-use Rattle.tables.specs.Unmapped.{freed_tables}
 use Rattle.tables.proofs.Changes.{released-on, released-stop, released-done}
 use Rattle.tables.proofs.unmap.release_from.Goals as goal
 

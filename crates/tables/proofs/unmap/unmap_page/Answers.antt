@@ -1,6 +1,4 @@
 use mathlib.Core.Path.{sym, ◌∙◌}
-use borrow.Author.Rules.{rules}
-use borrow.Author.Tests.{not-true, not-false}
 use Rattle.tables.specs.Tables.{tables}
 use Rattle.tables.proofs.Changes.{no-leaf, taken_out}
 use Rattle.tables.proofs.unmap.unmap_page.Goals as goal

@@ -1,11 +1,10 @@
-use Prim.Native.Nat.{ℕ, ◌-◌, ◌<◌, ◌≤◌, ◌^◌}
+use Prim.Native.Nat.{ℕ, ◌-◌}
 use mathlib.Core.Bool.{Bool}
 use mathlib.Core.Path.{◌≡◌, refl, ap, sym, ◌∙◌}
 use native.Mathlib.Omega.{arith}
-use borrow.Author.Rules.{rules}
 use Rattle.dma.specs.Walk.{place_in}
 use Rattle.tables.specs.Tables.{held_entry, table_of}
-use Rattle.tables.specs.Way.{ends, way_to, way}
+use Rattle.tables.specs.Way.{ends, way_to}
 use Rattle.tables.proofs.Folds.{way-ends, way_on, way-done, made-stop}
 use Rattle.tables.proofs.way.way_to.Goals.{After-ends}
 use Rattle.tables.proofs.way.way_to.Goals as goal
@@ -20,7 +19,7 @@ pub place_of-at-requires-2 : goal.place_of-at-requires-2
 place_of-at-requires-2 c = let l = c.loop-below in (omega (arith, l.invariant.3), omega arith)
 
 read : (c : After-ends) → c.entry_of-entry.result
-      ≡ held_entry c.args.bytes.now (place_in c.args.place c.loop-below.table c.loop-below.below)
+    ≡ held_entry c.args.bytes.now (place_in c.args.place c.loop-below.table c.loop-below.below)
 read c = c.entry_of-entry.ensures ∙ ap (held_entry _) c.place_of-at.ensures.0
 
 -- the entry that a turn reads, and whether the way ends there

@@ -1,12 +1,6 @@
-use Prim.Native.Nat.{ℕ, ◌-◌, ◌<◌, ◌≤◌, ◌^◌}
-use mathlib.Core.Bool.{Bool}
-use mathlib.Core.Path.{◌≡◌, refl, ap, sym, ◌∙◌}
-use native.Mathlib.Omega.{arith}
-use borrow.Author.Rules.{rules}
-use Rattle.dma.specs.Walk.{place_in}
-use Rattle.tables.specs.Tables.{held_entry, table_of}
-use Rattle.tables.specs.Way.{ends, way_to, way}
-use Rattle.tables.proofs.Folds.{way-ends, way_on, way-done, made-stop}
+use Prim.Native.Nat.{◌<◌, ◌≤◌, ◌^◌}
+use mathlib.Core.Path.{◌≡◌}
+use Rattle.tables.specs.Way.{way_to, way}
 use Rattle.tables.proofs.way.way_to.Given as goal
 
 -- What is left of the way leads where the whole way does.
