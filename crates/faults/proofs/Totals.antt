@@ -11,7 +11,7 @@ use Rattle.image.specs.Bits.{bits}
 use Rattle.image.specs.Bytes.{little_endian}
 use Rattle.std.specs.Prelude.{if◌then◌else◌}
 use Rattle.image.specs.Choice.{one-if}
-use Rattle.faults.specs.Recorder.{State, After, leaves, out_of_place, recording, clearing, clearing_overflow, written, slot_cleared, slot_clear}
+use Rattle.faults.specs.Recorder.{State, After, leaves, out_of_place, recording, clearing, clearing_overflow, written, slot_cleared}
 use Rattle.faults.specs.Slots.{slots_in, record_at, standing, standing_in, set127, clear127}
 use Rattle.faults.specs.Total.{Call, record_fault, clear_slot, clear_overflow, call, left, answered, zeroed, OneLength, Total}
 use Rattle.faults.proofs.Recording.{neither, in_place_lem, counted}

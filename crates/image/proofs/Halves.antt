@@ -1,5 +1,5 @@
 -- An entry of 32 bytes, by its two halves.
-use Rattle.std.proofs.Common.{◌≡◌, ℕ, zero, ◌+◌, ◌*◌, ◌^◌, [], ◌∷◌, sym, refl, ap, ◌∙◌, add-zero, add_assoc, mul-zero, mul-add}
+use Rattle.std.proofs.Common.{◌≡◌, ℕ, ◌+◌, ◌*◌, ◌^◌, [], ◌∷◌, sym, refl, ap, ◌∙◌, add-zero, add_assoc, mul-zero, mul-add}
 use Rattle.image.specs.Bytes.{spell}
 use Rattle.image.specs.Memory.{Memory, Fetched, missing, found, join, entry}
 

@@ -1,5 +1,5 @@
 -- More memory: what a request names over a memory is the same in one that has all its words and more.
-use Rattle.std.proofs.Common.{◌≡◌, ℕ, zero, suc, ◌+◌, ◌-◌, ◌*◌, ◌%◌, ◌≤◌, List, [], ◌∷◌, ◌++◌, length, take, drop, sym, refl, ap, ◌∙◌, arith, length-append, length-drop}
+use Rattle.std.proofs.Common.{◌≡◌, ℕ, zero, suc, ◌+◌, ◌-◌, ◌*◌, ◌%◌, ◌≤◌, List, [], ◌∷◌, ◌++◌, length, take, drop, sym, refl, ◌∙◌, arith, length-append, length-drop}
 use lib.Seq.{take-append-le, drop-append-le}
 use Rattle.image.specs.Alike.{Extends}
 use Rattle.image.specs.EntryKind.{EntryKind, words_of}

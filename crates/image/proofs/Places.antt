@@ -1,5 +1,5 @@
 -- Laws of where the rules stopped, for every rules tree.
-use Rattle.std.proofs.Common.{◌≡◌, ℕ, [], ◌++◌, sym, refl, ap, ◌∙◌, arith}
+use Rattle.std.proofs.Common.{◌≡◌, ℕ, [], ◌++◌, refl, ap, arith}
 use Rattle.image.specs.Check.{Check, stop, go, on_check}
 use Rattle.image.specs.Answers.{place_of}
 use Rattle.image.specs.EntryKind.{EntryKind, words_of}

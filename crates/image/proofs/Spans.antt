@@ -1,5 +1,5 @@
 -- Windows as the code's fetches use them: the window of a span is one of the windows lent.
-use Rattle.std.proofs.Common.{◌≡◌, ℕ, ◌+◌, ◌-◌, ◌*◌, ◌%◌, ◌^◌, ◌<◌, ◌≤◌, true, false, List, [], ◌∷◌, length, drop, sym, subst, refl, ◌∙◌, arith}
+use Rattle.std.proofs.Common.{◌≡◌, ℕ, ◌+◌, ◌*◌, ◌%◌, ◌^◌, ◌<◌, ◌≤◌, true, false, List, [], ◌∷◌, length, drop, sym, subst, refl, ◌∙◌, arith}
 use native.Mathlib.Decide.{dec_le}
 use Rattle.image.specs.Spans.{window_by, Opened, Holds}
 use Rattle.image.specs.Answers.{HeldBy}

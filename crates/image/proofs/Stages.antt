@@ -1,9 +1,9 @@
 -- Laws of a stage: what it answers once its entry is known, and what holds of it whatever the entry is.
-use Rattle.std.proofs.Common.{◌≡◌, ℕ, sym, refl, ap, ◌∙◌}
+use Rattle.std.proofs.Common.{◌≡◌, ℕ, refl, ap}
 use Rattle.image.specs.Check.{Check, stop, go, on_check}
 use Rattle.image.specs.EntryKind.{EntryKind, words_of}
 use Rattle.image.specs.Memory.{Memory, Fetched, missing, found, entry, on_fetch}
-use Rattle.image.specs.Rules.{Rules, answer, fetch, run}
+use Rattle.image.specs.Rules.{Rules, answer, run}
 use Rattle.image.specs.Stage.{stage}
 
 -- rules that only answer

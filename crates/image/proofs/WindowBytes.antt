@@ -1,5 +1,5 @@
 -- Bytes by host address: two windows never share one, and those of a word stand side by side in the run.
-use Rattle.std.proofs.Common.{◌≡◌, ℕ, zero, suc, ◌+◌, ◌-◌, ◌<◌, ◌≤◌, Bool, true, false, List, [], ◌∷◌, length, get_or, take, drop, sym, refl, ap, ◌∙◌, arith}
+use Rattle.std.proofs.Common.{◌≡◌, ℕ, zero, suc, ◌+◌, ◌-◌, ◌<◌, ◌≤◌, Bool, true, false, List, [], ◌∷◌, length, get_or, take, drop, refl, ap, ◌∙◌, arith}
 use native.Mathlib.Decide.{dec_le}
 use Rattle.std.specs.Prelude.{if◌then◌else◌}
 use Rattle.image.specs.Windows.{Window, windows_of, end_of, holds_all, here, spot_in, byte_at, bad_windows}

@@ -5,7 +5,7 @@ use native.Mathlib.Decide.{dec_le}
 use borrow.Author.Tests.{lt-leb}
 use Rattle.image.specs.Bytes.{little_endian, spell}
 use Rattle.std.specs.Prelude.{if◌then◌else◌}
-use Rattle.image.specs.Memory.{Memory, Fetched, missing, found, join, word_at, of_image, entry}
+use Rattle.image.specs.Memory.{Memory, Fetched, missing, found, word_at, of_image, entry}
 use Rattle.image.specs.Windows.{Window, windows_of, end_of, holds_all, Spot, nowhere, here, on_spot, spot_in, entry_in, of_windows, page_from, bad_window, bad_windows}
 use Rattle.image.specs.Spans.{window_by, Holds, Stands}
 use Rattle.image.specs.Answers.{HeldBy, PlacedBy}

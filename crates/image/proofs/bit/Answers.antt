@@ -1,4 +1,3 @@
-use Rattle.std.proofs.Common.{rules}
 use Rattle.image.proofs.bit.Goals as goal
 
 pub returns : goal.returns

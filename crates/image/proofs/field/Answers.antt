@@ -1,4 +1,4 @@
-use Rattle.std.proofs.Common.{◌≡◌, suc, ◌+◌, ◌-◌, sym, ⊎_elim, arith, pow_pos, rules, ltb-false, ltb-true}
+use Rattle.std.proofs.Common.{◌≡◌, suc, ◌+◌, ◌-◌, sym, ⊎_elim, arith, pow_pos, ltb-false, ltb-true}
 use Rattle.image.specs.Bits.{bits}
 use Rattle.image.proofs.Fields.{past_top, upside-down, to-top, shifted_one}
 use Rattle.image.proofs.field.Goals as goal

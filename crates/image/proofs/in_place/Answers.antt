@@ -1,4 +1,4 @@
-use Rattle.std.proofs.Common.{◌^◌, sym, lt_of_le_of_lt, mod-eq_of_lt, zero-mul, arith, rules}
+use Rattle.std.proofs.Common.{◌^◌, sym, lt_of_le_of_lt, mod-eq_of_lt, zero-mul, arith}
 use Rattle.image.proofs.Fields.{past_top, in-place-le}
 use Rattle.image.proofs.in_place.Goals as goal
 

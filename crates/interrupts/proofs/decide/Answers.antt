@@ -1,5 +1,4 @@
 use mathlib.Core.Path.{ap, ap₂, sym, ◌∙◌}
-use borrow.Author.Rules.{rules}
 use Rattle.image.specs.Place.{stopped_at}
 use Rattle.image.specs.Windows.{of_windows}
 use Rattle.interrupts.specs.Interrupts.{concerned, interrupt_rules}

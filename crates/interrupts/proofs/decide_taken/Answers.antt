@@ -1,5 +1,4 @@
 use mathlib.Core.Path.{refl, ap, ◌∙◌, subst}
-use borrow.Author.Rules.{rules}
 use Rattle.image.specs.Place.{Place}
 use Rattle.image.specs.Windows.{of_windows}
 use Rattle.interrupts.specs.Answers.{DeliveryNames}

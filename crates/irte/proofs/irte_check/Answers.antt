@@ -1,5 +1,4 @@
-use mathlib.Core.Path.{◌≡◌, refl, ap, sym, ◌∙◌}
-use borrow.Author.Rules.{rules}
+use mathlib.Core.Path.{refl}
 use Rattle.irte.specs.Irte.{irte_check}
 use Rattle.irte.proofs.irte_check.Goals as goal
 

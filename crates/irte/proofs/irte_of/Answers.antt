@@ -1,6 +1,5 @@
 use mathlib.Core.Path.{refl, ap}
 use native.Mathlib.Omega.{arith}
-use borrow.Author.Rules.{rules}
 use Rattle.image.specs.Bits.{bits}
 use Rattle.irte.specs.Irte as irte
 use Rattle.irte.proofs.irte_of.Goals as goal
@@ -20,6 +19,6 @@ pub returns : goal.returns
 returns c =
     record {
       result_value = rw (← c.bit16.ensures, c.if-bit16.false)
-      (ap (λ (r : irte.Remapped). irte.asks (irte.remaps r)) c.remapped_by.ensures);
+          (ap (λ (r : irte.Remapped). irte.asks (irte.remaps r)) c.remapped_by.ensures);
       irte_names = λ place. refl;
     }

@@ -2,8 +2,7 @@ use mathlib.Core.List.{List}
 use mathlib.Core.Path.{ap, sym, ◌∙◌}
 use Prim.Native.Nat.{ℕ}
 use native.Mathlib.Omega.{arith}
-use borrow.Author.Rules.{rules}
-use lib.ListN.{take, length-take}
+use lib.ListN.{length-take}
 use lib.Seq.{take_all}
 use Rattle.image.specs.Windows.{bad_windows}
 use Rattle.refused.proofs.bad_first.Goals as goal

@@ -1,4 +1,3 @@
-use borrow.Author.Rules.{rules}
 use borrow.Author.Tests.{eq-eqb, ne_eqb}
 use Rattle.refused.specs.FirstBad.{first_bad}
 use Rattle.refused.proofs.first_bad.Goals as goal

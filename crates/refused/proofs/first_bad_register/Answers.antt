@@ -1,7 +1,6 @@
 use Prim.Native.Nat.{ℕ}
 use mathlib.Core.Bool.{not}
 use mathlib.Core.Path.{◌≡◌, refl, sym, ap, ◌∙◌}
-use borrow.Author.Rules.{rules}
 use Rattle.registers.specs.declared.Registers.{Registers}
 use Rattle.refused.specs.FirstBad.{first_bad_register}
 use Rattle.refused.proofs.Lines.{passed, decided, mgaw_on, levels_on, root_on, interrupt_on, s_on, s-outside, s-inside}

@@ -1,7 +1,6 @@
 use Prim.Native.Nat.{ℕ}
 use mathlib.Core.List.{List}
 use mathlib.Core.Path.{◌≡◌, refl, sym, ◌∙◌}
-use borrow.Author.Rules.{rules}
 use Rattle.refused.specs.FirstBad.{first_bad_window}
 use Rattle.refused.proofs.Lines.{passed, decided, second_on, third_on, fourth_on, fifth_on}
 use Rattle.refused.proofs.first_bad_window.Goals.{Else-bad_first, Else-bad_first-2, Else-bad_first-3, Else-bad_first-4}

@@ -1,4 +1,3 @@
-use borrow.Author.Rules.{rules}
 use Rattle.registers.proofs.bad_table.Goals as goal
 
 pub returns : goal.returns

@@ -1,5 +1,4 @@
 use native.Mathlib.Omega.{arith}
-use borrow.Author.Rules.{rules}
 use Rattle.faults.proofs.fault.high_word.Goals as goal
 
 pub returns-then-read : goal.returns-then-read

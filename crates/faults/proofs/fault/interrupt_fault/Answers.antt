@@ -1,4 +1,3 @@
-use borrow.Author.Rules.{rules}
 use Rattle.faults.proofs.Contents.{interrupt-answered}
 use Rattle.faults.proofs.fault.interrupt_fault.Goals as goal
 

@@ -1,4 +1,3 @@
-use borrow.Author.Rules.{rules}
 use Rattle.faults.specs.Record.{silenced}
 use Rattle.faults.proofs.fault.is_silenced.Goals as goal
 

@@ -1,4 +1,3 @@
-use borrow.Author.Rules.{rules}
 use Rattle.faults.proofs.Contents.{memory-answered}
 use Rattle.faults.proofs.fault.memory_fault.Goals as goal
 

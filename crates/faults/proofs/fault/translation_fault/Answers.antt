@@ -1,5 +1,4 @@
 use mathlib.Core.Path.{refl}
-use borrow.Author.Rules.{rules}
 use Rattle.faults.proofs.Contents.{translation-answered}
 use Rattle.faults.proofs.fault.translation_fault.Goals as goal
 

@@ -1,6 +1,5 @@
 use mathlib.Core.Path.{◌∙◌}
 use native.Mathlib.Omega.{arith}
-use borrow.Author.Rules.{rules}
 use borrow.Author.Tests.{le-leb, lt-leb}
 use Rattle.faults.specs.Recorder.{clearing_overflow}
 use Rattle.faults.proofs.recorder.after_clear_overflow.Goals as goal

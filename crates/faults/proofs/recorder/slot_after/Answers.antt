@@ -1,7 +1,6 @@
 use Prim.Native.Nat.{zero, ◌+◌, ◌<◌}
 use native.Mathlib.Nat.{mod-lt}
 use native.Mathlib.Omega.{arith}
-use borrow.Author.Rules.{rules}
 use Rattle.faults.proofs.recorder.slot_after.Goals as goal
 
 -- A slot is below 256.

@@ -1,4 +1,3 @@
-use borrow.Author.Rules.{rules}
 use Rattle.faults.proofs.Buffer.{standing-byte}
 use Rattle.faults.proofs.slots.is_standing.Goals as goal
 

@@ -1,5 +1,4 @@
 use mathlib.Core.Path.{◌∙◌}
-use borrow.Author.Rules.{rules}
 use Rattle.faults.proofs.Buffer.{two-stored}
 use Rattle.faults.proofs.slots.write_record.Goals as goal
 

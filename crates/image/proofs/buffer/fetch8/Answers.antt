@@ -1,4 +1,4 @@
-use Rattle.std.proofs.Common.{◌≡◌, [], ◌∷◌, sym, refl, ap, ◌∙◌, arith, rules}
+use Rattle.std.proofs.Common.{[], ◌∷◌, sym, refl, ap, ◌∙◌, arith}
 use Rattle.image.specs.Memory.{found}
 use Rattle.image.proofs.Words.{words_in, fetched, outside, spell_one}
 use Rattle.image.proofs.buffer.fetch8.Goals as goal

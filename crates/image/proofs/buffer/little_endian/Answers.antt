@@ -1,4 +1,4 @@
-use Rattle.std.proofs.Common.{◌≡◌, ◌+◌, ◌-◌, ◌*◌, ◌%◌, ◌^◌, ◌<◌, ◌≤◌, length, get_or, take, drop, refl, arith, length-drop, get_or-drop, rules}
+use Rattle.std.proofs.Common.{◌≡◌, ◌+◌, ◌*◌, ◌%◌, ◌^◌, ◌<◌, length, get_or, take, drop, refl, arith, length-drop, get_or-drop}
 use Rattle.image.specs.Bytes.{little_endian}
 use Rattle.image.specs.Memory.{word_at}
 use Rattle.image.proofs.Bytes.{AreBytes, gathered, gathered-below}

@@ -1,7 +1,5 @@
-use Rattle.std.proofs.Common.{◌≡◌, ◌+◌, ◌-◌, ◌*◌, ◌%◌, ◌^◌, ◌<◌, ◌≤◌, length, get_or, take, drop, refl, arith, length-drop, get_or-drop, rules}
+use Rattle.std.proofs.Common.{◌≡◌, ◌-◌, ◌≤◌, take, drop}
 use Rattle.image.specs.Bytes.{little_endian}
-use Rattle.image.specs.Memory.{word_at}
-use Rattle.image.proofs.Bytes.{AreBytes, gathered, gathered-below}
 use Rattle.image.proofs.buffer.little_endian.Given as goal
 
 -- The loop has gathered the word's lowest i bytes.

@@ -1,4 +1,4 @@
-use Rattle.std.proofs.Common.{sym, ◌∙◌, arith, rules}
+use Rattle.std.proofs.Common.{sym, ◌∙◌, arith}
 use Rattle.image.proofs.Stores.{stored, not-stored}
 use Rattle.image.proofs.buffer.store8.Goals as goal
 

@@ -1,5 +1,5 @@
-use Rattle.std.proofs.Common.{◌≡◌, ◌-◌, ◌/◌, ◌^◌, ◌≤◌, length, sym, refl, ◌∙◌, div-one, arith, length-set, rules}
-use lib.Seq.{paste, paste-zero}
+use Rattle.std.proofs.Common.{sym, refl, ◌∙◌, div-one, arith, length-set}
+use lib.Seq.{paste-zero}
 use Rattle.image.specs.Bytes.{bytes_of}
 use Rattle.image.proofs.Bytes.{all-bytes, next-byte, next-rest}
 use Rattle.image.proofs.buffer.store_word.Goals as goal

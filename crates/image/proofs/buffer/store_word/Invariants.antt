@@ -1,7 +1,6 @@
-use Rattle.std.proofs.Common.{◌≡◌, ◌-◌, ◌/◌, ◌^◌, ◌≤◌, length, sym, refl, ◌∙◌, div-one, arith, length-set, rules}
-use lib.Seq.{paste, paste-zero}
+use Rattle.std.proofs.Common.{◌≡◌, ◌-◌, ◌/◌, ◌^◌, ◌≤◌, length}
+use lib.Seq.{paste}
 use Rattle.image.specs.Bytes.{bytes_of}
-use Rattle.image.proofs.Bytes.{all-bytes, next-byte, next-rest}
 use Rattle.image.proofs.buffer.store_word.Given as goal
 
 -- The loop has laid the word's first i bytes into the image; rest holds those that are left.

@@ -1,4 +1,4 @@
-use Rattle.std.proofs.Common.{ℕ, sym, ap, ◌∙◌, rules}
+use Rattle.std.proofs.Common.{ℕ, sym, ap, ◌∙◌}
 use Rattle.image.specs.Answers.{fetched8}
 use Rattle.image.specs.Memory.{Fetched, on_fetch}
 use Rattle.image.proofs.buffer.word_or_zero.Goals as goal

@@ -1,4 +1,4 @@
-use Rattle.std.proofs.Common.{arith, rules}
+use Rattle.std.proofs.Common.{arith}
 use Rattle.image.specs.Spans.{window_by}
 use Rattle.image.proofs.GoodWindows.{one-test}
 use Rattle.image.proofs.entries.contains.Goals as goal

@@ -1,4 +1,4 @@
-use Rattle.std.proofs.Common.{refl, arith, rules}
+use Rattle.std.proofs.Common.{refl, rules}
 use Rattle.image.proofs.WindowEntries.{Placing, placed-room, placed-entry, placed-missing}
 use Rattle.image.proofs.entries.fetch64.Goals.{After-place_of}
 use Rattle.image.proofs.entries.fetch64.Goals as goal

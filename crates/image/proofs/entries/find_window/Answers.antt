@@ -1,4 +1,3 @@
-use Rattle.std.proofs.Common.{arith, rules}
 use Rattle.image.proofs.GoodWindows.{three-each}
 use Rattle.image.proofs.entries.find_window.Goals as goal
 

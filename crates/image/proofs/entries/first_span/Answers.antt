@@ -1,4 +1,4 @@
-use Rattle.std.proofs.Common.{sym, arith, rules}
+use Rattle.std.proofs.Common.{sym, arith}
 use Rattle.image.proofs.Spans.{no-window}
 use Rattle.image.proofs.entries.first_span.Goals as goal
 

@@ -1,4 +1,4 @@
-use Rattle.std.proofs.Common.{◌≡◌, drop, sym, ◌∙◌, arith, rules}
+use Rattle.std.proofs.Common.{◌≡◌, drop, sym, ◌∙◌, arith}
 use Rattle.image.specs.Windows.{windows_of, spot_in}
 use Rattle.image.proofs.GoodWindows.{three-each, spot-none-left}
 use Rattle.image.proofs.Spans.{spanned, spanned-top, passed-by, among}

@@ -1,4 +1,4 @@
-use Rattle.std.proofs.Common.{[], ◌∷◌, arith, rules}
+use Rattle.std.proofs.Common.{[], ◌∷◌, arith}
 use Rattle.image.proofs.Words.{words_in, read-words}
 use Rattle.image.proofs.entries.load16.Goals as goal
 

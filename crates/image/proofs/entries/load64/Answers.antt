@@ -1,4 +1,4 @@
-use Rattle.std.proofs.Common.{add_assoc, arith, rules}
+use Rattle.std.proofs.Common.{add_assoc, arith}
 use Rattle.image.proofs.Words.{words_in, read-words}
 use Rattle.image.proofs.entries.load64.Goals as goal
 

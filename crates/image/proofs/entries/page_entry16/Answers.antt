@@ -1,4 +1,4 @@
-use Rattle.std.proofs.Common.{length, arith, rules}
+use Rattle.std.proofs.Common.{length}
 use Rattle.image.proofs.GoodWindows.{three-each}
 use Rattle.image.proofs.entries.page_entry16.Goals as goal
 

@@ -1,4 +1,4 @@
-use Rattle.std.proofs.Common.{refl, arith, rules}
+use Rattle.std.proofs.Common.{refl, rules}
 use Rattle.image.proofs.WindowEntries.{Paging, page-begins, page-room, page-entry, page-missing}
 use Rattle.image.proofs.entries.page_entry16_by.Goals.{After-window_of}
 use Rattle.image.proofs.entries.page_entry16_by.Goals as goal

@@ -1,4 +1,4 @@
-use Rattle.std.proofs.Common.{◌≡◌, ◌+◌, sym, refl, ap, ◌∙◌, arith, rules}
+use Rattle.std.proofs.Common.{◌≡◌, ◌+◌, sym, refl, ap, ◌∙◌, arith}
 use Rattle.image.specs.Windows.{of_windows}
 use Rattle.image.specs.Memory.{entry}
 use Rattle.image.specs.Answers.{fetched16}

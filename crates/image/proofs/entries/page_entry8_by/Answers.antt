@@ -1,4 +1,4 @@
-use Rattle.std.proofs.Common.{refl, arith, rules}
+use Rattle.std.proofs.Common.{refl, rules}
 use Rattle.image.specs.Bytes.{little_endian}
 use Rattle.image.specs.Memory.{word_at}
 use Rattle.image.specs.Memory.{word_at}

@@ -1,4 +1,4 @@
-use Rattle.std.proofs.Common.{subst, arith, rules}
+use Rattle.std.proofs.Common.{subst}
 use Rattle.image.specs.Answers.{PlacedBy}
 use Rattle.image.specs.Windows.{windows_of}
 use Rattle.image.specs.declared.entries.Placed.{Placed}

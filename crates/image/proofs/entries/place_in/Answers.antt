@@ -1,4 +1,4 @@
-use Rattle.std.proofs.Common.{refl, arith, rules}
+use Rattle.std.proofs.Common.{refl, arith}
 use Rattle.image.specs.Spans.{window_by}
 use Rattle.image.proofs.GoodWindows.{one-sum}
 use Rattle.image.proofs.entries.place_in.Goals as goal

@@ -1,4 +1,4 @@
-use Rattle.std.proofs.Common.{◌+◌, ◌-◌, subst, arith, rules}
+use Rattle.std.proofs.Common.{◌+◌, ◌-◌, subst, arith}
 use Rattle.image.specs.Spans.{window_by, Holds}
 use Rattle.image.specs.Answers.{HeldBy}
 use Rattle.image.specs.Windows.{windows_of, end_of}

@@ -1,4 +1,4 @@
-use Rattle.std.proofs.Common.{◌≡◌, ◌+◌, ◌-◌, ◌<◌, ◌≤◌, min, length, arith, rules}
+use Rattle.std.proofs.Common.{◌≡◌, ◌+◌, ◌-◌, ◌<◌, ◌≤◌, min, length, arith}
 use Rattle.image.specs.Spans.{window_by}
 use Rattle.image.specs.Windows.{end_of, page_from}
 use Rattle.image.proofs.GoodWindows.{held, good-window}

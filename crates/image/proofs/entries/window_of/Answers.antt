@@ -1,4 +1,4 @@
-use Rattle.std.proofs.Common.{drop, sym, ◌∙◌, arith, rules}
+use Rattle.std.proofs.Common.{drop, sym, ◌∙◌}
 use Rattle.image.specs.Windows.{windows_of}
 use Rattle.image.proofs.Spans.{first-top, first-held, first_past, held-among}
 use Rattle.image.proofs.entries.window_of.Goals as goal

@@ -1,4 +1,3 @@
-use Rattle.std.proofs.Common.{rules}
 use Rattle.image.proofs.entry_fields.any_set16.Goals as goal
 
 pub returns : goal.returns

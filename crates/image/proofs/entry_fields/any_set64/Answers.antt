@@ -1,4 +1,3 @@
-use Rattle.std.proofs.Common.{rules}
 use Rattle.image.specs.Bits.{bits, in_one_word}
 use Rattle.image.specs.Answers.{number64}
 use Rattle.image.proofs.WordFields.{any-in-word}

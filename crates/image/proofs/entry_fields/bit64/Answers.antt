@@ -1,4 +1,4 @@
-use Rattle.std.proofs.Common.{◌/◌, refl, rules, eq-eqb}
+use Rattle.std.proofs.Common.{◌/◌, refl, eq-eqb}
 use Rattle.image.proofs.entry_fields.bit64.Goals as goal
 
 pub returns : goal.returns

@@ -1,4 +1,4 @@
-use Rattle.std.proofs.Common.{◌∙◌, arith, rules}
+use Rattle.std.proofs.Common.{◌∙◌, arith}
 use Rattle.image.specs.Answers.{words64}
 use Rattle.image.proofs.Stores.{Words}
 use Rattle.image.proofs.WordFields.{in-word}

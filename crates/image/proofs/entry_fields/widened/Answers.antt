@@ -1,4 +1,4 @@
-use Rattle.std.proofs.Common.{refl, rules}
+use Rattle.std.proofs.Common.{refl}
 use Rattle.image.specs.Bytes.{spell}
 use Rattle.image.proofs.entry_fields.widened.Goals as goal
 

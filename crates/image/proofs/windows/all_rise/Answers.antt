@@ -1,5 +1,4 @@
-use Rattle.std.proofs.Common.{◌≡◌, drop, sym, ◌∙◌, arith, rules}
-use borrow.Author.Tests.{not-true, not-false}
+use Rattle.std.proofs.Common.{◌≡◌, drop, sym, ◌∙◌, arith}
 use Rattle.image.specs.Windows.{windows_of}
 use Rattle.image.specs.WindowRow.{rising}
 use Rattle.image.proofs.WindowRows.{rising-stop-at, rising-go-at, rising-last-at, rising-pair, row-part-at}

@@ -1,4 +1,4 @@
-use Rattle.std.proofs.Common.{◌≡◌, sym, ◌∙◌, arith, rules}
+use Rattle.std.proofs.Common.{◌∙◌, arith}
 use Rattle.image.proofs.WindowRows.{one-shares, two-share}
 use Rattle.image.proofs.windows.any_share.Goals as goal
 

@@ -1,4 +1,4 @@
-use Rattle.std.proofs.Common.{◌≡◌, ◌+◌, sym, ◌∙◌, arith, rules}
+use Rattle.std.proofs.Common.{◌+◌, sym, ◌∙◌, arith}
 use Rattle.image.specs.Windows.{window_at}
 use Rattle.image.proofs.WindowRows.{part-last, good-part, last-is}
 use Rattle.image.proofs.windows.bad_last.Goals as goal

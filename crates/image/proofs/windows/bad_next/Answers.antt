@@ -1,4 +1,4 @@
-use Rattle.std.proofs.Common.{◌≡◌, ◌+◌, sym, ◌∙◌, arith, rules}
+use Rattle.std.proofs.Common.{◌+◌, sym, ◌∙◌}
 use Rattle.image.specs.Windows.{window_at}
 use Rattle.image.proofs.WindowRows.{part-next, next-wraps, next-is}
 use Rattle.image.proofs.windows.bad_next.Goals as goal

@@ -1,4 +1,4 @@
-use Rattle.std.proofs.Common.{◌+◌, arith, rules}
+use Rattle.std.proofs.Common.{◌+◌, arith}
 use Rattle.image.specs.Windows.{window_at}
 use Rattle.image.proofs.WindowRows.{part_off, part-wraps, part-is}
 use Rattle.image.proofs.windows.bad_part.Goals as goal

@@ -1,4 +1,4 @@
-use Rattle.std.proofs.Common.{◌≡◌, drop, sym, ◌∙◌, arith, rules}
+use Rattle.std.proofs.Common.{◌≡◌, drop, sym, ◌∙◌, arith}
 use Rattle.image.specs.Windows.{windows_of}
 use Rattle.image.specs.WindowRow.{bad_row}
 use Rattle.image.proofs.WindowRows.{row-stop-at, row-go-at, row-last-at}

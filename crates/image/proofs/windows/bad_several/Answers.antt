@@ -1,4 +1,4 @@
-use Rattle.std.proofs.Common.{◌≡◌, ◌%◌, ◌≤◌, length, sym, ◌∙◌, arith, rules}
+use Rattle.std.proofs.Common.{◌≡◌, ◌%◌, ◌≤◌, length, sym, ◌∙◌, arith}
 use Rattle.image.proofs.WindowRows.{none-bad, counts-badly, few-threes, row-tells, rising-tells, sharing-tells}
 use Rattle.image.proofs.windows.bad_several.Goals.{Else-bad_count}
 use Rattle.image.proofs.windows.bad_several.Goals as goal

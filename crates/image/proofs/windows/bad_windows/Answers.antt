@@ -1,4 +1,4 @@
-use Rattle.std.proofs.Common.{◌∙◌, arith, rules}
+use Rattle.std.proofs.Common.{◌∙◌, arith}
 use Rattle.image.proofs.WindowRows.{one-tells}
 use Rattle.image.proofs.windows.bad_windows.Goals as goal
 

@@ -1,4 +1,4 @@
-use Rattle.std.proofs.Common.{arith, rules}
+use Rattle.std.proofs.Common.{arith}
 use Rattle.image.specs.Windows.{window_at}
 use Rattle.image.proofs.WindowRows.{not-rising, rising-is}
 use Rattle.image.proofs.windows.rises_to.Goals as goal

@@ -1,4 +1,4 @@
-use Rattle.std.proofs.Common.{◌≡◌, sym, ◌∙◌, rules}
+use Rattle.std.proofs.Common.{sym, ◌∙◌}
 use Rattle.image.specs.Windows.{window_at}
 use Rattle.image.proofs.WindowRows.{no-share, share-is}
 use Rattle.image.proofs.windows.shares.Goals as goal

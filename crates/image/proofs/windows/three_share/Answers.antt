@@ -1,4 +1,4 @@
-use Rattle.std.proofs.Common.{◌≡◌, sym, ◌∙◌, rules}
+use Rattle.std.proofs.Common.{sym, ◌∙◌}
 use Rattle.image.proofs.WindowRows.{three-share}
 use Rattle.image.proofs.windows.three_share.Goals as goal
 

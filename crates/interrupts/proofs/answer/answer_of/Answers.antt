@@ -1,5 +1,4 @@
 use mathlib.Core.Path.{refl, ap, subst}
-use borrow.Author.Rules.{rules}
 use Rattle.interrupts.specs.Answers.{DeliveryNames}
 use Rattle.interrupts.specs.Interrupts.{blocked}
 use Rattle.interrupts.proofs.answer.answer_of.Goals as goal

@@ -1,5 +1,4 @@
 use mathlib.Core.Path.{refl}
-use borrow.Author.Rules.{rules}
 use Rattle.interrupts.specs.Descriptor.{descriptor_check}
 use Rattle.interrupts.proofs.descriptor.descriptor_check.Goals as goal
 

@@ -1,6 +1,5 @@
 use Prim.Native.Nat.{◌^◌}
 use native.Mathlib.Nat.{lt_of_lt_of_le}
-use borrow.Author.Rules.{rules}
 use lib.Dec.{lit≤}
 use Rattle.image.specs.Answers.{number64}
 use Rattle.image.proofs.Fields.{fits}

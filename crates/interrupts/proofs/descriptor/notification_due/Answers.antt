@@ -1,4 +1,3 @@
-use borrow.Author.Rules.{rules}
 use Rattle.interrupts.proofs.descriptor.notification_due.Goals as goal
 
 pub returns : goal.returns

@@ -1,5 +1,3 @@
-use borrow.Author.Rules.{rules}
-use borrow.Author.Tests.{not-true, not-false}
 use Rattle.image.specs.Answers.{number64}
 use Rattle.image.proofs.Fields.{fits}
 use Rattle.interrupts.proofs.descriptor.notification_of.Goals as goal

@@ -1,4 +1,3 @@
-use borrow.Author.Rules.{rules}
 use Rattle.interrupts.proofs.descriptor.reserved_descriptor.Goals as goal
 
 pub returns : goal.returns

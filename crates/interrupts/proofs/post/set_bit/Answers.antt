@@ -1,7 +1,6 @@
 use Prim.Native.Nat.{◌+◌, ◌/◌, ◌%◌}
 use mathlib.Core.Path.{ap}
 use native.Mathlib.Omega.{arith}
-use borrow.Author.Rules.{rules}
 use lib.ListN.{get_or, set}
 use Rattle.interrupts.specs.Post.{set_bit}
 use Rattle.interrupts.proofs.Posts.{with-bit}

@@ -1,5 +1,4 @@
 use mathlib.Core.Path.{refl, ap, sym, ◌∙◌}
-use borrow.Author.Rules.{rules}
 use Rattle.image.specs.Windows.{of_windows}
 use Rattle.image.specs.Answers.{fetched64}
 use Rattle.interrupts.specs.Answers.{descriptor_checked}

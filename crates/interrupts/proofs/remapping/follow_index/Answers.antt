@@ -1,6 +1,5 @@
 use Prim.Native.Nat.{◌+◌, ◌*◌}
 use mathlib.Core.Path.{◌≡◌, refl, ap, sym, ◌∙◌, subst}
-use borrow.Author.Rules.{rules}
 use Rattle.image.specs.Windows.{of_windows}
 use Rattle.image.specs.Answers.{fetched16}
 use Rattle.image.specs.Place.{Place, entry_at, last_tried, stopped_at}

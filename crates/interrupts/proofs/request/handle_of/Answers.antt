@@ -1,5 +1,4 @@
 use native.Mathlib.Omega.{arith}
-use borrow.Author.Rules.{rules}
 use Rattle.image.specs.Bits.{bits}
 use Rattle.interrupts.proofs.request.handle_of.Goals as goal
 

@@ -2,7 +2,6 @@ use mathlib.Core.Bool.{true, not, ◌||◌}
 use mathlib.Core.Path.{◌≡◌, sym, ◌∙◌}
 use native.Mathlib.Omega.{arith}
 use borrow.Author.Tests.{eq-eqb, ne_eqb}
-use borrow.Author.Rules.{rules}
 use Rattle.image.specs.Bits.{bits}
 use Rattle.interrupts.specs.Request.{request_check}
 use Rattle.interrupts.proofs.request.request_check.Goals.{Else-field-ne1, Else-field-ne1-2}

@@ -1,4 +1,3 @@
-use borrow.Author.Rules.{rules}
 use Rattle.irte.proofs.reserved.reserved_in_all.Goals as goal
 
 pub returns : goal.returns

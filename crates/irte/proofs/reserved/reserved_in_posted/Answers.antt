@@ -1,4 +1,3 @@
-use borrow.Author.Rules.{rules}
 use Rattle.registers.proofs.Powers.{from-bit}
 use Rattle.irte.proofs.reserved.reserved_in_posted.Goals as goal
 

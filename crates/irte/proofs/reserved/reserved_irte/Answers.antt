@@ -1,5 +1,3 @@
-use mathlib.Core.Path.{sym, ◌∙◌}
-use borrow.Author.Rules.{rules}
 use Rattle.irte.specs.Irte.{reserved_irte}
 use Rattle.irte.proofs.reserved.reserved_irte.Goals as goal
 

@@ -1,7 +1,6 @@
 use Prim.Native.Nat.{◌/◌, ◌%◌}
 use mathlib.Core.Path.{◌≡◌}
 use native.Mathlib.Omega.{arith}
-use borrow.Author.Rules.{rules}
 use Rattle.image.specs.Bits.{bits}
 use Rattle.irte.proofs.source.bus_in_range.Goals as goal
 

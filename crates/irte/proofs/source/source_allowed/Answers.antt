@@ -1,7 +1,6 @@
 use Rattle.std.proofs.Common.{◌≡◌}
 use native.Mathlib.Omega.{arith}
 use borrow.Author.Tests.{ne_eqb}
-use borrow.Author.Rules.{rules}
 use Rattle.image.specs.Bits.{bits}
 use Rattle.irte.specs.Source.{source_allowed}
 use Rattle.irte.proofs.source.source_allowed.Goals as goal

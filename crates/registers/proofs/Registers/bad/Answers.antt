@@ -1,6 +1,5 @@
 use mathlib.Core.Bool.{Bool, true, false, not, ◌||◌}
-use mathlib.Core.Path.{◌≡◌, refl, sym, ◌∙◌}
-use borrow.Author.Rules.{rules}
+use mathlib.Core.Path.{◌≡◌, sym, ◌∙◌}
 use Rattle.registers.specs.Registers.{outside, registers_bad}
 use Rattle.registers.proofs.Registers.bad.Goals as goal
 

@@ -1,6 +1,5 @@
 use mathlib.Core.Path.{sym, ◌∙◌}
 use Rattle.registers.specs.Admission.{admission}
-use borrow.Author.Rules.{rules}
 use Rattle.registers.proofs.admission.admit.Goals as goal
 
 pub returns-then-bad : goal.returns-then-bad

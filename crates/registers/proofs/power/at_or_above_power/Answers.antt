@@ -1,4 +1,3 @@
-use borrow.Author.Rules.{rules}
 use mathlib.Core.Path.{sym}
 use Rattle.registers.proofs.Powers.{shifted, beyond}
 use Rattle.registers.proofs.power.at_or_above_power.Goals as goal

@@ -1,5 +1,4 @@
 use mathlib.Core.Path.{◌≡◌, ap, sym}
-use borrow.Author.Rules.{rules}
 use Rattle.faults.specs.declared.reason.Reason.{Reason}
 use Rattle.faults.specs.Reason.{number_of}
 use Rattle.faults.proofs.reason.Reason.number.Goals as goal
