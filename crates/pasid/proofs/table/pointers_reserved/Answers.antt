@@ -11,21 +11,16 @@ use Rattle.image.proofs.Stores.{Words}
 use Rattle.image.proofs.WordFields.{of_word}
 use Rattle.pasid.specs.Table.{pointers_reserved}
 use borrow.Author.Rules.{rules}
-use Rattle.pasid.proofs.table.pointers_reserved.Statement.{statement}
-use Rattle.pasid.proofs.table.pointers_reserved.Tie as tie
+use Rattle.pasid.proofs.table.pointers_reserved.Goals as goal
 
-returns : tie.Need-returns
+pub returns : goal.returns
 unfolding pointers_reserved Words
 returns c =
-    let s = c.before.before in
+    let s = c in
     let e = s.args.e in
     let haw = s.args.haw in
     let low : e.w0 < 2 ^ 64 = omega arith in
     let third : e.w2 < 2 ^ 64 = omega arith in
     let words : Words (words64 e) = (omega arith, (omega arith, (omega arith, (omega arith, (omega arith, (omega arith, (omega arith, (omega arith, tt)))))))) in
     let upper : bits (number64 e) 191 (128 + haw) ≡ bits e.w2 63 haw = of_word 2 (words64 e) words 63 haw (lit< tt) in
-    rw (in-first (e.w1 ∷ e.w2 ∷ e.w3 ∷ e.w4 ∷ e.w5 ∷ e.w6 ∷ e.w7 ∷ []) low 63 haw (lit< tt), upper, from-bit haw low, from-bit haw third, c.before.at-or-above-power.ensures, c.at-or-above-power2.ensures)
-
-pub pointers-reserved-spec : {M : Type 1} → statement M
-pointers-reserved-spec = tie.close (tie.spec
-    (λ c κs. search rules) (λ c κs. search rules) returns)
+    rw (in-first (e.w1 ∷ e.w2 ∷ e.w3 ∷ e.w4 ∷ e.w5 ∷ e.w6 ∷ e.w7 ∷ []) low 63 haw (lit< tt), upper, from-bit haw low, from-bit haw third, c.at_or_above_power.ensures, c.at_or_above_power-2.ensures)

@@ -1,4 +1,3 @@
--- Bits 511:192 are the last five words.
 use mathlib.Core.List.{[], ◌∷◌}
 use mathlib.Core.Path.{◌≡◌, ap, sym, ◌∙◌}
 use native.Mathlib.Omega.{arith}
@@ -9,18 +8,15 @@ use Rattle.image.proofs.Fields.{whole}
 use Rattle.image.proofs.Stores.{Words}
 use Rattle.image.proofs.WordFields.{from-word, words-below, some_word}
 use Rattle.image.proofs.Words.{spell_one}
-use Rattle.pasid.proofs.table.upper_set.Statement.{statement}
-use Rattle.pasid.proofs.table.upper_set.Tie as tie
+use Rattle.pasid.proofs.table.upper_set.Goals as goal
 
-returns : tie.Need-returns
+-- Bits 511:192 are the last five words.
+pub returns : goal.returns
 unfolding Words
 returns c =
-    let d = c.before.before.before.before.before.args.e in
+    let d = c.args.e in
     let last = d.w3 ∷ d.w4 ∷ d.w5 ∷ d.w6 ∷ d.w7 ∷ [] in
     let words : Words last = (omega arith, (omega arith, (omega arith, (omega arith, (omega arith, tt))))) in
     let all : Words (words64 d) = (omega arith, (omega arith, (omega arith, words))) in
     let upper : bits (number64 d) 511 192 ≡ spell last = from-word 3 (words64 d) all 319 0 ∙ whole (spell last) 319 (words-below last words) in
     rw (upper, some_word d.w3 (d.w4 ∷ d.w5 ∷ d.w6 ∷ d.w7 ∷ []), some_word d.w4 (d.w5 ∷ d.w6 ∷ d.w7 ∷ []), some_word d.w5 (d.w6 ∷ d.w7 ∷ []), some_word d.w6 (d.w7 ∷ []), spell_one d.w7)
-
-pub upper-set-spec : {M : Type 1} → statement M
-upper-set-spec = tie.close (tie.spec returns)

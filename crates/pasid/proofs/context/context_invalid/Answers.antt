@@ -1,0 +1,7 @@
+use Rattle.pasid.specs.Context.{context_invalid}
+use borrow.Author.Rules.{rules}
+use Rattle.pasid.proofs.context.context_invalid.Goals as goal
+
+pub returns : goal.returns
+unfolding context_invalid
+returns c = rw (c.bit64.ensures, c.bit64-2.ensures, c.beyond.ensures, c.rid_pasid.ensures.0)

@@ -1,0 +1,7 @@
+use Rattle.image.specs.Answers.{number64}
+use Rattle.pasid.proofs.Wide.{context-upper}
+use borrow.Author.Rules.{rules}
+use Rattle.pasid.proofs.context.upper_set.Goals as goal
+
+pub returns : goal.returns
+returns c = rw (context-upper (number64 c.args.e), c.any_set64.ensures, c.any_set64-2.ensures, c.any_set64-3.ensures)
