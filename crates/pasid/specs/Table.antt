@@ -1,7 +1,7 @@
 -- The PASID table entry: table + 64 × PASID bits 5:0, 64 bytes. P 0, FPD 1, AW 4:2, PGTT 8:6, SLADE 9, SLPTPTR 63:12, PWSNP 87, SRE 128,
 -- FLPM 131:130, WPE 132, NXE 133, EAFE 135, FLPTPTR 191:140. Not looked at: SLEE 5, DID 79:64, memory types 95:88 and 127:96, ERE 129,
 -- SMEP 134.
-use Rattle.std.specs.Prelude.{ℕ, ◌+◌, ◌*◌, ◌^◌, Bool, false, not, ◌&&◌, ◌||◌, ◌≡◌, eqb}
+use Rattle.std.specs.Prelude.{ℕ, ◌+◌, ◌*◌, ◌^◌, Bool, false, not, ◌&&◌, ◌||◌, eqb}
 use Rattle.image.specs.Bits.{bits, bit, any_set, in_place}
 use Rattle.image.specs.Check.{Check, stop, go}
 use Rattle.std.specs.Prelude.{if◌then◌else◌}

@@ -1,5 +1,3 @@
-use mathlib.Core.Path.{◌≡◌}
-use borrow.Author.Rules.{rules}
 use Rattle.pasid.proofs.context.beyond.Goals as goal
 
 pub returns : goal.returns

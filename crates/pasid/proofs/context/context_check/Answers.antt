@@ -1,5 +1,4 @@
 use Rattle.pasid.specs.Context.{context_check}
-use borrow.Author.Rules.{rules}
 use Rattle.pasid.proofs.context.context_check.Goals as goal
 
 pub returns-then-not-bit64 : goal.returns-then-not-bit64

@@ -1,5 +1,4 @@
 use Rattle.pasid.specs.Context.{context_invalid}
-use borrow.Author.Rules.{rules}
 use Rattle.pasid.proofs.context.context_invalid.Goals as goal
 
 pub returns : goal.returns

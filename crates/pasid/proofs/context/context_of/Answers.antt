@@ -3,7 +3,6 @@ use mathlib.Core.List.{[], ◌∷◌}
 use native.Mathlib.Omega.{arith}
 use lib.Dec.{lit<}
 use Rattle.image.proofs.Fields.{in-first}
-use borrow.Author.Rules.{rules}
 use Rattle.pasid.proofs.context.context_of.Goals as goal
 
 pub returns : goal.returns

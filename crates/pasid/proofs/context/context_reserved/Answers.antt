@@ -1,12 +1,10 @@
 use Prim.Native.Nat.{◌<◌, ◌^◌}
 use mathlib.Core.List.{[], ◌∷◌}
-use mathlib.Core.Path.{◌≡◌}
 use native.Mathlib.Omega.{arith}
 use lib.Dec.{lit<}
 use Rattle.registers.proofs.Powers.{from-bit}
 use Rattle.image.proofs.Fields.{in-first}
 use Rattle.pasid.specs.Context.{context_reserved}
-use borrow.Author.Rules.{rules}
 use Rattle.pasid.proofs.context.context_reserved.Goals as goal
 
 pub returns : goal.returns

@@ -1,4 +1,3 @@
-use borrow.Author.Rules.{rules}
 use Rattle.pasid.proofs.context.pasid_of.Goals as goal
 
 pub returns : goal.returns

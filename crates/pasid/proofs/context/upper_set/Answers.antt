@@ -1,6 +1,5 @@
 use Rattle.image.specs.Answers.{number64}
 use Rattle.pasid.proofs.Wide.{context-upper}
-use borrow.Author.Rules.{rules}
 use Rattle.pasid.proofs.context.upper_set.Goals as goal
 
 pub returns : goal.returns

@@ -1,9 +1,7 @@
 use Prim.Native.Nat.{◌<◌, ◌^◌}
-use mathlib.Core.Path.{◌≡◌}
 use native.Mathlib.Omega.{arith}
 use Rattle.registers.proofs.Powers.{from-bit}
 use Rattle.pasid.specs.Directory.{directory_reserved}
-use borrow.Author.Rules.{rules}
 use Rattle.pasid.proofs.directory.directory_reserved.Goals as goal
 
 pub returns : goal.returns

@@ -1,5 +1,4 @@
 use Rattle.pasid.specs.Record.{silenced}
-use borrow.Author.Rules.{rules}
 use Rattle.pasid.proofs.fault.may_record.Goals as goal
 
 pub returns : goal.returns

@@ -2,7 +2,6 @@ use native.Mathlib.Nat.{div-one}
 use native.Mathlib.Omega.{arith}
 use Rattle.image.specs.Bits.{bits}
 use Rattle.pasid.specs.Record.{pasid_word}
-use borrow.Author.Rules.{rules}
 use Rattle.pasid.proofs.fault.pasid_word.Goals as goal
 
 pub returns-then-pasid : goal.returns-then-pasid

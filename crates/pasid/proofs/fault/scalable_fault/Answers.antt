@@ -1,5 +1,4 @@
 use Rattle.pasid.proofs.Records.{answered}
-use borrow.Author.Rules.{rules}
 use Rattle.pasid.proofs.fault.scalable_fault.Goals as goal
 
 pub returns : goal.returns

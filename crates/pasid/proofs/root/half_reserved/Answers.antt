@@ -1,7 +1,5 @@
 use Prim.Native.Nat.{◌<◌, ◌^◌}
-use mathlib.Core.Path.{◌≡◌}
 use native.Mathlib.Omega.{arith}
-use borrow.Author.Rules.{rules}
 use Rattle.registers.proofs.Powers.{from-bit}
 use Rattle.pasid.proofs.root.half_reserved.Goals as goal
 

@@ -1,6 +1,5 @@
 use borrow.Author.Tests.{eq-eqb, ne_eqb}
 use Rattle.pasid.specs.Root.{root_check}
-use borrow.Author.Rules.{rules}
 use Rattle.pasid.proofs.root.root_check.Goals as goal
 
 pub returns-then-field-ne1 : goal.returns-then-field-ne1

@@ -1,5 +1,4 @@
 use Rattle.pasid.specs.Root.{root_reserved}
-use borrow.Author.Rules.{rules}
 use Rattle.pasid.proofs.root.root_reserved.Goals as goal
 
 pub returns : goal.returns

@@ -1,5 +1,4 @@
 use Rattle.pasid.specs.Table.{feature_reserved}
-use borrow.Author.Rules.{rules}
 use Rattle.pasid.proofs.table.feature_reserved.Goals as goal
 
 pub returns : goal.returns

@@ -8,7 +8,6 @@ use Rattle.image.specs.Answers.{number64, words64}
 use Rattle.image.proofs.Fields.{in-first}
 use Rattle.image.proofs.Stores.{Words}
 use Rattle.image.proofs.WordFields.{of_word}
-use borrow.Author.Rules.{rules}
 use Rattle.pasid.proofs.table.pasid_entry_of.Goals as goal
 
 pub returns : goal.returns

@@ -10,7 +10,6 @@ use Rattle.image.proofs.Fields.{in-first}
 use Rattle.image.proofs.Stores.{Words}
 use Rattle.image.proofs.WordFields.{of_word}
 use Rattle.pasid.specs.Table.{pointers_reserved}
-use borrow.Author.Rules.{rules}
 use Rattle.pasid.proofs.table.pointers_reserved.Goals as goal
 
 pub returns : goal.returns

@@ -3,7 +3,6 @@ use native.Mathlib.Omega.{arith}
 use Rattle.image.specs.Bits.{bits}
 use Rattle.image.specs.Answers.{number64}
 use Rattle.image.proofs.Fields.{fits}
-use borrow.Author.Rules.{rules}
 use Rattle.pasid.proofs.table.translation_type.Goals as goal
 
 pub returns : goal.returns

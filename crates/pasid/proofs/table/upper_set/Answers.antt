@@ -1,5 +1,5 @@
 use mathlib.Core.List.{[], ◌∷◌}
-use mathlib.Core.Path.{◌≡◌, ap, sym, ◌∙◌}
+use mathlib.Core.Path.{◌≡◌, ◌∙◌}
 use native.Mathlib.Omega.{arith}
 use Rattle.image.specs.Bits.{bits}
 use Rattle.image.specs.Answers.{number64, words64}

@@ -1,5 +1,4 @@
 use Rattle.pasid.specs.Table.{table_invalid}
-use borrow.Author.Rules.{rules}
 use Rattle.pasid.proofs.validity.table_invalid.Goals as goal
 
 pub returns : goal.returns

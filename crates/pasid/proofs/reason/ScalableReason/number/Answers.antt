@@ -1,5 +1,4 @@
 use mathlib.Core.Path.{◌≡◌, ap, sym}
-use borrow.Author.Rules.{rules}
 use Rattle.pasid.specs.declared.reason.ScalableReason.{ScalableReason}
 use Rattle.pasid.specs.Reason.{number_of}
 use Rattle.pasid.proofs.reason.ScalableReason.number.Goals as goal
