@@ -1,0 +1,24 @@
+use Prim.Native.Nat.{◌+◌, ◌^◌, ◌<◌}
+use mathlib.Core.Bool.{false}
+use mathlib.Core.Path.{◌≡◌, refl, ◌∙◌}
+use lib.ListN.{length}
+use borrow.Author.Rules.{rules}
+use Rattle.image.specs.Windows.{of_windows, bad_windows}
+use Rattle.regions.specs.Known.{Sound, QuietTo}
+use Rattle.regions.specs.Outside.{table_outside}
+use Rattle.regions.specs.declared.walk.Reached.{Reached}
+use Rattle.regions.proofs.KnownTables.{Standing, standing-first, standing-down, sound-after}
+use Rattle.regions.proofs.known.remember_tables.Given as goal
+
+abbrev pub invariant-loop-at : goal.invariant-loop-at
+invariant-loop-at l =
+    Standing l.tables.registers (of_windows l.windows l.image) (table_outside l.windows) l.tables l.last l.at
+    × (bad_windows l.windows (length l.image) ≡ false)
+    × (length l.known ≡ length l.initial.known)
+    × Sound l.tables.registers (of_windows l.windows l.image) (table_outside l.windows) l.known
+    × (l.from < 2 ^ 60)
+    × (l.last < 2 ^ 60)
+    × QuietTo l.tables.registers (of_windows l.windows l.image) (table_outside l.windows) l.tables.levels l.tables.top l.from (l.last + 1)
+
+abbrev pub decreases-loop-at : goal.decreases-loop-at
+decreases-loop-at l = l.at.level

@@ -1,0 +1,21 @@
+use Prim.Native.Nat.{◌<◌}
+use mathlib.Core.Bool.{false}
+use mathlib.Core.Path.{◌≡◌, refl, ap, sym, ◌∙◌}
+use native.Mathlib.Omega.{arith}
+use lib.ListN.{length}
+use borrow.Author.Rules.{rules}
+use Rattle.image.specs.Windows.{of_windows, bad_windows}
+use Rattle.regions.specs.Answers.{onward_of}
+use Rattle.regions.specs.Outside.{table_outside}
+use Rattle.regions.specs.declared.walk.Reached.{Reached}
+use Rattle.regions.proofs.KnownTables.{Standing, standing-first, standing-down}
+use Rattle.regions.proofs.Regions.{ended_at}
+use Rattle.regions.proofs.walk.region_at.Given as goal
+
+abbrev pub invariant-loop-at : goal.invariant-loop-at
+invariant-loop-at l =
+    Standing l.tables.registers (of_windows l.windows l.image) (table_outside l.windows) l.tables l.address l.at
+    × (bad_windows l.windows (length l.image) ≡ false)
+
+abbrev pub decreases-loop-at : goal.decreases-loop-at
+decreases-loop-at l = l.at.level
