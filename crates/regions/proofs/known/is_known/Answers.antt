@@ -3,7 +3,6 @@ use mathlib.Core.Path.{◌≡◌, ◌∙◌}
 use native.Mathlib.Omega.{arith}
 use borrow.Author.Tests.{eqb-true}
 use lib.ListN.{get_or}
-use borrow.Author.Rules.{rules}
 use Rattle.regions.proofs.known.is_known.Goals as goal
 
 pub returns-then-known-eq0 : goal.returns-then-known-eq0

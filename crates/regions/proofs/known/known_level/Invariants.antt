@@ -1,14 +1,10 @@
-use Prim.Native.Nat.{◌<◌}
 use mathlib.Core.Bool.{false}
 use mathlib.Core.Path.{◌≡◌}
-use native.Mathlib.Omega.{arith}
 use lib.ListN.{length}
-use borrow.Author.Rules.{rules}
 use Rattle.image.specs.Windows.{of_windows, bad_windows}
 use Rattle.regions.specs.Known.{Sound}
 use Rattle.regions.specs.Outside.{table_outside}
-use Rattle.regions.specs.declared.walk.Reached.{Reached}
-use Rattle.regions.proofs.KnownTables.{Standing, standing-first, standing-down, known-quiet}
+use Rattle.regions.proofs.KnownTables.{Standing}
 use Rattle.regions.proofs.known.known_level.Given as goal
 
 abbrev pub invariant-loop-at : goal.invariant-loop-at

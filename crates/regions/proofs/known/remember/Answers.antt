@@ -2,7 +2,6 @@ use Prim.Native.Nat.{ℕ, ◌+◌, ◌%◌, ◌≤◌}
 use mathlib.Core.Logic.{inl, inr}
 use mathlib.Core.Path.{◌≡◌, refl, ap, subst}
 use lib.ListN.{set}
-use borrow.Author.Rules.{rules}
 use Rattle.regions.proofs.known.remember.Goals as goal
 
 pub returns-then-last-span-ne0 : goal.returns-then-last-span-ne0

@@ -1,13 +1,11 @@
 use Prim.Native.Nat.{◌+◌, ◌^◌, ◌<◌}
 use mathlib.Core.Bool.{false}
-use mathlib.Core.Path.{◌≡◌, refl, ◌∙◌}
+use mathlib.Core.Path.{◌≡◌}
 use lib.ListN.{length}
-use borrow.Author.Rules.{rules}
 use Rattle.image.specs.Windows.{of_windows, bad_windows}
 use Rattle.regions.specs.Known.{Sound, QuietTo}
 use Rattle.regions.specs.Outside.{table_outside}
-use Rattle.regions.specs.declared.walk.Reached.{Reached}
-use Rattle.regions.proofs.KnownTables.{Standing, standing-first, standing-down, sound-after}
+use Rattle.regions.proofs.KnownTables.{Standing}
 use Rattle.regions.proofs.known.remember_tables.Given as goal
 
 abbrev pub invariant-loop-at : goal.invariant-loop-at

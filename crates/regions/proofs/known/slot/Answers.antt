@@ -1,9 +1,5 @@
 use native.Mathlib.Nat.{mod-lt}
 use native.Mathlib.Omega.{arith}
-use borrow.Author.Rules.{rules}
-use Rattle.regions.proofs.known.slot.Reads as reads
-use Rattle.regions.proofs.known.slot.Lts as lts
-use Rattle.image.proofs.place64.Reads as place64-reads
 use Rattle.regions.proofs.known.slot.Goals as goal
 
 -- src/known.rt:35:16

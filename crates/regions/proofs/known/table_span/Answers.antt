@@ -4,7 +4,6 @@ use native.Mathlib.Omega.{arith}
 use lib.Pow.{pow_pos}
 use Rattle.image.proofs.Fields.{shifted_one}
 use Rattle.regions.proofs.KnownTables.{pow-le}
-use borrow.Author.Rules.{rules}
 use Rattle.regions.proofs.known.table_span.Goals as goal
 
 pub returns : goal.returns

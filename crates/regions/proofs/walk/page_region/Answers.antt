@@ -1,4 +1,3 @@
-use borrow.Author.Rules.{rules}
 use Rattle.regions.proofs.walk.page_region.Goals as goal
 
 pub returns-then-meets_interrupt_range : goal.returns-then-meets_interrupt_range

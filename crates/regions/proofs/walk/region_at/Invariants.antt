@@ -1,15 +1,9 @@
-use Prim.Native.Nat.{◌<◌}
 use mathlib.Core.Bool.{false}
-use mathlib.Core.Path.{◌≡◌, refl, ap, sym, ◌∙◌}
-use native.Mathlib.Omega.{arith}
+use mathlib.Core.Path.{◌≡◌}
 use lib.ListN.{length}
-use borrow.Author.Rules.{rules}
 use Rattle.image.specs.Windows.{of_windows, bad_windows}
-use Rattle.regions.specs.Answers.{onward_of}
 use Rattle.regions.specs.Outside.{table_outside}
-use Rattle.regions.specs.declared.walk.Reached.{Reached}
-use Rattle.regions.proofs.KnownTables.{Standing, standing-first, standing-down}
-use Rattle.regions.proofs.Regions.{ended_at}
+use Rattle.regions.proofs.KnownTables.{Standing}
 use Rattle.regions.proofs.walk.region_at.Given as goal
 
 abbrev pub invariant-loop-at : goal.invariant-loop-at

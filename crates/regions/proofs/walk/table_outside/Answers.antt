@@ -1,7 +1,6 @@
 use mathlib.Core.Bool.{not}
 use mathlib.Core.Path.{ap, sym, subst, ◌∙◌}
 use lib.ListN.{length}
-use borrow.Author.Rules.{rules}
 use Rattle.image.specs.Answers.{HeldBy}
 use Rattle.image.specs.Windows.{Spot, windows_of}
 use Rattle.image.specs.declared.entries.Held.{Held}
