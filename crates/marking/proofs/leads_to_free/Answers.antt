@@ -1,4 +1,3 @@
-use borrow.Author.Rules.{rules}
 use Rattle.marking.proofs.leads_to_free.Goals as goal
 
 pub returns : goal.returns

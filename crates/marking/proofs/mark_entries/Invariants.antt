@@ -1,11 +1,7 @@
-use Prim.Native.Nat.{ℕ, ◌+◌, ◌-◌, ◌*◌, ◌≤◌}
-use mathlib.Core.Path.{◌≡◌, refl, ap, sym, ◌∙◌}
-use native.Mathlib.Omega.{arith}
-use borrow.Author.Rules.{rules}
-use borrow.Author.Tests.{not-true, not-false}
+use Prim.Native.Nat.{◌+◌, ◌*◌, ◌≤◌}
+use mathlib.Core.Path.{◌≡◌}
 use lib.ListN.{length}
-use Rattle.marking.specs.Marking.{mark_entry, mark_entries}
-use Rattle.marking.proofs.Turns.{good, bad, entries-first, entries-done}
+use Rattle.marking.specs.Marking.{mark_entries}
 use Rattle.marking.proofs.mark_entries.Given as goal
 
 abbrev pub invariant-loop-left : goal.invariant-loop-left

@@ -1,7 +1,5 @@
 use mathlib.Core.Bool.{Bool, not, ◌||◌}
 use mathlib.Core.Path.{◌≡◌, ap₂, sym, ◌∙◌}
-use borrow.Author.Rules.{rules}
-use borrow.Author.Tests.{not-true, not-false}
 use Rattle.tables.specs.Tables.{present, maps_page}
 use Rattle.marking.proofs.Turns.{entry-passes, entry-bad, entry-good}
 use Rattle.marking.proofs.mark_entry.Goals.{After-maps_page}

@@ -1,11 +1,7 @@
-use Prim.Native.Nat.{◌+◌, ◌-◌}
-use mathlib.Core.Path.{◌≡◌, refl, ap, sym, ◌∙◌}
-use native.Mathlib.Omega.{arith}
-use borrow.Author.Rules.{rules}
-use borrow.Author.Tests.{not-true, not-false}
+use Prim.Native.Nat.{◌+◌}
+use mathlib.Core.Path.{◌≡◌}
 use lib.ListN.{length}
 use Rattle.marking.specs.Marking.{mark_level}
-use Rattle.marking.proofs.Turns.{level-bad, level-on, level-done}
 use Rattle.marking.proofs.mark_level.Given as goal
 
 abbrev pub invariant-loop-left : goal.invariant-loop-left

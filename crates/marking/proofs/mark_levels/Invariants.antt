@@ -1,11 +1,7 @@
-use Prim.Native.Nat.{◌+◌, ◌-◌, ◌≤◌}
-use mathlib.Core.Path.{◌≡◌, refl, ap, sym, ◌∙◌}
-use native.Mathlib.Omega.{arith}
-use borrow.Author.Rules.{rules}
-use borrow.Author.Tests.{not-true, not-false}
+use Prim.Native.Nat.{◌+◌, ◌≤◌}
+use mathlib.Core.Path.{◌≡◌}
 use lib.ListN.{length}
 use Rattle.marking.specs.Marking.{mark_levels}
-use Rattle.marking.proofs.Turns.{levels-bad, levels-on, levels-done}
 use Rattle.marking.proofs.mark_levels.Given as goal
 
 abbrev pub invariant-loop-left : goal.invariant-loop-left
