@@ -5,8 +5,7 @@ export PREFIX DESTDIR
 
 run:
 	@packaging/kit || true
-	rt check bench
-	target/bin/bench
+	cd crates/bench && rt run
 
 test:
 	bash .ci/run
