@@ -6,7 +6,6 @@ use lib.Pow.{pow_pos}
 use Rattle.image.proofs.Fields.{shifted_one}
 use Rattle.image.specs.Bits.{bits}
 use Rattle.first.specs.First.{input_width, not_canonical}
-use borrow.Author.Rules.{rules}
 use Rattle.first.proofs.canonical.not_canonical.Goals as goal
 
 pub overflow_sub-result-then-field-eq1 : goal.overflow_sub-result-then-field-eq1

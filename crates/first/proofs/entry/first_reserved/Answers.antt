@@ -6,7 +6,6 @@ use lib.Dec.{leb}
 use Rattle.image.specs.Bits.{bit, any_set}
 use Rattle.dma.proofs.Address.{above}
 use Rattle.first.proofs.Reserved.{small, at-2, at-3, elsewhere}
-use borrow.Author.Rules.{rules}
 use Rattle.first.proofs.entry.first_reserved.Goals.{After-at_or_above_power-beyond, Else-field-ne1}
 use Rattle.first.proofs.entry.first_reserved.Goals as goal
 

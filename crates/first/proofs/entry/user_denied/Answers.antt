@@ -1,4 +1,3 @@
-use borrow.Author.Rules.{rules}
 use Rattle.first.proofs.entry.user_denied.Goals as goal
 
 pub returns : goal.returns

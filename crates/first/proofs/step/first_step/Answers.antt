@@ -7,7 +7,6 @@ use lib.Dec.{lit≤}
 use Rattle.image.proofs.Fields.{in-place-lt}
 use Rattle.first.specs.First.{user_denied, first_step}
 use Rattle.first.proofs.Reserved.{low-leaf}
-use borrow.Author.Rules.{rules}
 use Rattle.first.proofs.step.first_step.Goals.{Then-leaf}
 use Rattle.first.proofs.step.first_step.Goals as goal
 
