@@ -1,0 +1,37 @@
+use Prim.Native.Nat.{ℕ}
+use mathlib.Core.Path.{◌≡◌, refl, sym, ◌∙◌, subst}
+use borrow.Author.Tests.{ne_eqb}
+use Rattle.image.specs.Windows.{of_windows}
+use Rattle.regions.specs.Outside.{table_outside}
+use Rattle.mapping.specs.Filled.{FilledWith}
+use Rattle.mapping.specs.Mapping.{Mapped, regions_over}
+use Rattle.mapping.specs.Spans.{spans_after}
+use Rattle.mapping.specs.Told.{ListedAs}
+use Rattle.mapping.specs.Told as told
+use Rattle.mapping.proofs.Outcomes.{passes-through, translates, told-passed, told-spans}
+use borrow.Author.Rules.{rules}
+use Rattle.mapping.proofs.list_context.Goals as goal
+
+pub returns-then-context-eq2 : goal.returns-then-context-eq2
+returns-then-context-eq2 c =
+    let a = c.args in
+    record {
+      listed_as = subst (λ (k : Mapped). ListedAs k a.rows.now a.rows.now told.passed) (sym (passes-through a.registers (of_windows a.windows.now a.image.now) (table_outside a.windows.now) a.context c.if-context-eq2.true)) (told-passed a.rows.now);
+      known_len_unchanged = refl;
+    }
+
+pub shape_of-known : goal.shape_of-known
+shape_of-known c = c.fill-filled.ensures.known_len_unchanged
+
+pub returns : goal.returns
+returns c =
+    let f = c in
+    let e = f in
+    let a = e.args in
+    let region = regions_over (record { registers = a.registers; levels = a.context.levels; top = a.context.top }) a.windows.now a.image.now in
+    record {
+      listed_as = subst (λ (k : Mapped). ListedAs k a.rows.now f.fill-filled.new.rows (told.listed f.fill-filled.result.count f.fill-filled.result.more))
+          (sym (translates a.registers (of_windows a.windows.now a.image.now) (table_outside a.windows.now) a.context (ne_eqb _ _ e.if-context-eq2.false)))
+          (told-spans _ a.rows.now _ _ _ (subst (λ (n : ℕ). FilledWith (spans_after region n 0) a.rows.now f.fill-filled.new.rows f.fill-filled.result.count f.fill-filled.result.more) e.space_end-end.ensures.0 f.fill-filled.ensures.filled_with));
+      known_len_unchanged = f.fill-filled.ensures.known_len_unchanged;
+    }

@@ -1,0 +1,29 @@
+use Prim.Native.Nat.{◌+◌, ◌-◌, ◌*◌, ◌%◌, ◌^◌, ◌<◌, ◌≤◌}
+use mathlib.Core.Path.{◌≡◌, refl, sym, ◌∙◌}
+use native.Mathlib.Omega.{arith}
+use lib.ListN.{length}
+use borrow.Author.Rules.{rules}
+use Rattle.image.specs.Windows.{of_windows}
+use Rattle.translation.specs.Rights.{both}
+use Rattle.regions.specs.Answers.{region_of}
+use Rattle.regions.specs.Known.{Sound}
+use Rattle.regions.specs.Outside.{table_outside}
+use Rattle.regions.proofs.Regions.{same-region}
+use Rattle.mapping.specs.Mapping.{regions_over}
+use Rattle.mapping.specs.Search.{Fresh}
+use Rattle.mapping.proofs.SpanLaws.{QuietFrom}
+use Rattle.mapping.proofs.NextSpan.{block_more, block-page, none_left, quiet-on, fresh_on, found}
+use Rattle.mapping.proofs.search.next_span.Given as goal
+
+abbrev pub invariant-loop-at : goal.invariant-loop-at
+invariant-loop-at l =
+    (l.from ≤ l.at)
+    × (l.at % 4096 ≡ 0)
+    × (l.at < 2 ^ 59)
+    × QuietFrom (regions_over l.tables l.windows l.image) l.end l.from l.at
+    × Fresh (regions_over l.tables l.windows l.image) l.at
+    × (length l.known ≡ length l.initial.known)
+    × Sound l.tables.registers (of_windows l.windows l.image) (table_outside l.windows) l.known
+
+abbrev pub decreases-loop-at : goal.decreases-loop-at
+decreases-loop-at l = l.end - l.at
