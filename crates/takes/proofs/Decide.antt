@@ -2,12 +2,10 @@
 use Prim.Native.Nat.{ℕ, ◌%◌}
 use mathlib.Core.Bool.{Bool, true, false, ◌||◌}
 use mathlib.Core.List.{List, [], ◌∷◌}
-use mathlib.Core.Logic.{◌⊎◌, inl, inr, ⊎_elim}
+use mathlib.Core.Logic.{◌⊎◌, inl, inr}
 use mathlib.Core.Path.{◌≡◌, refl, ap, sym, ◌∙◌}
 use native.Mathlib.Omega.{arith}
 use borrow.Author.Tests.{eq-eqb, ne_eqb}
-use denote.Enum.Declared.{tag_of}
-use types.Run.{OneOf}
 use lib.ListN.{length}
 use Rattle.image.specs.Bits.{bit}
 use Rattle.std.specs.Prelude.{if◌then◌else◌}
@@ -24,7 +22,6 @@ use Rattle.takes.specs.declared.TakeAnswer.TheVariants.{Vector, Nothing, Refused
 use Rattle.interrupts.proofs.Exact.{at_place}
 use Rattle.takes.proofs.Highest.{finds}
 use Rattle.takes.proofs.Takes.{handed-there, none-there}
-use Rattle.takes.specs.contracts.TakeAnswer as declared
 
 either-one : (a b : Bool) → (a || b) ≡ true → (a ≡ true) ⊎ (b ≡ true)
 either-one true b h = inl refl
@@ -84,8 +81,8 @@ module _ (windows image : List ℕ) (descriptor : ℕ) {at k left : ℕ} (found_
   handed-at vector = rw (at_place windows image descriptor found_at there) (sym (handed-there windows image descriptor there vector))
 
   -- an answer that is no vector leaves all but ON
-  pub no-vector : (n : ℕ) (test : ℕ → Bool) (r : TakeAnswer) → OneOf (1 ∷ 2 ∷ []) (tag_of declared.the_type r)
+  pub no-vector : (n : ℕ) (test : ℕ → Bool) (r : TakeAnswer) → ((v : ℕ) → r ≡ Vector v → ⊥)
       → take_outcome_of r ≡ highest n test → clear_bit at 256 image ≡ take_written windows descriptor (take_outcome_of r) image
-  no-vector n test (Vector v) h e = absurd (⊎_elim (λ e. omega arith) (λ e. omega arith) h)
+  no-vector n test (Vector v) h e = absurd (h v refl)
   no-vector n test Nothing h e = rw (at_place windows image descriptor found_at there) (sym (none-there windows image descriptor there))
   no-vector n test (Refused number) h e = absurd (rw (← e) at (finds test n))

@@ -156,6 +156,8 @@ module _ (windows image : List ℕ) (bytes : AreBytes image) (d u : ℕ) (m : No
       by : (at : ℕ) → at % 64 ≡ 0 → (f : Fetched) → entry 8 (of_windows windows image) at ≡ f → (f' : Fetched) → entry 8 (of_windows windows next) at ≡ f'
           → Shape f f' → Descriptors f f'
       by at aligned missing there missing there' neither = none-there
+      by at aligned missing there (found e') there' h = elim h [ ]
+      by at aligned (found e) there missing there' h = elim h [ ]
       by at aligned (found e) there (found e') there' both =
           reserved-there (λ k from to.
           entry-bit windows next still (bytes-written windows image bytes (posted d u m)) 8 at k there' (omega arith)

@@ -71,6 +71,8 @@ module _ (registers : Registers) (request : InterruptRequest) (m m' : Memory)
       by : (f f' : Fetched) → Descriptors f f'
           → AlikeD (on_fetch f (fault 0x27 fpd) (λ d. run (next d) m)) (on_fetch f' (fault 0x27 fpd) (λ d. run (next d) m'))
       by missing missing none-there = same
+      by missing (found d') h = elim h [ ]
+      by (found d) missing h = elim h [ ]
       by (found d) (found d') (reserved-there h) =
           checked (reserved_descriptor registers.eime d) (reserved_descriptor registers.eime d') (reserved-same registers.eime d d' h)
           (notification_of registers.eime urgent d) (notification_of registers.eime urgent d')
