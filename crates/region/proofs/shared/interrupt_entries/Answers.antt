@@ -3,15 +3,10 @@ use native.Mathlib.Omega.{arith}
 use lib.Pow.{pow_pos, pow_mono}
 use Rattle.image.proofs.Fields.{shifted_one}
 use borrow.Author.Rules.{rules}
-use Rattle.region.proofs.shared.interrupt_entries.Statement.{statement}
-use Rattle.region.proofs.shared.interrupt_entries.Tie as tie
+use Rattle.region.proofs.shared.interrupt_entries.Goals as goal
 
-returns : tie.Need-returns
+pub returns : goal.returns
 returns c =
-    let s = c.before in
+    let s = c in
     let is = shifted_one (s.args.registers.s + 1) (omega (arith, s.requires)) in
     (is, omega (arith, is, pow_pos (s.args.registers.s + 1)), omega (arith, is, pow_mono {i = s.args.registers.s + 1} {j = 16} (omega (arith, s.requires))))
-
-pub interrupt-entries-spec : {M : Type 1} → statement M
-interrupt-entries-spec = tie.close (tie.spec
-    (λ c. search rules) (λ c. search rules) (λ c. search rules) returns)
