@@ -1,9 +1,6 @@
-use Prim.Native.Nat.{◌+◌, ◌*◌, ◌/◌, ◌%◌, ◌≤◌}
-use mathlib.Core.Path.{◌≡◌, refl, sym, ◌∙◌}
+use mathlib.Core.Path.{refl, ◌∙◌}
 use native.Mathlib.Omega.{arith}
-use lib.ListN.{length}
 use Rattle.image.specs.Windows.{of_windows}
-use Rattle.region.specs.Copy.{copied_in}
 use Rattle.region.proofs.Turns.{in_on, in-done}
 use borrow.Author.Rules.{rules}
 use Rattle.region.proofs.copy.copy_in.Goals as goal

@@ -1,11 +1,8 @@
 use Prim.Native.Nat.{◌+◌, ◌*◌, ◌/◌, ◌%◌, ◌≤◌}
-use mathlib.Core.Path.{◌≡◌, refl, sym, ◌∙◌}
-use native.Mathlib.Omega.{arith}
+use mathlib.Core.Path.{◌≡◌}
 use lib.ListN.{length}
 use Rattle.image.specs.Windows.{of_windows}
 use Rattle.region.specs.Copy.{copied_in}
-use Rattle.region.proofs.Turns.{in_on, in-done}
-use borrow.Author.Rules.{rules}
 use Rattle.region.proofs.copy.copy_in.Given as goal
 
 abbrev pub invariant-loop-left : goal.invariant-loop-left

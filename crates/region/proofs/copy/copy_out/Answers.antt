@@ -1,8 +1,5 @@
-use Prim.Native.Nat.{◌+◌, ◌*◌, ◌/◌, ◌≤◌}
-use mathlib.Core.Path.{◌≡◌, refl, sym, ◌∙◌}
+use mathlib.Core.Path.{refl, ◌∙◌}
 use native.Mathlib.Omega.{arith}
-use lib.ListN.{length}
-use Rattle.region.specs.Copy.{copied_out}
 use Rattle.region.proofs.Turns.{out-on, out-done}
 use borrow.Author.Rules.{rules}
 use Rattle.region.proofs.copy.copy_out.Goals as goal

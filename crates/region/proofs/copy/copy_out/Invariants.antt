@@ -1,10 +1,7 @@
 use Prim.Native.Nat.{◌+◌, ◌*◌, ◌/◌, ◌≤◌}
-use mathlib.Core.Path.{◌≡◌, refl, sym, ◌∙◌}
-use native.Mathlib.Omega.{arith}
+use mathlib.Core.Path.{◌≡◌}
 use lib.ListN.{length}
 use Rattle.region.specs.Copy.{copied_out}
-use Rattle.region.proofs.Turns.{out-on, out-done}
-use borrow.Author.Rules.{rules}
 use Rattle.region.proofs.copy.copy_out.Given as goal
 
 abbrev pub invariant-loop-left : goal.invariant-loop-left

@@ -1,11 +1,9 @@
 use Prim.Native.Nat.{◌+◌, ◌^◌, ◌≤◌}
 use mathlib.Core.Path.{sym, ◌∙◌}
 use native.Mathlib.Omega.{arith}
-use borrow.Author.Tests.{not-true, not-false}
 use Rattle.registers.proofs.Good.{good}
 use Rattle.region.proofs.Tests.{in-width}
 use Rattle.region.proofs.Turns.{bad-1, bad-2, bad-3, bad-4}
-use borrow.Author.Rules.{rules}
 use Rattle.region.proofs.region.bad_region.Goals.{Else-past_width}
 use Rattle.region.proofs.region.bad_region.Goals as goal
 

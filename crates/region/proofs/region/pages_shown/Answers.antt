@@ -1,10 +1,7 @@
-use Prim.Native.Nat.{◌+◌, ◌*◌}
-use mathlib.Core.Path.{◌≡◌, refl, sym, ◌∙◌}
+use mathlib.Core.Path.{refl, sym, ◌∙◌}
 use native.Mathlib.Omega.{arith}
 use borrow.Author.Tests.{not-true, not-false}
-use Rattle.region.specs.Region.{pages_shown}
 use Rattle.region.proofs.Turns.{shown-on, shown-not, shown-done}
-use borrow.Author.Rules.{rules}
 use Rattle.region.proofs.region.pages_shown.Goals as goal
 
 pub loop-left-init : goal.loop-left-init

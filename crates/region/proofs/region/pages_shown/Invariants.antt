@@ -1,10 +1,6 @@
 use Prim.Native.Nat.{◌+◌, ◌*◌}
-use mathlib.Core.Path.{◌≡◌, refl, sym, ◌∙◌}
-use native.Mathlib.Omega.{arith}
-use borrow.Author.Tests.{not-true, not-false}
+use mathlib.Core.Path.{◌≡◌}
 use Rattle.region.specs.Region.{pages_shown}
-use Rattle.region.proofs.Turns.{shown-on, shown-not, shown-done}
-use borrow.Author.Rules.{rules}
 use Rattle.region.proofs.region.pages_shown.Given as goal
 
 abbrev pub invariant-loop-left : goal.invariant-loop-left

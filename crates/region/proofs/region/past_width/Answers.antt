@@ -5,7 +5,6 @@ use borrow.Author.Tests.{lt-ltb}
 use lib.Dec.{ltb}
 use Rattle.image.proofs.Fields.{shifted_one}
 use Rattle.region.proofs.Tests.{past}
-use borrow.Author.Rules.{rules}
 use Rattle.region.proofs.region.past_width.Goals as goal
 
 pub returns-then-limit-area : goal.returns-then-limit-area

@@ -1,10 +1,7 @@
-use Prim.Native.Nat.{◌+◌, ◌*◌, ◌%◌}
-use mathlib.Core.Path.{◌≡◌, refl, sym, ◌∙◌}
+use mathlib.Core.Path.{refl, sym, ◌∙◌}
 use native.Mathlib.Omega.{arith}
 use Rattle.image.specs.Windows.{of_windows}
-use Rattle.region.specs.Shared.{any_named}
 use Rattle.region.proofs.Turns.{named-on, named-one, named-done}
-use borrow.Author.Rules.{rules}
 use Rattle.region.proofs.shared.any_named.Goals as goal
 
 pub loop-left-init : goal.loop-left-init

@@ -2,7 +2,6 @@ use Prim.Native.Nat.{◌+◌}
 use native.Mathlib.Omega.{arith}
 use lib.Pow.{pow_pos, pow_mono}
 use Rattle.image.proofs.Fields.{shifted_one}
-use borrow.Author.Rules.{rules}
 use Rattle.region.proofs.shared.interrupt_entries.Goals as goal
 
 pub returns : goal.returns

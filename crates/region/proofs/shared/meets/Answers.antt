@@ -1,6 +1,4 @@
-use native.Mathlib.Omega.{arith}
 use Rattle.region.proofs.Tests.{meets-none, meets-not, meets-low, meets-high}
-use borrow.Author.Rules.{rules}
 use Rattle.region.proofs.shared.meets.Goals as goal
 
 pub returns-then-area-eq0 : goal.returns-then-area-eq0

@@ -1,4 +1,3 @@
-use borrow.Author.Rules.{rules}
 use Rattle.region.proofs.shared.meets_context_table.Goals as goal
 
 pub returns : goal.returns

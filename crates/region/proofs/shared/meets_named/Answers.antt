@@ -1,4 +1,3 @@
-use borrow.Author.Rules.{rules}
 use Rattle.region.proofs.shared.meets_named.Goals as goal
 
 pub returns-then-posted : goal.returns-then-posted

@@ -3,7 +3,6 @@ use mathlib.Core.Path.{ap, sym, ◌∙◌}
 use Rattle.image.specs.Answers.{fetched16}
 use Rattle.image.specs.Memory.{Fetched, on_fetch}
 use Rattle.region.specs.Shared.{meets_named}
-use borrow.Author.Rules.{rules}
 use Rattle.region.proofs.shared.meets_named_at.Goals as goal
 
 pub returns-in_default : goal.returns-in_default

@@ -6,7 +6,6 @@ use Rattle.image.specs.Windows.{of_windows}
 use Rattle.registers.proofs.Good.{Good, good, below-most}
 use Rattle.region.specs.Shared.{meets, any_named, interrupt_entries}
 use Rattle.region.proofs.Turns.{shares-1, shares-2, shares-3, shares-4}
-use borrow.Author.Rules.{rules}
 use Rattle.region.proofs.shared.shares_tables.Goals.{After-meets-2, After-shared_slice_known-2-1}
 use Rattle.region.proofs.shared.shares_tables.Goals as goal
 

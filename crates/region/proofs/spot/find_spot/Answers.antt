@@ -1,11 +1,10 @@
-use Prim.Native.Nat.{ℕ, ◌+◌, ◌*◌, ◌-◌, ◌≤◌}
+use Prim.Native.Nat.{ℕ, ◌+◌, ◌*◌}
 use mathlib.Core.Path.{◌≡◌, refl, ap, sym, ◌∙◌}
 use native.Mathlib.Omega.{arith}
-use lib.ListN.{length, drop}
+use lib.ListN.{drop}
 use Rattle.image.specs.Windows.{windows_of, window_at, spot_in}
 use Rattle.image.proofs.GoodWindows.{good-at, held, spot-at, spot-after, spot-none-left}
 use Rattle.region.specs.Copy.{is_whole, spot_place}
-use borrow.Author.Rules.{rules}
 use Rattle.region.proofs.spot.find_spot.Goals as goal
 
 pub loop-n-init : goal.loop-n-init

@@ -1,11 +1,7 @@
-use Prim.Native.Nat.{ℕ, ◌+◌, ◌*◌, ◌-◌, ◌≤◌}
-use mathlib.Core.Path.{◌≡◌, refl, ap, sym, ◌∙◌}
-use native.Mathlib.Omega.{arith}
-use lib.ListN.{length, drop}
-use Rattle.image.specs.Windows.{windows_of, window_at, spot_in}
-use Rattle.image.proofs.GoodWindows.{good-at, held, spot-at, spot-after, spot-none-left}
-use Rattle.region.specs.Copy.{is_whole, spot_place}
-use borrow.Author.Rules.{rules}
+use Prim.Native.Nat.{◌*◌, ◌-◌, ◌≤◌}
+use mathlib.Core.Path.{◌≡◌}
+use lib.ListN.{drop}
+use Rattle.image.specs.Windows.{windows_of, spot_in}
 use Rattle.region.proofs.spot.find_spot.Given as goal
 
 abbrev pub invariant-loop-n : goal.invariant-loop-n

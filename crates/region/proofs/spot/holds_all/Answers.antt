@@ -3,7 +3,6 @@ use native.Mathlib.Omega.{arith}
 use Rattle.image.specs.Windows.{window_at}
 use Rattle.image.proofs.GoodWindows.{before-it, past-it}
 use Rattle.region.proofs.Tests.{holds_by}
-use borrow.Author.Rules.{rules}
 use Rattle.region.proofs.spot.holds_all.Goals as goal
 
 pub returns-then-at-start : goal.returns-then-at-start

@@ -2,7 +2,6 @@ use mathlib.Core.Path.{sym, ◌∙◌}
 use Rattle.image.specs.Windows.{spot_in, windows_of}
 use Rattle.region.specs.Copy.{stored_at}
 use Rattle.region.proofs.Turns.{stored_there, not-stored}
-use borrow.Author.Rules.{rules}
 use Rattle.region.proofs.spot.store_at.Goals as goal
 
 pub returns-then-spot : goal.returns-then-spot

@@ -5,7 +5,6 @@ use Rattle.image.specs.Answers.{fetched8}
 use Rattle.image.specs.Memory.{Fetched, entry, on_fetch}
 use Rattle.image.specs.Windows.{of_windows}
 use Rattle.region.specs.Copy.{word_shown}
-use borrow.Author.Rules.{rules}
 use Rattle.region.proofs.spot.word_shown.Goals.{After-page_entry8}
 use Rattle.region.proofs.spot.word_shown.Goals as goal
 
