@@ -7,7 +7,7 @@ use native.Mathlib.Omega.{arith}
 use native.Mathlib.Nat.{div-one, zero-min}
 use borrow.Author.Tests.{eq-eqb, ne_eqb}
 use lib.Arith.{mod-mul}
-use lib.Bits.{bit_and, and_shr, and_mod}
+use lib.Bits.{bit_and, and_shr, and_mod, and_step}
 use lib.Dec.{eqb, lit≤}
 use mir.Val.{bool_byte}
 use Rattle.image.specs.Bits.{bits, bit}
@@ -36,9 +36,9 @@ pub none_left : (r : ℕ) → bits r 1 0 ≡ 0 → not (bit r 0 || bit r 1) ≡ 
 unfolding bits
 none_left r none = rw (ne_eqb (r / 1 % 2) 1 (λ z. omega arith), ne_eqb (r / 2 % 2) 1 (λ z. omega arith))
 
-pub some_left_lem : (r : ℕ) → (bits r 1 0 ≡ 0 → ⊥) → not (bit r 0 || bit r 1) ≡ false
+pub some_left : (r : ℕ) → (bits r 1 0 ≡ 0 → ⊥) → not (bit r 0 || bit r 1) ≡ false
 unfolding bits
-some_left_lem r some =
+some_left r some =
     let four : r % 4 ≡ r / 2 % 2 * 2 + r % 2 = mod-mul r (lit≤ tt) (lit≤ tt) in
     ap (λ (n : ℕ). not (eqb (n % 2) 1 || eqb (r / 2 % 2) 1)) (div-one r)
     ∙ by (r % 2) (r / 2 % 2) (omega arith) (omega arith) (λ none. some (ap (λ (n : ℕ). n % 4) (div-one r) ∙ four ∙ omega arith))
@@ -65,6 +65,16 @@ both (suc (suc x)) y hx hy = absurd (omega arith)
 both zero (suc (suc y)) hx hy = absurd (omega arith)
 both (suc zero) (suc (suc y)) hx hy = absurd (omega arith)
 
+-- what is common to such a number and another, from its two low bits
+and_one : (e : ℕ) → bit_and 1 e ≡ 0 + min 1 (e % 2)
+and_one e = and_step 1 e
+
+and_two : (e : ℕ) → bit_and 2 e ≡ (0 + min 1 (e / 2 % 2)) * 2 + min 0 (e % 2)
+and_two e = and_step 2 e ∙ ap (λ (n : ℕ). n * 2 + min 0 (e % 2)) (and_one (e / 2))
+
+and_three : (e : ℕ) → bit_and 3 e ≡ (0 + min 1 (e / 2 % 2)) * 2 + min 1 (e % 2)
+and_three e = and_step 3 e ∙ ap (λ (n : ℕ). n * 2 + min 1 (e % 2)) (and_one (e / 2))
+
 not-both : (a b : Bool) → not (a && b) ≡ (not a || not b)
 not-both true b = refl
 not-both false b = refl
@@ -74,11 +84,14 @@ pub one-lacks : (read write : Bool) (e : ℕ)
     → not (eqb (bit_and (bool_byte read + 2 * bool_byte write) e) (bool_byte read + 2 * bool_byte write)) ≡ (write && not (bit e 1) || read && not (bit e 0))
 unfolding bits
 one-lacks false false e = refl
-one-lacks true false e = ap not (alone (e % 2) (omega arith)).0 ∙ ap (λ (n : ℕ). not (eqb (n % 2) 1)) (sym (div-one e))
+one-lacks true false e =
+    ap (λ (n : ℕ). not (eqb n 1)) (and_one e) ∙ ap not (alone (e % 2) (omega arith)).0 ∙ ap (λ (n : ℕ). not (eqb (n % 2) 1)) (sym (div-one e))
 one-lacks false true e =
-    ap (λ (n : ℕ). not (eqb ((0 + min 1 (e / 2 % 2)) * 2 + n) 2)) (zero-min (e % 2)) ∙ ap not (alone (e / 2 % 2) (omega arith)).1 ∙ sym (or-false (not (eqb (e / 2 % 2) 1)))
+    ap (λ (n : ℕ). not (eqb n 2)) (and_two e)
+    ∙ ap (λ (n : ℕ). not (eqb ((0 + min 1 (e / 2 % 2)) * 2 + n) 2)) (zero-min (e % 2)) ∙ ap not (alone (e / 2 % 2) (omega arith)).1 ∙ sym (or-false (not (eqb (e / 2 % 2) 1)))
 one-lacks true true e =
-    ap not (both (e % 2) (e / 2 % 2) (omega arith) (omega arith))
+    ap (λ (n : ℕ). not (eqb n 3)) (and_three e)
+    ∙ ap not (both (e % 2) (e / 2 % 2) (omega arith) (omega arith))
     ∙ not-both (eqb (e / 2 % 2) 1) (eqb (e % 2) 1)
     ∙ ap (λ (n : ℕ). not (eqb (e / 2 % 2) 1) || not (eqb (n % 2) 1)) (sym (div-one e))
 

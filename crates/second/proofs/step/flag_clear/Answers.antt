@@ -1,0 +1,5 @@
+use borrow.Author.Rules.{rules}
+use Rattle.second.proofs.step.flag_clear.Goals as goal
+
+pub returns : goal.returns
+returns c = rw (c.bit-accessed.ensures, c.bit-written.ensures)

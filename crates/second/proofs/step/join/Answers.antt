@@ -1,0 +1,6 @@
+use borrow.Author.Rules.{rules}
+use Rattle.second.proofs.Rights.{bit-and}
+use Rattle.second.proofs.step.join.Goals as goal
+
+pub returns : goal.returns
+returns c = let a = c.args in (bit-and a.rights a.e 0, bit-and a.rights a.e 1)
