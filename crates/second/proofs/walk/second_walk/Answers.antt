@@ -82,7 +82,7 @@ loop-level-preserved c =
       next.1,
       omega (arith, grown.0, l.invariant.4),
       omega (arith, grown.1, l.invariant.5, l.invariant.0),
-      c.flags-1.given ∙ l.invariant.6,
+      omega arith,
       led a.space.registers a.space.entry a.wanted a.address (of_windows a.windows.now a.image.now) l.level l.table (second_handed (eqb l.level a.space.entry.second_levels) l.rights (take l.count l.flags)) l.invariant.0 is ∙ l.invariant.7,
       λ before before'.
           anew a.space.registers a.space.entry a.wanted a.address (of_windows a.windows.now a.image.now) (l.level - 1) _ _ next.2 before _
@@ -90,14 +90,5 @@ loop-level-preserved c =
           ∙ l.invariant.8 before before',
     )
 
-pub shape_of-flags : goal.shape_of-flags
-shape_of-flags c = c.loop-level.invariant.6
-
 pub returns : goal.returns
 returns c = absurd (omega (arith, c.loop-level.invariant.0, c.loop-level-test.false))
-
-pub shape_of-flags-in-Page : goal.shape_of-flags-in-Page
-shape_of-flags-in-Page c = c.flags-1.given ∙ c.loop-level.invariant.6
-
-pub shape_of-flags-in-Fault : goal.shape_of-flags-in-Fault
-shape_of-flags-in-Fault c = c.flags-1.given ∙ c.loop-level.invariant.6
