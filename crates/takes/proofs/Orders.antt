@@ -17,7 +17,7 @@ use Rattle.image.proofs.Bytes.{AreBytes}
 use Rattle.image.proofs.WindowBytes.{one_address, byte-spot}
 use Rattle.registers.specs.declared.Registers.{Registers}
 use Rattle.interrupts.specs.Claims.{bit_at, due, sets, indexed_entry}
-use Rattle.interrupts.specs.Descriptor.{Notification, notification}
+use Rattle.interrupts.specs.Descriptor.{Notification}
 use Rattle.interrupts.specs.Interrupts.{InterruptOutcome, passed, remapped, posted, blocked, refused, interrupt_answer}
 use Rattle.interrupts.specs.Post.{set_bit, notified, interrupt_written}
 use Rattle.interrupts.specs.declared.InterruptRequest.{InterruptRequest}

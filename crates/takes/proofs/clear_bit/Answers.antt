@@ -1,7 +1,6 @@
 use Prim.Native.Nat.{◌+◌, ◌/◌, ◌%◌}
 use mathlib.Core.Path.{ap}
 use native.Mathlib.Omega.{arith}
-use borrow.Author.Rules.{rules}
 use lib.Bits.{and_le_l}
 use lib.ListN.{get_or, set}
 use Rattle.takes.specs.Take.{clear_bit}

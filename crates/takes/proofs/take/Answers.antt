@@ -3,7 +3,6 @@ use mathlib.Core.Bool.{Bool, false, ◌||◌}
 use mathlib.Core.List.{List}
 use mathlib.Core.Path.{◌≡◌, refl, ap, ap₂, sym, ◌∙◌}
 use native.Mathlib.Omega.{arith}
-use borrow.Author.Rules.{rules}
 use lib.ListN.{length}
 use Rattle.image.specs.Answers.{number64, fetched64}
 use Rattle.image.specs.Windows.{bad_windows}
@@ -27,21 +26,23 @@ pub returns-then-bad-bad_several : goal.returns-then-bad-bad_several
 returns-then-bad-bad_several c =
     let a = c.args in
     let told = refuses-1 a.registers a.descriptor a.windows.now a.image.now
-        (tested a.registers a.descriptor a.windows.now a.image.now c.bad.ensures c.bad_several.ensures c.if-bad-bad_several.true) in
+    (tested a.registers a.descriptor a.windows.now a.image.now c.bad.ensures c.bad_several.ensures c.if-bad-bad_several.true) in
     record { result_value = told.0; image_after = told.1 }
 
 pub returns-then-descriptor-ne0 : goal.returns-then-descriptor-ne0
 returns-then-descriptor-ne0 c =
     let a = c.args in
     let told = unaligned a.registers a.descriptor a.windows.now a.image.now
-        (tested a.registers a.descriptor a.windows.now a.image.now c.bad.ensures c.bad_several.ensures c.if-bad-bad_several.false) c.if-descriptor-ne0.true in
+    (tested a.registers a.descriptor a.windows.now a.image.now c.bad.ensures c.bad_several.ensures c.if-bad-bad_several.false) c.if-descriptor-ne0.true in
     record { result_value = told.0; image_after = told.1 }
 
 pub fetch64-requires : goal.fetch64-requires
 fetch64-requires c =
-    let a = c.args in
-    (good a.registers a.descriptor a.windows.now a.image.now
-    (tested a.registers a.descriptor a.windows.now a.image.now c.bad.ensures c.bad_several.ensures c.if-bad-bad_several.false), c.if-descriptor-ne0.false)
+    let a = c.args in (
+      good a.registers a.descriptor a.windows.now a.image.now
+          (tested a.registers a.descriptor a.windows.now a.image.now c.bad.ensures c.bad_several.ensures c.if-bad-bad_several.false),
+      c.if-descriptor-ne0.false,
+    )
 
 fine : (c : After-fetch64) → bad c.args.registers c.args.descriptor c.args.windows.now c.args.image.now ≡ false
 fine c =
@@ -53,7 +54,7 @@ pub returns-in_default : goal.returns-in_default
 returns-in_default c =
     let a = c.args in
     let told = outside a.registers a.descriptor a.windows.now a.image.now (fine (goal.at.returns-in_default c).After-fetch64) c.if-descriptor-ne0.false
-        (sym c.fetch64.ensures.result_value ∙ ap fetched64 c.in_default.is) in
+    (sym c.fetch64.ensures.result_value ∙ ap fetched64 c.in_default.is) in
     record { result_value = told.0; image_after = told.1 }
 
 pub place64-at-requires : goal.place64-at-requires
@@ -112,8 +113,8 @@ returns-in-Vector c =
     let p = (goal.at.returns-in-Vector c).After-place64-at in
     let vector = c.in-Vector.vector in
     let told = by-highest p (ap take_outcome_of (sym c.in-Vector.is))
-        (c.clear_bit-in-Vector.ensures ∙ ap (clear_bit c.place64-at.result vector) c.clear_bit.ensures
-        ∙ handed-at a.windows.now a.image.now a.descriptor c.place64-at.ensures (stands p).spot vector) in
+    (c.clear_bit-in-Vector.ensures ∙ ap (clear_bit c.place64-at.result vector) c.clear_bit.ensures
+    ∙ handed-at a.windows.now a.image.now a.descriptor c.place64-at.ensures (stands p).spot vector) in
     record { result_value = told.0; image_after = told.1 }
 
 pub returns-in_default-answer : goal.returns-in_default-answer
@@ -121,6 +122,6 @@ returns-in_default-answer c =
     let a = c.args in
     let p = (goal.at.returns-in_default-answer c).After-place64-at in
     let told = by-highest p refl
-        (c.clear_bit.ensures
-        ∙ no-vector a.windows.now a.image.now a.descriptor c.place64-at.ensures (stands p).spot 256 _ c.highest_request-answer.result c.in_default-answer.not-Vector c.highest_request-answer.ensures) in
+    (c.clear_bit.ensures
+    ∙ no-vector a.windows.now a.image.now a.descriptor c.place64-at.ensures (stands p).spot 256 _ c.highest_request-answer.result c.in_default-answer.not-Vector c.highest_request-answer.ensures) in
     record { result_value = told.0; image_after = told.1 }
