@@ -1,9 +1,9 @@
 -- Demand 3 holds.
 use Prim.Native.Nat.{ℕ, ◌≤◌}
 use mathlib.Core.List.{List, [], ◌∷◌}
-use mathlib.Core.Path.{◌≡◌, refl, ap, sym, ◌∙◌, fun_ext}
-use lib.ListN.{length, take}
-use Rattle.image.specs.Memory.{Memory, of_image}
+use mathlib.Core.Path.{◌≡◌, ap, sym, ◌∙◌, fun_ext}
+use lib.ListN.{length}
+use Rattle.image.specs.Memory.{of_image}
 use Rattle.image.specs.Rules.{run, named, SameIn}
 use Rattle.image.specs.Windows.{of_windows, entry_in, flat}
 use Rattle.image.proofs.FlatWindow.{flat-is, flat-fine}
