@@ -1,8 +1,8 @@
 -- What one level of the second-level walk makes of the entry that the code fetched, and the walk after it.
-use Prim.Native.Nat.{ℕ, suc, ◌+◌, ◌-◌, ◌%◌, ◌^◌, ◌<◌, ◌≤◌}
+use Prim.Native.Nat.{ℕ, suc, ◌-◌, ◌%◌, ◌^◌, ◌<◌}
 use mathlib.Core.Bool.{Bool, true, false, not, ◌&&◌, ◌||◌}
 use mathlib.Core.List.{◌++◌}
-use mathlib.Core.Path.{◌≡◌, refl, ap, sym, ◌∙◌}
+use mathlib.Core.Path.{◌≡◌, refl}
 use native.Mathlib.Omega.{arith}
 use lib.Dec.{lit≤}
 use Rattle.image.specs.Bits.{bit, in_place}
@@ -12,7 +12,6 @@ use Rattle.image.specs.Place.{Place, entry_at, last_tried}
 use Rattle.image.specs.Rules.{run}
 use Rattle.image.proofs.Choices.{otherwise, neither}
 use Rattle.image.proofs.Fields.{in-place-lt}
-use Rattle.registers.specs.declared.Registers.{Registers}
 use Rattle.dma.specs.Page.{leaf_at, page_reserved}
 use Rattle.dma.specs.Walk.{Step, done, down, place_in, step_over}
 use Rattle.dma.proofs.Onward as onward

@@ -1,13 +1,11 @@
-use Prim.Native.Nat.{ℕ, ◌+◌}
-use mathlib.Core.Bool.{◌&&◌}
+use Prim.Native.Nat.{ℕ}
 use mathlib.Core.List.{List, [], ◌∷◌, ◌++◌, append-nil}
-use mathlib.Core.Path.{◌≡◌, refl, ap, sym, ◌∙◌}
+use mathlib.Core.Path.{◌≡◌, ap, sym, ◌∙◌}
 use native.Mathlib.Omega.{arith}
 use lib.ListN.{take}
 use lib.Seq.{append_snoc}
 use Rattle.flags.specs.Flags.{flag}
 use Rattle.second.proofs.Told.{none_more}
-use borrow.Author.Rules.{rules}
 use Rattle.second.proofs.step.collect.Goals.{After-push-n}
 use Rattle.second.proofs.step.collect.Goals as goal
 

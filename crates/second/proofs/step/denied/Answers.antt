@@ -1,4 +1,3 @@
-use borrow.Author.Rules.{rules}
 use Rattle.second.proofs.step.denied.Goals as goal
 
 pub returns-then-wanted-writable : goal.returns-then-wanted-writable

@@ -1,4 +1,3 @@
-use borrow.Author.Rules.{rules}
 use Rattle.second.proofs.step.flag_clear.Goals as goal
 
 pub returns : goal.returns

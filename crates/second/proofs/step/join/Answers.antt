@@ -1,4 +1,3 @@
-use borrow.Author.Rules.{rules}
 use Rattle.second.proofs.Rights.{bit-and}
 use Rattle.second.proofs.step.join.Goals as goal
 

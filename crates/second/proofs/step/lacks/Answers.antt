@@ -3,7 +3,6 @@ use mathlib.Core.Bool.{Bool, true, false}
 use native.Mathlib.Omega.{arith}
 use mir.Val.{bool_byte}
 use Rattle.second.proofs.Rights.{one-lacks}
-use borrow.Author.Rules.{rules}
 use Rattle.second.proofs.step.lacks.Goals as goal
 
 at_most_one : (b : Bool) → bool_byte b < 2

@@ -1,4 +1,4 @@
-use mathlib.Core.Path.{◌≡◌, refl, ap, sym, ◌∙◌, subst}
+use mathlib.Core.Path.{ap, sym, ◌∙◌, subst}
 use native.Mathlib.Numerals.{add-one}
 use native.Mathlib.Omega.{arith}
 use Rattle.image.specs.Answers.{fetched8}
@@ -7,7 +7,6 @@ use Rattle.image.specs.Windows.{of_windows}
 use Rattle.dma.proofs.Steps.{index-lt}
 use Rattle.second.specs.Answers.{handed_by, StepNames}
 use Rattle.second.proofs.Seconds.{unfetched, fetched}
-use borrow.Author.Rules.{rules}
 use Rattle.second.proofs.step.second_entry.Goals as goal
 
 pub fetch_entry-at-requires : goal.fetch_entry-at-requires

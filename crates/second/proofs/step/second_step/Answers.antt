@@ -1,5 +1,5 @@
 use mathlib.Core.Bool.{true, false, not, ◌||◌}
-use mathlib.Core.Path.{◌≡◌, refl, ap, sym, ◌∙◌}
+use mathlib.Core.Path.{◌≡◌, refl, sym, ◌∙◌}
 use native.Mathlib.Omega.{arith}
 use lib.Dec.{lit≤}
 use Rattle.image.proofs.Fields.{in-place-lt}
@@ -10,7 +10,6 @@ use Rattle.second.specs.Second.{readable, writable, flags_not_snooped}
 use Rattle.second.proofs.Rights as rights
 use Rattle.second.proofs.Seconds as step
 use Rattle.second.proofs.Told.{at_most_two}
-use borrow.Author.Rules.{rules}
 use Rattle.second.proofs.step.second_step.Goals.{Else-field-eq0, Else-flags_not_snooped, Else-lacks, Else-page_reserved, Then-field-eq0}
 use Rattle.second.proofs.step.second_step.Goals as goal
 
@@ -85,9 +84,9 @@ returns-then-is_leaf c =
           (step.to-page a.space.registers a.space.entry a.wanted a.level a.at (handed_by a.above a.flags.now) a.e (passed (goal.at.returns-then-is_leaf c).Else-lacks) leaf);
       step_names = refl;
       step_reachable = (
-          (rw frame (in-place-lt a.e 51 12 (lit≤ tt)), c.requires.0, low-leaf a.space.registers.base a.level a.e (passed (goal.at.returns-then-is_leaf c).Else-lacks).1 leaf, rw frame (omega arith)),
-          (collected.lower_bound.0, at_most_two a.above.count _ a.wanted.write collected.lower_bound.1),
-        );
+        (rw frame (in-place-lt a.e 51 12 (lit≤ tt)), c.requires.0, low-leaf a.space.registers.base a.level a.e (passed (goal.at.returns-then-is_leaf c).Else-lacks).1 leaf, rw frame (omega arith)),
+        (collected.lower_bound.0, at_most_two a.above.count _ a.wanted.write collected.lower_bound.1),
+      );
     }
 
 pub returns : goal.returns

@@ -1,17 +1,14 @@
-use borrow.Author.Rules.{rules}
-use Prim.Native.Nat.{ℕ, ◌+◌, ◌-◌, ◌%◌, ◌^◌, ◌<◌, ◌≤◌}
-use mathlib.Core.List.{List}
-use mathlib.Core.Path.{◌≡◌, refl, ap, sym, ◌∙◌, subst}
+use Prim.Native.Nat.{◌-◌}
+use mathlib.Core.Path.{refl, ap, sym, ◌∙◌, subst}
 use native.Mathlib.Omega.{arith}
 use lib.Dec.{eqb}
-use lib.ListN.{length, take}
-use Rattle.image.specs.Memory.{Memory}
-use Rattle.image.specs.Place.{Place, entry_at, last_tried}
+use lib.ListN.{take}
+use Rattle.image.specs.Place.{entry_at, last_tried}
 use Rattle.image.specs.Rules.{run}
 use Rattle.image.specs.Windows.{of_windows}
 use Rattle.dma.specs.Walk.{down, place_in}
 use Rattle.second.specs.Answers.{second_handed, step_place, StepReachable, StepGrown}
-use Rattle.second.specs.Second.{SecondHanded, at_top, second_rules}
+use Rattle.second.specs.Second.{at_top, second_rules}
 use Rattle.second.proofs.Rights.{from-top, under_top}
 use Rattle.second.proofs.Seconds.{ended, led, ended_at, led-at, anew, down_to}
 use Rattle.second.proofs.Told.{told}
@@ -62,8 +59,8 @@ returns-in-Fault c =
     let there = sym (ap (λ r. step_place r (entry_at (place_in a.address l.table (l.level - 1)))) c.in-Fault.is) ∙ c.second_entry-step.ensures.step_names in record {
       flags_after = ended a.space.registers a.space.entry a.wanted a.address (of_windows a.windows.now a.image.now) l.level l.table (second_handed (eqb l.level a.space.entry.second_levels) l.rights (take l.count l.flags)) l.invariant.0 is ∙ l.invariant.7;
       names = λ before.
-            there ∙ sym (ended_at a.space.registers a.space.entry a.wanted a.address (of_windows a.windows.now a.image.now) l.level l.table (second_handed (eqb l.level a.space.entry.second_levels) l.rights (take l.count l.flags)) l.invariant.0 before is)
-            ∙ l.invariant.8 before before;
+          there ∙ sym (ended_at a.space.registers a.space.entry a.wanted a.address (of_windows a.windows.now a.image.now) l.level l.table (second_handed (eqb l.level a.space.entry.second_levels) l.rights (take l.count l.flags)) l.invariant.0 before is)
+          ∙ l.invariant.8 before before;
       reachable = tt;
       grown = tt;
     }

@@ -1,20 +1,12 @@
-use borrow.Author.Rules.{rules}
-use Prim.Native.Nat.{ℕ, ◌+◌, ◌-◌, ◌%◌, ◌^◌, ◌<◌, ◌≤◌}
-use mathlib.Core.List.{List}
-use mathlib.Core.Path.{◌≡◌, refl, ap, sym, ◌∙◌, subst}
-use native.Mathlib.Omega.{arith}
+use Prim.Native.Nat.{◌+◌, ◌%◌, ◌^◌, ◌<◌, ◌≤◌}
+use mathlib.Core.Path.{◌≡◌}
 use lib.Dec.{eqb}
 use lib.ListN.{length, take}
-use Rattle.image.specs.Memory.{Memory}
-use Rattle.image.specs.Place.{Place, entry_at, last_tried}
+use Rattle.image.specs.Place.{Place, last_tried}
 use Rattle.image.specs.Rules.{run}
 use Rattle.image.specs.Windows.{of_windows}
-use Rattle.dma.specs.Walk.{down, place_in}
-use Rattle.second.specs.Answers.{second_handed, step_place, StepReachable, StepGrown}
-use Rattle.second.specs.Second.{SecondHanded, at_top, second_rules}
-use Rattle.second.proofs.Rights.{from-top, under_top}
-use Rattle.second.proofs.Seconds.{ended, led, ended_at, led-at, anew, down_to}
-use Rattle.second.proofs.Told.{told}
+use Rattle.second.specs.Answers.{second_handed}
+use Rattle.second.specs.Second.{at_top, second_rules}
 use Rattle.second.proofs.walk.second_walk.Given as goal
 
 abbrev pub invariant-loop-level : goal.invariant-loop-level
