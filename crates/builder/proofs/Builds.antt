@@ -3,11 +3,9 @@ use Prim.Native.Nat.{ℕ, ◌/◌}
 use mathlib.Core.Bool.{Bool, true, false}
 use mathlib.Core.Path.{◌≡◌, refl, ap, sym, ◌∙◌}
 use mathlib.Core.List.{List}
-use mathlib.Core.Logic.{◌⊎◌, ⊎_elim}
 use native.Mathlib.Omega.{arith}
 use borrow.Author.Tests.{eq-eqb, ne_eqb}
 use lib.ListN.{length}
-use denote.Enum.Declared.{tag_of}
 use Rattle.image.specs.Windows.{of_windows}
 use Rattle.registers.specs.declared.Registers.{Registers}
 use Rattle.marking.specs.Marking.{mark_all}
@@ -21,18 +19,17 @@ use Rattle.builder.specs.Ready.{ready, readiness}
 use Rattle.builder.specs.declared.items.Taken.{Taken}
 use Rattle.builder.specs.declared.ready.Ready.{Ready}
 use Rattle.builder.specs.declared.ready.Ready.TheVariants as code
-use Rattle.builder.specs.contracts.ready.Ready.{the_type}
 
 module _ (registers : Registers) (windows items memory copy marks : List ℕ) where
   -- any state but ready tables
-  unready-when : (r : Ready) → (tag_of the_type r ≡ 0) ⊎ (tag_of the_type r ≡ 1) → {b : Built} → b ≡ unready (readiness_of r)
+  unready-when : (r : Ready) → ((x : Tree) → r ≡ code.Tables x → ⊥) → {b : Built} → b ≡ unready (readiness_of r)
       → (b, lent memory copy marks) ≡ when_ready registers windows items memory copy marks (readiness_of r)
   unready-when (code.Refused number) key e = ap (λ (b : Built). (b, lent memory copy marks)) e
   unready-when (code.NotYet reason) key e = ap (λ (b : Built). (b, lent memory copy marks)) e
-  unready-when (code.Tables tree) key e = absurd (⊎_elim (λ x. omega arith) (λ x. omega arith) key)
+  unready-when (code.Tables tree) key e = absurd (key tree refl)
 
   module _ (source start size : ℕ) where
-    pub unready-built : (r : Ready) → (tag_of the_type r ≡ 0) ⊎ (tag_of the_type r ≡ 1)
+    pub unready-built : (r : Ready) → ((x : Tree) → r ≡ code.Tables x → ⊥)
         → readiness_of r ≡ readiness registers windows memory start size (length copy) (length marks) source → {b : Built}
         → b ≡ unready (readiness_of r) → (b, lent memory copy marks) ≡ built registers source start size windows items (lent memory copy marks)
     unfolding built

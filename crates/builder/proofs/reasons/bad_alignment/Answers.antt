@@ -1,0 +1,5 @@
+use borrow.Author.Rules.{rules}
+use Rattle.builder.proofs.reasons.bad_alignment.Goals as goal
+
+pub returns : goal.returns
+returns c = rw c.unmaps.ensures

@@ -1,0 +1,5 @@
+use borrow.Author.Rules.{rules}
+use Rattle.builder.proofs.reasons.unmaps.Goals as goal
+
+pub returns : goal.returns
+returns c = rw c.field.ensures
