@@ -12,7 +12,7 @@ use Rattle.image.specs.Bits.{bits}
 use Rattle.image.specs.Bytes.{bytes_of, spell}
 use Rattle.std.specs.Prelude.{if◌then◌else◌}
 use Rattle.image.specs.Choice.{one-if}
-use Rattle.image.specs.Memory.{word_at, entry}
+use Rattle.image.specs.Memory.{word_at}
 use Rattle.image.specs.Place.{Place, no_entry, entry_at}
 use Rattle.image.proofs.Bytes.{number-back, length-bytes_of, bytes-beside}
 use Rattle.image.proofs.Choices.{either}
