@@ -3,14 +3,13 @@ use Prim.Native.Nat.{ℕ, ◌/◌}
 use mathlib.Core.Bool.{Bool, true, false}
 use mathlib.Core.Path.{◌≡◌, refl, ap, sym, ◌∙◌}
 use mathlib.Core.List.{List}
-use native.Mathlib.Omega.{arith}
 use borrow.Author.Tests.{eq-eqb, ne_eqb}
 use lib.ListN.{length}
 use Rattle.image.specs.Windows.{of_windows}
 use Rattle.registers.specs.declared.Registers.{Registers}
 use Rattle.marking.specs.Marking.{mark_all}
 use Rattle.region.specs.Copy.{copied_in, copied_out}
-use Rattle.tables.specs.Tables.{Tables, tables}
+use Rattle.tables.specs.Tables.{tables}
 use Rattle.tables.specs.declared.Tree.{Tree}
 use Rattle.builder.specs.Answers.{readiness_of, unready}
 use Rattle.builder.specs.Build.{Built, all_taken, not_ready, at_item, lent, after_items, from_copy, when_ready, built}

@@ -1,7 +1,7 @@
 -- Laws of what comes before any item.
 use Prim.Native.Nat.{ℕ, ◌+◌, ◌-◌, ◌/◌, ◌%◌, ◌^◌, ◌<◌, ◌≤◌}
 use mathlib.Core.Bool.{Bool, true, false, not, ◌||◌}
-use mathlib.Core.Path.{◌≡◌, refl, ap, sym, ◌∙◌, subst}
+use mathlib.Core.Path.{◌≡◌, refl}
 use mathlib.Core.List.{List}
 use native.Mathlib.Omega.{arith}
 use borrow.Author.Tests.{eqb-true, ltb-false, leb-false, lt-ltb, le-ltb, eq-eqb, ne_eqb, not-false}
@@ -15,7 +15,7 @@ use Rattle.image.proofs.Choices.{both, neither}
 use Rattle.registers.specs.Registers.{registers_bad}
 use Rattle.registers.specs.declared.Registers.{Registers}
 use Rattle.dma.specs.Context.{Usable as UsableContext}
-use Rattle.dma.specs.Lookup.{Lookup, on_lookup, lookup_rules}
+use Rattle.dma.specs.Lookup.{on_lookup, lookup_rules}
 use Rattle.dma.specs.declared.context.Context.{Context}
 use Rattle.region.specs.Region.{not_pages, pages_shown, bad_region}
 use Rattle.region.specs.Shared.{shares_tables}

@@ -5,7 +5,7 @@ use Rattle.image.specs.Rules.{run}
 use Rattle.image.specs.Windows.{of_windows, bad_windows}
 use Rattle.registers.specs.Registers.{registers_bad}
 use Rattle.registers.specs.declared.Registers.{Registers}
-use Rattle.dma.specs.Lookup.{Lookup, on_lookup, lookup_rules}
+use Rattle.dma.specs.Lookup.{on_lookup, lookup_rules}
 use Rattle.dma.specs.declared.context.Context.{Context}
 use Rattle.region.specs.Region.{bad_region}
 use Rattle.tables.specs.declared.Tree.{Tree}

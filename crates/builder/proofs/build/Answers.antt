@@ -1,13 +1,10 @@
 use mathlib.Core.Path.{◌≡◌, ap, sym, ◌∙◌, subst}
 use native.Mathlib.Omega.{arith}
-use borrow.Author.Tests.{not-true, not-false}
 use lib.ListN.{length}
-use Rattle.tables.specs.declared.Tree.{Tree}
 use Rattle.builder.specs.Answers.{readiness_of}
 use Rattle.builder.specs.Ready.{ready, readiness, TablesReady, IfReady}
 use Rattle.builder.proofs.Builds.{unready-built, ready-built, not-marked, stopped-at, finished}
 use Rattle.builder.proofs.Readied.{windows-good}
-use borrow.Author.Rules.{rules}
 use Rattle.builder.proofs.build.Goals.{In-Tables}
 use Rattle.builder.proofs.build.Goals as goal
 

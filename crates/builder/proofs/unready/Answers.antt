@@ -1,7 +1,6 @@
 use mathlib.Core.Path.{ap, sym}
 use Rattle.builder.specs.Answers.{readiness_of, unready}
 use Rattle.builder.specs.declared.ready.Ready.{Ready}
-use borrow.Author.Rules.{rules}
 use Rattle.builder.proofs.unready.Goals as goal
 
 pub returns-in-Refused : goal.returns-in-Refused

@@ -3,7 +3,6 @@ use Prim.Native.Nat.{◌+◌}
 use Rattle.tables.specs.Tables.{tables}
 use Rattle.builder.proofs.ItemLaws.{frame_below}
 use Rattle.builder.proofs.Takes.{refused-item, unmapped-item, mapped-item}
-use borrow.Author.Rules.{rules}
 use Rattle.builder.proofs.items.take_item.Goals as goal
 
 pub returns-then-reason-ne0 : goal.returns-then-reason-ne0

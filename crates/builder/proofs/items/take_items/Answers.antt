@@ -1,9 +1,6 @@
-use Prim.Native.Nat.{◌+◌, ◌*◌, ◌/◌, ◌≤◌}
-use mathlib.Core.Path.{◌≡◌, refl, sym, ◌∙◌}
+use mathlib.Core.Path.{refl, ◌∙◌}
 use native.Mathlib.Omega.{arith}
-use lib.ListN.{length}
 use Rattle.tables.specs.Tables.{tables}
-use Rattle.builder.specs.Items.{take_items}
 use Rattle.builder.proofs.Takes.{items-stop, items-on, items-done}
 use borrow.Author.Rules.{rules}
 use Rattle.builder.proofs.items.take_items.Goals as goal

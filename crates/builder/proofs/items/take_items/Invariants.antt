@@ -1,11 +1,8 @@
 use Prim.Native.Nat.{◌+◌, ◌*◌, ◌/◌, ◌≤◌}
-use mathlib.Core.Path.{◌≡◌, refl, sym, ◌∙◌}
-use native.Mathlib.Omega.{arith}
+use mathlib.Core.Path.{◌≡◌}
 use lib.ListN.{length}
 use Rattle.tables.specs.Tables.{tables}
 use Rattle.builder.specs.Items.{take_items}
-use Rattle.builder.proofs.Takes.{items-stop, items-on, items-done}
-use borrow.Author.Rules.{rules}
 use Rattle.builder.proofs.items.take_items.Given as goal
 
 abbrev pub invariant-loop-left : goal.invariant-loop-left

@@ -1,5 +1,4 @@
 use Rattle.builder.proofs.Readied.{top_below, top-by}
-use borrow.Author.Rules.{rules}
 use Rattle.builder.proofs.ready.is_top_outside.Goals as goal
 
 pub returns-then-top-area : goal.returns-then-top-area

@@ -11,7 +11,6 @@ use Rattle.dma.specs.Lookup.{Lookup, on_lookup}
 use Rattle.dma.proofs.Lookups.{Finds, finds}
 use Rattle.builder.specs.Ready.{not_yet, in_context}
 use Rattle.builder.proofs.Readied.{refused-1, off-1, looked}
-use borrow.Author.Rules.{rules}
 use Rattle.builder.proofs.ready.make_ready.Goals.{After-bad}
 use Rattle.builder.proofs.ready.make_ready.Goals as goal
 

@@ -1,12 +1,10 @@
 use mathlib.Core.Path.{sym, ◌∙◌}
-use native.Mathlib.Omega.{arith}
-use borrow.Author.Tests.{not-true, not-false, ltb-false}
+use borrow.Author.Tests.{ltb-false}
 use lib.Dec.{ltb, leb}
 use Prim.Native.Nat.{◌-◌}
 use Rattle.image.proofs.Choices.{neither}
 use Rattle.registers.proofs.Good.{good}
 use Rattle.builder.proofs.Readied.{passes-2, region-3, sized-5, top-4, readied, usable}
-use borrow.Author.Rules.{rules}
 use Rattle.builder.proofs.ready.ready_in.Goals as goal
 
 pub returns-then-context-eq2 : goal.returns-then-context-eq2

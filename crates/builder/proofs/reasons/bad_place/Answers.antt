@@ -1,4 +1,3 @@
-use borrow.Author.Rules.{rules}
 use Rattle.builder.proofs.reasons.bad_place.Goals as goal
 
 pub returns : goal.returns

@@ -1,5 +1,4 @@
 use Rattle.builder.proofs.ItemLaws.{above-range, below-range}
-use borrow.Author.Rules.{rules}
 use Rattle.builder.proofs.reasons.in_range.Goals as goal
 
 pub returns-then-at-gt4277141503 : goal.returns-then-at-gt4277141503

@@ -1,6 +1,5 @@
 use mathlib.Core.Path.{sym, ◌∙◌}
 use Rattle.builder.proofs.ItemLaws.{sized, reason-first, reason-second}
-use borrow.Author.Rules.{rules}
 use Rattle.builder.proofs.reasons.item_reason.Goals as goal
 
 pub returns-then-reason-ne0 : goal.returns-then-reason-ne0

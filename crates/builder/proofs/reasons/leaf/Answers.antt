@@ -3,7 +3,6 @@ use mathlib.Core.Path.{◌≡◌, sym, ◌∙◌}
 use native.Mathlib.Omega.{arith}
 use Rattle.image.proofs.Fields.{fits}
 use Rattle.builder.specs.Reasons.{is_large, leaf_of}
-use borrow.Author.Rules.{rules}
 use Rattle.builder.proofs.reasons.leaf.Goals as goal
 
 pub overflow_add-entry : goal.overflow_add-entry

@@ -2,7 +2,6 @@ use mathlib.Core.Bool.{true, false}
 use mathlib.Core.Path.{◌≡◌, sym, ◌∙◌}
 use native.Mathlib.Omega.{arith}
 use Rattle.builder.specs.Reasons.{is_large}
-use borrow.Author.Rules.{rules}
 use Rattle.builder.proofs.reasons.levels_below.Goals as goal
 
 pub returns-then-is_large : goal.returns-then-is_large

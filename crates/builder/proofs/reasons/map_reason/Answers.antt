@@ -2,7 +2,6 @@ use mathlib.Core.Bool.{false}
 use mathlib.Core.Path.{◌≡◌, sym, ◌∙◌}
 use Rattle.builder.specs.Reasons.{unmaps, rights}
 use Rattle.builder.proofs.ItemLaws.{unmap-0, rights-4, frame-5, frame-0}
-use borrow.Author.Rules.{rules}
 use Rattle.builder.proofs.reasons.map_reason.Goals.{Else-field-eq0, Else-unmaps}
 use Rattle.builder.proofs.reasons.map_reason.Goals as goal
 

@@ -2,7 +2,6 @@ use mathlib.Core.Bool.{false}
 use mathlib.Core.Path.{◌≡◌, sym, ◌∙◌}
 use Rattle.builder.specs.Reasons.{bad_size, bad_alignment}
 use Rattle.builder.proofs.ItemLaws.{size-1, sizes, alignment-2, place-3, place-0}
-use borrow.Author.Rules.{rules}
 use Rattle.builder.proofs.reasons.place_reason.Goals.{Else-bad_alignment, Else-bad_size}
 use Rattle.builder.proofs.reasons.place_reason.Goals as goal
 

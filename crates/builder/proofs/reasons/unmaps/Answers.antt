@@ -1,4 +1,3 @@
-use borrow.Author.Rules.{rules}
 use Rattle.builder.proofs.reasons.unmaps.Goals as goal
 
 pub returns : goal.returns
