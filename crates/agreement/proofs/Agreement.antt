@@ -1,6 +1,6 @@
 -- The claims on listed spans.
 use Prim.Native.Nat.{ℕ, ◌+◌, ◌-◌, ◌*◌, ◌/◌, ◌%◌, ◌^◌, ◌≤◌, ◌<◌, min}
-use mathlib.Core.Bool.{Bool, true, false, not}
+use mathlib.Core.Bool.{Bool, true, false}
 use mathlib.Core.List.Memᴰ
 use mathlib.Core.List.{List, [], ◌∷◌, Memᴰ}
 use mathlib.Core.Logic.{◌⊎◌, ⊎_elim}
@@ -8,11 +8,11 @@ use mathlib.Core.Path.{◌≡◌, refl, ap, sym, ◌∙◌, subst}
 use native.Mathlib.Nat.{mod-lt, mul_assoc, mul_comm, add-zero}
 use native.Mathlib.Omega.{arith}
 use borrow.Author.Tests.{lt-leb, not-true, lt-ltb, leb-true}
-use lib.Dec.{leb, ltb}
+use lib.Dec.{leb}
 use lib.ListN.{length, take, drop, take-append-drop, drop_of_length-le}
 use lib.Pow.{split, high, low, pow_pos, pow-add}
 use Rattle.std.specs.Prelude.{if◌then◌else◌}
-use Rattle.image.specs.Memory.{Memory, entry}
+use Rattle.image.specs.Memory.{Memory}
 use Rattle.image.specs.Rules.{run}
 use Rattle.image.specs.Windows.{Window, windows_of, end_of, holds_all, nowhere, spot_in, overlap, entry_in, of_windows}
 use Rattle.image.proofs.Choices.{both as both_true, neither}

@@ -1,7 +1,7 @@
 -- How the code looks for the next span: from block to block where nothing is listed.
 use Prim.Native.Nat.{ℕ, suc, ◌+◌, ◌-◌, ◌*◌, ◌/◌, ◌%◌, ◌^◌, ◌≤◌, ◌<◌}
 use mathlib.Core.Bool.{true, false}
-use mathlib.Core.List.{List, []}
+use mathlib.Core.List.{[]}
 use mathlib.Core.Path.{◌≡◌, refl, ap, sym, ◌∙◌, subst}
 use native.Mathlib.Decide.{dec_le}
 use native.Mathlib.Nat.{mod-lt, mul_assoc, mul_comm}

@@ -17,7 +17,7 @@ use Rattle.dma.specs.declared.context.Context.{Context}
 use Rattle.dma.proofs.Lookups.{looked-up}
 use Rattle.regions.specs.Outside.{table_outside}
 use Rattle.mapping.specs.Filled.{FilledWith}
-use Rattle.mapping.specs.Mapping.{Mapped, refused, passed, faulted, spans_mapped, spans, in_context, source_rules, mapping_rules, mapping_answer}
+use Rattle.mapping.specs.Mapping.{refused, passed, faulted, spans_mapped, spans, in_context, source_rules, mapping_rules, mapping_answer}
 use Rattle.mapping.specs.Rows.{rows_of}
 use Rattle.mapping.specs.Spans.{Span}
 use Rattle.mapping.specs.Told.{ListedAs}

@@ -1,5 +1,5 @@
 use Prim.Native.Nat.{ℕ}
-use mathlib.Core.Path.{◌≡◌, refl, sym, ◌∙◌, subst}
+use mathlib.Core.Path.{refl, sym, subst}
 use borrow.Author.Tests.{ne_eqb}
 use Rattle.image.specs.Windows.{of_windows}
 use Rattle.regions.specs.Outside.{table_outside}
@@ -9,7 +9,6 @@ use Rattle.mapping.specs.Spans.{spans_after}
 use Rattle.mapping.specs.Told.{ListedAs}
 use Rattle.mapping.specs.Told as told
 use Rattle.mapping.proofs.Outcomes.{passes-through, translates, told-passed, told-spans}
-use borrow.Author.Rules.{rules}
 use Rattle.mapping.proofs.list_context.Goals as goal
 
 pub returns-then-context-eq2 : goal.returns-then-context-eq2
@@ -25,13 +24,11 @@ shape_of-known c = c.fill-filled.ensures.known_len_unchanged
 
 pub returns : goal.returns
 returns c =
-    let f = c in
-    let e = f in
-    let a = e.args in
+    let a = c.args in
     let region = regions_over (record { registers = a.registers; levels = a.context.levels; top = a.context.top }) a.windows.now a.image.now in
     record {
-      listed_as = subst (λ (k : Mapped). ListedAs k a.rows.now f.fill-filled.new.rows (told.listed f.fill-filled.result.count f.fill-filled.result.more))
-          (sym (translates a.registers (of_windows a.windows.now a.image.now) (table_outside a.windows.now) a.context (ne_eqb _ _ e.if-context-eq2.false)))
-          (told-spans _ a.rows.now _ _ _ (subst (λ (n : ℕ). FilledWith (spans_after region n 0) a.rows.now f.fill-filled.new.rows f.fill-filled.result.count f.fill-filled.result.more) e.space_end-end.ensures.0 f.fill-filled.ensures.filled_with));
-      known_len_unchanged = f.fill-filled.ensures.known_len_unchanged;
+      listed_as = subst (λ (k : Mapped). ListedAs k a.rows.now c.fill-filled.new.rows (told.listed c.fill-filled.result.count c.fill-filled.result.more))
+          (sym (translates a.registers (of_windows a.windows.now a.image.now) (table_outside a.windows.now) a.context (ne_eqb _ _ c.if-context-eq2.false)))
+          (told-spans _ a.rows.now _ _ _ (subst (λ (n : ℕ). FilledWith (spans_after region n 0) a.rows.now c.fill-filled.new.rows c.fill-filled.result.count c.fill-filled.result.more) c.space_end-end.ensures.0 c.fill-filled.ensures.filled_with));
+      known_len_unchanged = c.fill-filled.ensures.known_len_unchanged;
     }

@@ -1,4 +1,4 @@
-use mathlib.Core.Path.{◌≡◌, refl, ap, sym, ◌∙◌, subst}
+use mathlib.Core.Path.{refl, ap, sym, ◌∙◌, subst}
 use Rattle.image.specs.Windows.{of_windows}
 use Rattle.faults.specs.Reason.{number_of}
 use Rattle.dma.specs.Answers.{lookup_of}
@@ -9,27 +9,23 @@ use Rattle.mapping.specs.Mapping.{Mapped}
 use Rattle.mapping.specs.Told.{ListedAs}
 use Rattle.mapping.specs.Told as told
 use Rattle.mapping.proofs.Outcomes.{source-fault, source-context, told-faulted}
-use borrow.Author.Rules.{rules}
 use Rattle.mapping.proofs.list_source.Goals as goal
 
 pub list_context-requires : goal.list_context-requires
 list_context-requires c =
-    let f = c in
-    let k = f in
-    let a = k.args in (
-      k.requires.0,
-      subst Finds (sym f.find_source_context-found.ensures ∙ ap lookup_of c.in-Found.is) (finds a.registers a.source.id (of_windows a.windows.now a.image.now)),
-      k.requires.2,
-      k.requires.3,
+    let a = c.args in (
+      c.requires.0,
+      subst Finds (sym c.find_source_context-found.ensures ∙ ap lookup_of c.in-Found.is) (finds a.registers a.source.id (of_windows a.windows.now a.image.now)),
+      c.requires.2,
+      c.requires.3,
     )
 
 pub returns-in-Fault : goal.returns-in-Fault
 returns-in-Fault c =
-    let f = c in
-    let a = f.args in
+    let a = c.args in
     record {
       listed_as = subst (λ (k : Mapped). ListedAs k a.rows.now a.rows.now (told.faulted (number_of c.in-Fault.reason)))
-          (sym (source-fault a.registers (of_windows a.windows.now a.image.now) (table_outside a.windows.now) a.source.id _ _ (sym f.find_source_context-found.ensures ∙ ap lookup_of c.in-Fault.is)))
+          (sym (source-fault a.registers (of_windows a.windows.now a.image.now) (table_outside a.windows.now) a.source.id _ _ (sym c.find_source_context-found.ensures ∙ ap lookup_of c.in-Fault.is)))
           (told-faulted _ a.rows.now);
       known_len_unchanged = refl;
     }
@@ -39,13 +35,10 @@ shape_of-known c = c.list_context.ensures.known_len_unchanged
 
 pub returns-in-Found : goal.returns-in-Found
 returns-in-Found c =
-    let l = c in
-    let e = l in
-    let f = e in
-    let a = f.args in
+    let a = c.args in
     record {
-      listed_as = subst (λ (k : Mapped). ListedAs k a.rows.now l.list_context.new.rows (told_as l.list_context.result))
-          (sym (source-context a.registers (of_windows a.windows.now a.image.now) (table_outside a.windows.now) a.source.id _ (sym f.find_source_context-found.ensures ∙ ap lookup_of e.in-Found.is)))
-          l.list_context.ensures.listed_as;
-      known_len_unchanged = l.list_context.ensures.known_len_unchanged;
+      listed_as = subst (λ (k : Mapped). ListedAs k a.rows.now c.list_context.new.rows (told_as c.list_context.result))
+          (sym (source-context a.registers (of_windows a.windows.now a.image.now) (table_outside a.windows.now) a.source.id _ (sym c.find_source_context-found.ensures ∙ ap lookup_of c.in-Found.is)))
+          c.list_context.ensures.listed_as;
+      known_len_unchanged = c.list_context.ensures.known_len_unchanged;
     }

@@ -1,7 +1,7 @@
 use Prim.Native.Nat.{ℕ}
 use mathlib.Core.Bool.{false}
 use mathlib.Core.List.{List}
-use mathlib.Core.Path.{◌≡◌, refl, ap, sym, ◌∙◌, subst}
+use mathlib.Core.Path.{◌≡◌, ap, sym, ◌∙◌, subst}
 use native.Mathlib.Omega.{arith}
 use lib.ListN.{length, replicate, length-replicate}
 use Rattle.image.specs.Windows.{of_windows, bad_windows}
@@ -16,18 +16,15 @@ use Rattle.mapping.specs.Mapping.{Mapped}
 use Rattle.mapping.specs.Told.{ListedAs}
 use Rattle.mapping.specs.Told as told
 use Rattle.mapping.proofs.Outcomes.{told-refused, told-passed, answer-bad, answer-refused, answer-passed, answer-taken}
-use borrow.Author.Rules.{rules}
 use Rattle.mapping.proofs.list_spans.Goals.{Else-bad_windows}
 use Rattle.mapping.proofs.list_spans.Goals as goal
 
 pub returns-then-bad_windows : goal.returns-then-bad_windows
 returns-then-bad_windows c =
-    let b = c in
-    let f = b in
-    let a = f.args in
+    let a = c.args in
     record {
-      listed_as = subst (λ (k : Mapped). ListedAs k a.rows.now a.rows.now (told.refused 1)) (sym (answer-bad a.registers a.source.id a.windows.now a.image.now (sym b.bad_windows.ensures ∙ c.if-bad_windows.true))) (told-refused 1 a.rows.now);
-      known_after = f.forget.ensures;
+      listed_as = subst (λ (k : Mapped). ListedAs k a.rows.now a.rows.now (told.refused 1)) (sym (answer-bad a.registers a.source.id a.windows.now a.image.now (sym c.bad_windows.ensures ∙ c.if-bad_windows.true))) (told-refused 1 a.rows.now);
+      known_after = c.forget.ensures;
     }
 
 -- as long as it was
@@ -43,50 +40,37 @@ fine c = sym c.bad_windows.ensures ∙ c.if-bad_windows.false
 
 pub list_source-listing-requires : goal.list_source-listing-requires
 list_source-listing-requires c =
-    let d = c in
-    let b = d in
-    let f = b in
-    let k = f in
-    let a = k.args in
-    let taken = sym (ap admitted_of c.in-Taken.is) ∙ d.admit.ensures in (
+    let a = c.args in
+    let taken = sym (ap admitted_of c.in-Taken.is) ∙ c.admit.ensures in (
       fine (goal.at.list_source-listing-requires c).Else-bad_windows,
       taken-root a.registers _ _ taken,
       omega (arith, (taken-good a.registers _ _ taken).mgaw.least),
-      subst (Sound a.registers (of_windows a.windows.now a.image.now) (table_outside a.windows.now)) (sym f.forget.ensures) (sound-zero a.registers (of_windows a.windows.now a.image.now) (table_outside a.windows.now) (length a.known.now)),
+      subst (Sound a.registers (of_windows a.windows.now a.image.now) (table_outside a.windows.now)) (sym c.forget.ensures) (sound-zero a.registers (of_windows a.windows.now a.image.now) (table_outside a.windows.now) (length a.known.now)),
     )
 
 pub returns-in-Refused : goal.returns-in-Refused
 returns-in-Refused c =
-    let d = c in
-    let f = d in
-    let a = f.args in
-    let is = sym (ap admitted_of c.in-Refused.is) ∙ d.admit.ensures in
+    let a = c.args in
+    let is = sym (ap admitted_of c.in-Refused.is) ∙ c.admit.ensures in
     record {
       listed_as = subst (λ (k : Mapped). ListedAs k a.rows.now a.rows.now (told.refused c.in-Refused.number)) (sym (answer-refused a.registers a.source.id a.windows.now a.image.now (fine (goal.at.returns-in-Refused c).Else-bad_windows) _ is)) (told-refused _ a.rows.now);
-      known_after = f.forget.ensures;
+      known_after = c.forget.ensures;
     }
 
 pub returns-in-Passed : goal.returns-in-Passed
 returns-in-Passed c =
-    let d = c in
-    let f = d in
-    let a = f.args in
-    let is = sym (ap admitted_of c.in-Passed.is) ∙ d.admit.ensures in
+    let a = c.args in
+    let is = sym (ap admitted_of c.in-Passed.is) ∙ c.admit.ensures in
     record {
       listed_as = subst (λ (k : Mapped). ListedAs k a.rows.now a.rows.now told.passed) (sym (answer-passed a.registers a.source.id a.windows.now a.image.now (fine (goal.at.returns-in-Passed c).Else-bad_windows) is)) (told-passed a.rows.now);
-      known_after = f.forget.ensures;
+      known_after = c.forget.ensures;
     }
 
 pub returns-in-Taken : goal.returns-in-Taken
 returns-in-Taken c =
-    let g = c in
-    let l = g in
-    let t = l in
-    let d = t in
-    let f = d in
-    let a = f.args in
-    let is = sym (ap admitted_of t.in-Taken.is) ∙ d.admit.ensures in
+    let a = c.args in
+    let is = sym (ap admitted_of c.in-Taken.is) ∙ c.admit.ensures in
     record {
-      listed_as = subst (λ (k : Mapped). ListedAs k a.rows.now l.list_source-listing.new.rows (told_as l.list_source-listing.result)) (sym (answer-taken a.registers a.source.id a.windows.now a.image.now (fine (goal.at.returns-in-Taken c).Else-bad_windows) is)) l.list_source-listing.ensures.listed_as;
-      known_after = g.forget-in-Taken.ensures ∙ ap (λ (n : ℕ). replicate {A = ℕ} n 0) (long a.known.now l.list_source-listing.new.known f.forget.ensures l.list_source-listing.ensures.known_len_unchanged);
+      listed_as = subst (λ (k : Mapped). ListedAs k a.rows.now c.list_source-listing.new.rows (told_as c.list_source-listing.result)) (sym (answer-taken a.registers a.source.id a.windows.now a.image.now (fine (goal.at.returns-in-Taken c).Else-bad_windows) is)) c.list_source-listing.ensures.listed_as;
+      known_after = c.forget-in-Taken.ensures ∙ ap (λ (n : ℕ). replicate {A = ℕ} n 0) (long a.known.now c.list_source-listing.new.known c.forget.ensures c.list_source-listing.ensures.known_len_unchanged);
     }

@@ -4,7 +4,6 @@ use native.Mathlib.Omega.{arith}
 use Rattle.image.proofs.Fields.{shifted_one}
 use Rattle.regions.proofs.KnownTables.{pow-le}
 use Rattle.mapping.proofs.Outcomes.{page-power}
-use borrow.Author.Rules.{rules}
 use Rattle.mapping.proofs.space_end.Goals as goal
 
 pub returns-then-narrow-wide : goal.returns-then-narrow-wide

@@ -21,8 +21,7 @@ returns-then-frame-gt4277141503 c =
 
 pub overflow_add-result : goal.overflow_add-result
 overflow_add-result c =
-    let k = c in
-    rw c.span_at.ensures (omega (arith, k.requires.0, span-le k.args.level k.requires.2))
+    rw c.span_at.ensures (omega (arith, c.requires.0, span-le c.args.level c.requires.2))
 
 pub returns : goal.returns
 returns c =

@@ -9,7 +9,6 @@ use Rattle.dma.proofs.root.root_reserved.Goals as goal
 pub returns : goal.returns
 unfolding root_reserved
 returns c =
-    let s = c in
-    let low : s.args.e.low < 2 ^ 64 = omega arith in
-    let high : s.args.e.high < 2 ^ 64 = omega arith in
-    rw (low_field low high 63 s.args.haw (lit< tt), from-bit s.args.haw low, c.any_set16.ensures, c.any_set16-2.ensures, c.at_or_above_power.ensures)
+    let low : c.args.e.low < 2 ^ 64 = omega arith in
+    let high : c.args.e.high < 2 ^ 64 = omega arith in
+    rw (low_field low high 63 c.args.haw (lit< tt), from-bit c.args.haw low, c.any_set16.ensures, c.any_set16-2.ensures, c.at_or_above_power.ensures)

@@ -1,21 +1,13 @@
-use Prim.Native.Nat.{ℕ, ◌+◌, ◌-◌, ◌*◌, ◌%◌, ◌^◌, ◌<◌, ◌≤◌}
-use mathlib.Core.Path.{◌≡◌, refl, ap, sym, ◌∙◌, subst}
-use native.Mathlib.Omega.{arith}
+use Prim.Native.Nat.{◌-◌, ◌%◌, ◌^◌, ◌<◌, ◌≤◌}
+use mathlib.Core.Path.{◌≡◌}
 use lib.ListN.{length}
-use borrow.Author.Rules.{rules}
 use Rattle.image.specs.Windows.{of_windows}
-use Rattle.translation.specs.Rights.{both}
-use Rattle.regions.specs.Answers.{region_of}
 use Rattle.regions.specs.Known.{Sound}
 use Rattle.regions.specs.Outside.{table_outside}
-use Rattle.regions.proofs.Regions.{same-region}
-use Rattle.mapping.specs.Answers.{next_of}
 use Rattle.mapping.specs.Mapping.{regions_over}
-use Rattle.mapping.specs.Search.{Fresh, FirstSpan, IsNext}
-use Rattle.mapping.specs.Spans.{span_of}
+use Rattle.mapping.specs.Search.{Fresh}
 use Rattle.mapping.specs.Told.{room}
-use Rattle.mapping.proofs.SpanLaws.{fresh-zero}
-use Rattle.mapping.proofs.RowByRow.{put-length, Done, done_none, done_all, done_full, done_more}
+use Rattle.mapping.proofs.RowByRow.{Done}
 use Rattle.mapping.proofs.filling.fill.Given as goal
 
 abbrev pub invariant-loop-start : goal.invariant-loop-start

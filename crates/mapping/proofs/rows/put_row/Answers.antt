@@ -2,7 +2,6 @@ use Prim.Native.Nat.{◌*◌}
 use native.Mathlib.Omega.{arith}
 use lib.ListN.{length-set}
 use Rattle.mapping.proofs.Laid.{four-put}
-use borrow.Author.Rules.{rules}
 use Rattle.mapping.proofs.rows.put_row.Goals as goal
 
 pub bounds-rows-at-2 : goal.bounds-rows-at-2

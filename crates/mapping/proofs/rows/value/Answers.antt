@@ -1,7 +1,6 @@
 use mathlib.Core.Path.{ap, sym, ◌∙◌}
 use Rattle.regions.specs.Answers.{what_of}
 use Rattle.mapping.specs.Rows.{value_of}
-use borrow.Author.Rules.{rules}
 use Rattle.mapping.proofs.rows.value.Goals as goal
 
 pub returns-in-Fault : goal.returns-in-Fault

@@ -1,6 +1,5 @@
 use native.Mathlib.Nat.{mod-le}
 use native.Mathlib.Omega.{arith}
-use borrow.Author.Rules.{rules}
 use Rattle.mapping.proofs.search.block_end.Goals as goal
 
 pub overflow_sub-result : goal.overflow_sub-result

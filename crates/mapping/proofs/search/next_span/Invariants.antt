@@ -1,18 +1,12 @@
-use Prim.Native.Nat.{◌+◌, ◌-◌, ◌*◌, ◌%◌, ◌^◌, ◌<◌, ◌≤◌}
-use mathlib.Core.Path.{◌≡◌, refl, sym, ◌∙◌}
-use native.Mathlib.Omega.{arith}
+use Prim.Native.Nat.{◌-◌, ◌%◌, ◌^◌, ◌<◌, ◌≤◌}
+use mathlib.Core.Path.{◌≡◌}
 use lib.ListN.{length}
-use borrow.Author.Rules.{rules}
 use Rattle.image.specs.Windows.{of_windows}
-use Rattle.translation.specs.Rights.{both}
-use Rattle.regions.specs.Answers.{region_of}
 use Rattle.regions.specs.Known.{Sound}
 use Rattle.regions.specs.Outside.{table_outside}
-use Rattle.regions.proofs.Regions.{same-region}
 use Rattle.mapping.specs.Mapping.{regions_over}
 use Rattle.mapping.specs.Search.{Fresh}
 use Rattle.mapping.proofs.SpanLaws.{QuietFrom}
-use Rattle.mapping.proofs.NextSpan.{block_more, block-page, none_left, quiet-on, fresh_on, found}
 use Rattle.mapping.proofs.search.next_span.Given as goal
 
 abbrev pub invariant-loop-at : goal.invariant-loop-at

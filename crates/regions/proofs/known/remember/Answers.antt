@@ -15,11 +15,10 @@ returns-then-known-eq0 c = inl refl
 
 pub returns : goal.returns
 returns c =
-    let k = c in
-    let a = k.args in
-    let span = k.table_span-span.ensures.0 in
+    let a = c.args in
+    let span = c.table_span-span.ensures.0 in
     inr (
-      subst (λ (n : ℕ). (a.last + 1) % n ≡ 0) span k.if-last-span-ne0.false,
-      subst (λ (n : ℕ). a.from + n ≤ a.last + 1) span k.if-last-from.false,
+      subst (λ (n : ℕ). (a.last + 1) % n ≡ 0) span c.if-last-span-ne0.false,
+      subst (λ (n : ℕ). a.from + n ≤ a.last + 1) span c.if-last-from.false,
       record { at = c.slot-place.result; put = ap (λ (v : ℕ). set a.known.now c.slot-place.result v) c.key-key.ensures },
     )

@@ -28,11 +28,10 @@ returns-then-page_reserved c =
 
 pub returns-then-not-read-write : goal.returns-then-not-read-write
 returns-then-not-read-write c =
-    let t = c in
-    let a = t.args in
+    let a = c.args in
     record {
-      result_value = none_left a.registers a.fpd a.level a.at a.above a.e t.field.ensures
-          t.if-field-eq0.false t.page_reserved.ensures t.if-page_reserved.false c.field-2.ensures
+      result_value = none_left a.registers a.fpd a.level a.at a.above a.e c.field.ensures
+          c.if-field-eq0.false c.page_reserved.ensures c.if-page_reserved.false c.field-2.ensures
           c.field-3.ensures c.if-not-read-write.true;
       step_names = refl;
     }
@@ -40,17 +39,15 @@ returns-then-not-read-write c =
 -- past all tests
 ended : (c : After-is_leaf)
     → let s = c in
-    let a = s.args in
-    let joined : Rights = record { read = a.above.read && eqb s.field-2.result 1; write = a.above.write && eqb s.field-3.result 1 } in
+    let a = c.args in
+    let joined : Rights = record { read = a.above.read && eqb c.field-2.result 1; write = a.above.write && eqb c.field-3.result 1 } in
     (if c.is_leaf.result then done (page c.in_place-frame.result a.level joined) else down c.in_place-frame.result joined)
     ≡ entry_step a.registers a.fpd a.level a.at a.above a.e
 ended c =
-    let s = c in
-    let t = s in
-    let a = t.args in
-    at-end a.registers a.fpd a.level a.at a.above a.e t.field.ensures
-    t.if-field-eq0.false t.page_reserved.ensures t.if-page_reserved.false s.field-2.ensures
-    s.field-3.ensures s.if-not-read-write.false c.is_leaf.ensures c.in_place-frame.ensures
+    let a = c.args in
+    at-end a.registers a.fpd a.level a.at a.above a.e c.field.ensures
+    c.if-field-eq0.false c.page_reserved.ensures c.if-page_reserved.false c.field-2.ensures
+    c.field-3.ensures c.if-not-read-write.false c.is_leaf.ensures c.in_place-frame.ensures
 
 pub returns-then-is_leaf : goal.returns-then-is_leaf
 returns-then-is_leaf c =
