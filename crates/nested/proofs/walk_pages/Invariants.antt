@@ -1,0 +1,28 @@
+use Prim.Native.Nat.{ℕ, ◌≤◌}
+use mathlib.Core.Path.{◌≡◌, refl, ap, sym, ◌∙◌, subst}
+use native.Mathlib.Omega.{arith}
+use lib.ListN.{length}
+use Rattle.image.specs.Memory.{Memory}
+use Rattle.image.specs.Place.{Place, entry_at, last_tried}
+use Rattle.image.specs.Rules.{Rules, run}
+use Rattle.image.specs.Spans.{Opened}
+use Rattle.image.specs.Windows.{of_windows}
+use Rattle.nested.specs.Answers.{PagesNames}
+use Rattle.nested.specs.Pages.{Pages}
+use Rattle.nested.specs.Positions.{kind_rules, position_rules, PositionFits}
+use Rattle.nested.specs.declared.position.Walk.{Walk}
+use borrow.Author.Rules.{rules}
+use Rattle.nested.proofs.walk_pages.Given as goal
+
+abbrev pub invariant-loop-next : goal.invariant-loop-next
+invariant-loop-next l =
+    Opened l.walk.space.first l.windows (length l.image)
+    × PositionFits l.walk.space.entry l.position
+    × (length l.flags ≡ length l.initial.flags)
+    × (47 ≤ length l.initial.flags)
+    × (run (position_rules l.walk l.position l.flags) (of_windows l.windows l.image) ≡ run (kind_rules l.walk.space.registers l.walk.space.entry l.walk.asked.address l.walk.asked.write) (of_windows l.windows l.image))
+    × (last_tried (entry_at l.position.last) (position_rules l.walk l.position l.flags) (of_windows l.windows l.image)
+    ≡ last_tried (entry_at l.at) (kind_rules l.walk.space.registers l.walk.space.entry l.walk.asked.address l.walk.asked.write) (of_windows l.windows l.image))
+
+abbrev pub decreases-loop-next : goal.decreases-loop-next
+decreases-loop-next l = l.position.level

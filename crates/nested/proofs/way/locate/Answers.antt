@@ -1,0 +1,99 @@
+use Prim.Native.Nat.{ℕ, zero, suc, ◌<◌, ◌≤◌}
+use mathlib.Core.Bool.{Bool, true, false, not, ◌||◌}
+use mathlib.Core.List.{List}
+use mathlib.Core.Path.{◌≡◌, refl, ap, sym, ◌∙◌}
+use native.Mathlib.Omega.{arith}
+use borrow.Author.Rules.{rules}
+use borrow.Author.Tests.{eqb-true, eqb-false, not-true, not-false}
+use lib.Dec.{eqb}
+use lib.ListN.{take}
+use Rattle.image.specs.Memory.{Memory}
+use Rattle.image.specs.Rules.{run}
+use Rattle.image.specs.Windows.{of_windows}
+use Rattle.image.proofs.Choices.{neither, above_zero}
+use Rattle.pasid.specs.declared.table.PasidEntry.{PasidEntry}
+use Rattle.nested.specs.Pages.{FirstHanded, first_handed, locate, SecondWalkable}
+use Rattle.nested.specs.Positions.{PositionFits}
+use Rattle.nested.specs.declared.position.Position.{Position}
+use Rattle.nested.proofs.Leads.{PageTells, page-tells, fault-tells}
+use Rattle.nested.proofs.Nested.{itself}
+use Rattle.nested.proofs.Rests.{entry_place}
+use Rattle.nested.proofs.way.locate.Goals.{After-host_address-host, Else-not-through_second}
+use Rattle.nested.proofs.way.locate.Goals as goal
+
+few : (p : PasidEntry) (s : Position) → PositionFits p s → s.level ≤ 5
+few p s fits = by s.level (λ more. (fits.0 more).1)
+  where
+    by : (level : ℕ) → (0 < level → level ≤ 5) → level ≤ 5
+    by zero h = omega arith
+    by (suc n) h = h (omega arith)
+
+asks : (p : PasidEntry) (s : Position) → PositionFits p s → (eqb s.level 0 || eqb p.kind 3) ≡ true → SecondWalkable p × (s.count ≤ 41)
+asks p s fits second = by (eqb s.level 0) refl
+  where
+    by : (t : Bool) → eqb s.level 0 ≡ t → SecondWalkable p × (s.count ≤ 41)
+    by true q = fits.1 (eqb-true s.level 0 q)
+    by false q =
+        let more = above_zero s.level q in
+        let first = fits.0 more in
+        (first.0.4 (eqb-true p.kind 3 (rw q at second)), omega (arith, first.4))
+
+pub place_of-place-requires : goal.place_of-place-requires
+place_of-place-requires c =
+    let fits = c.requires.1 in
+    (few c.args.walk.space.entry c.args.position fits, λ more. ((fits.0 more).2, (fits.0 more).3))
+
+-- an entry, which stands at its address itself
+pub returns-then-not-through_second : goal.returns-then-not-through_second
+returns-then-not-through_second c =
+    let w = c.args.walk in
+    let at = c.place_of-place in
+    let other = neither _ _ (sym c.through_second.ensures ∙ c.if-not-through_second.true) in
+    let more = above_zero c.args.position.level other.0 in
+    let place = entry_place w.space.registers w.space.entry w.asked.address w.asked.write (of_windows c.args.windows.now c.args.image.now) c.args.position.level c.args.position.at at.result (first_handed c.args.position.top (take c.args.position.count c.args.flags.now)) at.ensures.value more in
+    let fine = at.ensures.result_value more in (
+      more,
+      fine.0,
+      omega (arith, fine.1),
+      omega arith,
+      itself w.space.registers w.space.entry (first_handed c.args.position.top (take c.args.position.count c.args.flags.now)) at.result (of_windows c.args.windows.now c.args.image.now) (eqb-false w.space.entry.kind 3 other.1)
+          ∙ ap (λ (x : ℕ). run (locate w.space.registers w.space.entry (first_handed c.args.position.top (take c.args.position.count c.args.flags.now)) x) (of_windows c.args.windows.now c.args.image.now)) place,
+    )
+
+-- or the second level is asked
+second : (c : Else-not-through_second) → (eqb c.args.position.level 0 || eqb c.args.walk.space.entry.kind 3) ≡ true
+second c = sym c.through_second.ensures ∙ c.if-not-through_second.false
+
+pub intermediate-requires : goal.intermediate-requires
+intermediate-requires c =
+    let may = asks c.args.walk.space.entry c.args.position c.requires.1 (second (goal.at.intermediate-requires c).Else-not-through_second) in
+    (c.requires.0, may.0, omega (arith, may.1, c.requires.2))
+
+pub host_address-host-requires : goal.host_address-host-requires
+host_address-host-requires c =
+    let page = rw c.in-Page.is at c.intermediate.ensures.reachable in
+    (page.0, page.1, page.2)
+
+told : (c : After-host_address-host) → let a = c.args in let n = c.in-Page in
+    PageTells a.walk a.position (of_windows a.windows.now a.image.now) a.flags.now c.intermediate.new.flags c.place_of-place.result n.frame n.level c.host_address-host.result n.writable n.count
+told c =
+    let a = c.args in
+    let at = c.place_of-place in
+    let e = c.intermediate.ensures in
+    page-tells a.walk a.position (of_windows a.windows.now a.image.now) a.flags.now c.intermediate.new.flags at.result at.ensures.value
+    (sym c.through_second.ensures ∙ c.if-not-through_second.false) c.requires.1 (λ more. (at.ensures.result_value more).0) c.host_address-host.ensures
+    (rw c.in-Page.is at e.flags_after) (rw c.in-Page.is at e.reachable) (rw c.in-Page.is at e.grown).1
+
+pub returns-then-position-eq0 : goal.returns-then-position-eq0
+returns-then-position-eq0 c = (told (goal.at.returns-then-position-eq0 c).After-host_address-host).0 c.if-position-eq0.true
+
+pub returns-else-position-eq0 : goal.returns-else-position-eq0
+returns-else-position-eq0 c = (told (goal.at.returns-else-position-eq0 c).After-host_address-host).1 c.if-position-eq0.false
+
+pub returns-in-Fault : goal.returns-in-Fault
+returns-in-Fault c =
+    let a = c.args in
+    let at = c.place_of-place in
+    let e = c.intermediate.ensures in
+    fault-tells a.walk a.position (of_windows a.windows.now a.image.now) a.flags.now c.intermediate.new.flags at.result at.ensures.value
+    (sym c.through_second.ensures ∙ c.if-not-through_second.false) c.in-Fault.reason (rw c.in-Fault.is at e.flags_after) (rw c.in-Fault.is at e.names)
