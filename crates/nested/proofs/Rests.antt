@@ -1,8 +1,8 @@
 -- What is left of a translation, by what a level's entry says of it.
-use Prim.Native.Nat.{ℕ, zero, ◌-◌, ◌<◌}
+use Prim.Native.Nat.{ℕ, ◌-◌, ◌<◌}
 use mathlib.Core.Bool.{Bool, true, false, ◌||◌}
 use mathlib.Core.List.{List, []}
-use mathlib.Core.Path.{◌≡◌, refl, ap, sym, ◌∙◌, subst}
+use mathlib.Core.Path.{◌≡◌, refl, ap, sym, ◌∙◌}
 use native.Mathlib.Omega.{arith}
 use borrow.Author.Tests.{eq-eqb, ne_eqb, eqb-true}
 use lib.Dec.{eqb}
@@ -15,7 +15,7 @@ use Rattle.image.proofs.Trees.{Outside, run-map}
 use Rattle.dma.specs.Walk.{Step, done, down, on_step, place_in}
 use Rattle.pasid.specs.declared.ScalableRegisters.{ScalableRegisters}
 use Rattle.pasid.specs.declared.table.PasidEntry.{PasidEntry}
-use Rattle.second.specs.Second.{Walked, page, fault as no_page}
+use Rattle.second.specs.Second.{Walked, fault as no_page}
 use Rattle.nested.specs.Pages.{Pages, reached, fault, FirstHanded, first_handed, wanted_of_page, to_entry, to_page, intermediate_rules, locate, host_page_rules, first_rules}
 use Rattle.nested.specs.Positions.{place_at, wanted_at, kind_rules, rest_rules}
 use Rattle.nested.specs.Then.{then_rules}

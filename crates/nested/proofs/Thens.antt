@@ -1,6 +1,6 @@
 -- Laws of rules that go on with others.
 use Prim.Native.Nat.{ℕ}
-use mathlib.Core.Path.{◌≡◌, refl, ap, sym, ◌∙◌}
+use mathlib.Core.Path.{◌≡◌, refl, ap, sym}
 use Rattle.image.specs.EntryKind.{words_of}
 use Rattle.image.specs.Memory.{Memory, Fetched, missing, found, entry, on_fetch}
 use Rattle.image.specs.Place.{Place, entry_at, last_tried}

@@ -1,7 +1,7 @@
 -- What a turn tells, by the rules that follow it.
 use Prim.Native.Nat.{ℕ}
 use mathlib.Core.List.{List, []}
-use mathlib.Core.Path.{◌≡◌, refl, ap, sym, ◌∙◌, subst}
+use mathlib.Core.Path.{◌≡◌, ap, ◌∙◌, subst}
 use Rattle.image.specs.Memory.{Memory}
 use Rattle.image.specs.Place.{Place, entry_at, last_tried}
 use Rattle.image.specs.Rules.{Rules, run}

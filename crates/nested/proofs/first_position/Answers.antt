@@ -1,5 +1,5 @@
 use mathlib.Core.List.{[]}
-use mathlib.Core.Path.{◌≡◌, refl}
+use mathlib.Core.Path.{refl}
 use native.Mathlib.Omega.{arith}
 use Rattle.nested.proofs.Rests.{second-alone, first-too}
 use Rattle.nested.proofs.first_position.Goals as goal

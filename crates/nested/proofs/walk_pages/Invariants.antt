@@ -1,17 +1,11 @@
-use Prim.Native.Nat.{ℕ, ◌≤◌}
-use mathlib.Core.Path.{◌≡◌, refl, ap, sym, ◌∙◌, subst}
-use native.Mathlib.Omega.{arith}
+use Prim.Native.Nat.{◌≤◌}
+use mathlib.Core.Path.{◌≡◌}
 use lib.ListN.{length}
-use Rattle.image.specs.Memory.{Memory}
-use Rattle.image.specs.Place.{Place, entry_at, last_tried}
-use Rattle.image.specs.Rules.{Rules, run}
+use Rattle.image.specs.Place.{entry_at, last_tried}
+use Rattle.image.specs.Rules.{run}
 use Rattle.image.specs.Spans.{Opened}
 use Rattle.image.specs.Windows.{of_windows}
-use Rattle.nested.specs.Answers.{PagesNames}
-use Rattle.nested.specs.Pages.{Pages}
 use Rattle.nested.specs.Positions.{kind_rules, position_rules, PositionFits}
-use Rattle.nested.specs.declared.position.Walk.{Walk}
-use borrow.Author.Rules.{rules}
 use Rattle.nested.proofs.walk_pages.Given as goal
 
 abbrev pub invariant-loop-next : goal.invariant-loop-next

@@ -1,11 +1,8 @@
 use Prim.Native.Nat.{◌+◌, ◌-◌, ◌%◌}
-use mathlib.Core.Path.{◌≡◌, refl, ap, sym, ◌∙◌}
+use mathlib.Core.Path.{◌≡◌, refl, ap, ◌∙◌}
 use native.Mathlib.Omega.{arith}
-use lib.ListN.{take, length}
-use Rattle.image.specs.Memory.{Memory, entry}
+use Rattle.image.specs.Memory.{entry}
 use Rattle.image.specs.Windows.{of_windows}
-use Rattle.nested.specs.Pages.{FirstHanded}
-use borrow.Author.Rules.{rules}
 use Rattle.nested.proofs.level.level_entry.Goals as goal
 
 pub page_entry8_by-requires : goal.page_entry8_by-requires

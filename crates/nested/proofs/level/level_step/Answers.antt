@@ -1,9 +1,7 @@
-use mathlib.Core.Path.{◌≡◌, refl, ap, sym, ◌∙◌}
+use mathlib.Core.Path.{refl}
 use native.Mathlib.Omega.{arith}
 use lib.ListN.{take}
-use Rattle.dma.specs.Walk.{down}
 use Rattle.nested.proofs.Firsts.{down-told, page-told, fault-told, above-one}
-use borrow.Author.Rules.{rules}
 use Rattle.nested.proofs.level.level_step.Goals as goal
 
 pub first_step-requires : goal.first_step-requires

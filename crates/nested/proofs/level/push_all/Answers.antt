@@ -1,12 +1,11 @@
-use Prim.Native.Nat.{ℕ, ◌+◌}
+use Prim.Native.Nat.{ℕ}
 use mathlib.Core.List.{List, [], ◌∷◌, ◌++◌}
-use mathlib.Core.Path.{◌≡◌, refl, ap, sym, ◌∙◌}
+use mathlib.Core.Path.{ap, ◌∙◌}
 use native.Mathlib.Omega.{arith}
-use lib.ListN.{take, length}
+use lib.ListN.{take}
 use Rattle.std.specs.Prelude.{if◌then◌else◌}
 use Rattle.flags.specs.Flags.{flag}
 use Rattle.nested.proofs.Firsts.{one_by_one}
-use borrow.Author.Rules.{rules}
 use Rattle.nested.proofs.level.push_all.Goals as goal
 
 pub push_if-written-requires : goal.push_if-written-requires

@@ -1,8 +1,6 @@
 use mathlib.Core.Bool.{true, false}
 use mathlib.Core.Path.{◌≡◌, sym, ◌∙◌}
 use native.Mathlib.Omega.{arith}
-use lib.ListN.{take}
-use borrow.Author.Rules.{rules}
 use Rattle.first.specs.First.{flag_clear}
 use Rattle.nested.proofs.Firsts.{nothing}
 use Rattle.nested.proofs.level.push_entry.Goals as goal

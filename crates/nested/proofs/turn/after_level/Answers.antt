@@ -1,12 +1,10 @@
-use Prim.Native.Nat.{◌-◌}
 use mathlib.Core.Bool.{false}
-use mathlib.Core.Path.{◌≡◌, refl, ap, sym, ◌∙◌}
+use mathlib.Core.Path.{refl}
 use native.Mathlib.Omega.{arith}
 use lib.ListN.{take}
 use Rattle.dma.specs.Page.{host_address}
 use Rattle.nested.specs.Pages.{first_handed}
 use Rattle.nested.proofs.Rests.{page-last, page-next, fault-last}
-use borrow.Author.Rules.{rules}
 use Rattle.nested.proofs.turn.after_level.Goals as goal
 
 pub host_address-host-requires : goal.host_address-host-requires
@@ -34,12 +32,12 @@ returns-in-Down c =
       by_index = λ flags. rw c.in-Down.is;
       turn_last = rw c.in-Down.is;
       turn_fits = (
-          (
-            λ some. (c.requires.0, omega (arith, c.requires.2), next.1, next.2, omega (arith, grows, c.requires.2)),
-            λ none. absurd (omega (arith, next.0)),
-          ),
-          omega (arith, c.requires.1),
-        );
+        (
+          λ some. (c.requires.0, omega (arith, c.requires.2), next.1, next.2, omega (arith, grows, c.requires.2)),
+          λ none. absurd (omega (arith, next.0)),
+        ),
+        omega (arith, c.requires.1),
+      );
     }
 
 -- a page at an intermediate address
@@ -51,9 +49,9 @@ returns-else-walk-ne3 c =
       by_index = λ flags. rw (c.in-Page.is, host) (page-next w.space.registers w.space.entry w.asked.address w.asked.write c.in-Page.frame c.in-Page.of (host_address c.in-Page.of c.in-Page.frame w.asked.address) (first_handed false (take c.in-Page.count flags)) c.if-walk-ne3.false);
       turn_last = rw c.in-Page.is;
       turn_fits = (
-          (λ some. absurd (omega arith), λ none. (c.requires.0.4 c.if-walk-ne3.false, omega (arith, grows))),
-          omega (arith, c.requires.1),
-        );
+        (λ some. absurd (omega arith), λ none. (c.requires.0.4 c.if-walk-ne3.false, omega (arith, grows))),
+        omega (arith, c.requires.1),
+      );
     }
 
 pub returns-in-Fault : goal.returns-in-Fault

@@ -1,15 +1,14 @@
 use Prim.Native.Nat.{suc, ◌-◌}
-use mathlib.Core.Path.{◌≡◌, refl, ap, sym, ◌∙◌, subst}
+use mathlib.Core.Path.{◌≡◌, ◌∙◌}
 use native.Mathlib.Omega.{arith}
-use lib.ListN.{take, length}
-use Rattle.image.specs.Place.{Place, entry_at}
+use lib.ListN.{take}
+use Rattle.image.specs.Place.{entry_at}
 use Rattle.image.specs.Windows.{of_windows}
 use Rattle.nested.specs.Answers.{level_place}
 use Rattle.nested.specs.Pages.{first_handed}
 use Rattle.nested.proofs.Firsts.{entered, entered_at, grows-more}
 use Rattle.nested.proofs.Rests.{onward, onward-at}
 use Rattle.nested.proofs.Turns.{turned}
-use borrow.Author.Rules.{rules}
 use Rattle.nested.proofs.turn.take_turn.Goals as goal
 
 pub locate-requires : goal.locate-requires

@@ -1,18 +1,14 @@
 use Prim.Native.Nat.{◌+◌}
-use mathlib.Core.Path.{◌≡◌, refl, ap, sym, ◌∙◌, subst}
+use mathlib.Core.Path.{ap, sym, ◌∙◌, subst}
 use native.Mathlib.Omega.{arith}
 use lib.ListN.{take}
-use Rattle.image.specs.Memory.{Memory}
 use Rattle.image.specs.Place.{entry_at, last_tried}
-use Rattle.image.specs.Rules.{Rules, run}
+use Rattle.image.specs.Rules.{run}
 use Rattle.image.specs.Windows.{of_windows}
 use Rattle.second.specs.Answers.{Names}
-use Rattle.second.specs.Second.{Walked}
-use Rattle.second.specs.declared.step.Wanted.{Wanted}
 use Rattle.nested.specs.Pages.{intermediate_rules}
 use Rattle.nested.specs.Positions.{wanted_at}
 use Rattle.nested.proofs.Nested.{beyond, beyond-at, within, grown-more}
-use borrow.Author.Rules.{rules}
 use Rattle.nested.proofs.way.intermediate.Goals as goal
 
 pub overflows-requires : goal.overflows-requires

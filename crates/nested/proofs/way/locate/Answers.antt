@@ -1,18 +1,15 @@
 use Prim.Native.Nat.{ℕ, zero, suc, ◌<◌, ◌≤◌}
-use mathlib.Core.Bool.{Bool, true, false, not, ◌||◌}
-use mathlib.Core.List.{List}
+use mathlib.Core.Bool.{Bool, true, false, ◌||◌}
 use mathlib.Core.Path.{◌≡◌, refl, ap, sym, ◌∙◌}
 use native.Mathlib.Omega.{arith}
-use borrow.Author.Rules.{rules}
-use borrow.Author.Tests.{eqb-true, eqb-false, not-true, not-false}
+use borrow.Author.Tests.{eqb-true, eqb-false}
 use lib.Dec.{eqb}
 use lib.ListN.{take}
-use Rattle.image.specs.Memory.{Memory}
 use Rattle.image.specs.Rules.{run}
 use Rattle.image.specs.Windows.{of_windows}
 use Rattle.image.proofs.Choices.{neither, above_zero}
 use Rattle.pasid.specs.declared.table.PasidEntry.{PasidEntry}
-use Rattle.nested.specs.Pages.{FirstHanded, first_handed, locate, SecondWalkable}
+use Rattle.nested.specs.Pages.{first_handed, locate, SecondWalkable}
 use Rattle.nested.specs.Positions.{PositionFits}
 use Rattle.nested.specs.declared.position.Position.{Position}
 use Rattle.nested.proofs.Leads.{PageTells, page-tells, fault-tells}

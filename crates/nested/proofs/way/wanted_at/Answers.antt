@@ -1,4 +1,3 @@
-use mathlib.Core.Path.{◌≡◌}
 use borrow.Author.Tests.{eq-eqb, ne_eqb}
 use Rattle.nested.specs.Positions.{wanted_at}
 use Rattle.nested.proofs.way.wanted_at.Goals as goal
