@@ -366,7 +366,7 @@ module _ (registers : Registers) (start size : ℕ) (items : List ℕ) (own : Co
                 stops_at_lem : (k : Memory) → run (lookup_rules registers tsource) k ≡ context its
                     → stopped_at asks k ≡ last_tried (last_tried no_entry (lookup_rules registers tsource) k) (type_rules registers taddress its) k
                 stops_at_lem k lk =
-                    sym (translation-admissions.takes_at registers request k refl (sym is))
+                    sym (translation-admissions.takes_at_lem registers request k refl (sym is))
                     ∙ looked-up-at registers completion.fault (type_rules registers taddress) k tsource no_entry
                     ∙ ap
                     (λ (l : Lookup).
