@@ -1,5 +1,4 @@
 use mathlib.Core.Path.{sym, ◌∙◌}
-use borrow.Author.Rules.{rules}
 use borrow.Author.Tests.{eq-eqb, ne_eqb}
 use Rattle.galitzaf.specs.FirstBad.{first_bad_call}
 use Rattle.galitzaf.proofs.first_bad.galitzaf_first_bad.Goals as goal

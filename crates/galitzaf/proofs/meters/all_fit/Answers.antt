@@ -1,11 +1,10 @@
-use Prim.Native.Nat.{ℕ, ◌≤◌, ◌-◌}
-use mathlib.Core.Path.{◌≡◌, refl, ap, sym, ◌∙◌, subst}
+use Prim.Native.Nat.{ℕ}
+use mathlib.Core.Path.{◌≡◌, refl, ap, ◌∙◌}
 use native.Mathlib.Omega.{arith}
 use lib.ListN.{length}
-use Rattle.meter.proofs.Rows.{fit, all_fit}
+use Rattle.meter.proofs.Rows.{all_fit}
 use Rattle.galitzaf.specs.Meters.{row_of}
 use Rattle.galitzaf.proofs.Arrays.{looked, all-looked}
-use borrow.Author.Rules.{rules}
 use Rattle.galitzaf.proofs.meters.all_fit.Goals as goal
 
 pub loop-i-init : goal.loop-i-init

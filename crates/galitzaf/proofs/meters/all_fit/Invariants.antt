@@ -1,11 +1,8 @@
-use Prim.Native.Nat.{ℕ, ◌≤◌, ◌-◌}
-use mathlib.Core.Path.{◌≡◌, refl, ap, sym, ◌∙◌, subst}
-use native.Mathlib.Omega.{arith}
+use Prim.Native.Nat.{◌≤◌, ◌-◌}
+use mathlib.Core.Path.{◌≡◌}
 use lib.ListN.{length}
-use Rattle.meter.proofs.Rows.{fit, all_fit}
+use Rattle.meter.proofs.Rows.{all_fit}
 use Rattle.galitzaf.specs.Meters.{row_of}
-use Rattle.galitzaf.proofs.Arrays.{looked, all-looked}
-use borrow.Author.Rules.{rules}
 use Rattle.galitzaf.proofs.meters.all_fit.Given as goal
 
 abbrev pub invariant-loop-i : goal.invariant-loop-i

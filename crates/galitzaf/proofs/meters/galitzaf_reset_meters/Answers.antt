@@ -1,12 +1,11 @@
-use Prim.Native.Nat.{ℕ, ◌≤◌, ◌-◌}
-use mathlib.Core.Path.{◌≡◌, refl, ap, sym, ◌∙◌, subst}
+use Prim.Native.Nat.{ℕ}
+use mathlib.Core.Path.{◌≡◌, refl, ap, ◌∙◌}
 use mathlib.Core.List.{List}
 use native.Mathlib.Omega.{arith}
 use lib.Ieee.{Float}
 use lib.ListN.{length, set, length-set}
 use Rattle.meter.specs.Meter.{nought}
 use Rattle.galitzaf.proofs.Arrays.{zeros, zeros-next, zeros-all, one_more}
-use borrow.Author.Rules.{rules}
 use Rattle.galitzaf.proofs.meters.galitzaf_reset_meters.Goals as goal
 
 pub loop-i-init : goal.loop-i-init

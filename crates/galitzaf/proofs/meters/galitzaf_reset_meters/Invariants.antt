@@ -1,12 +1,7 @@
-use Prim.Native.Nat.{ℕ, ◌≤◌, ◌-◌}
-use mathlib.Core.Path.{◌≡◌, refl, ap, sym, ◌∙◌, subst}
-use mathlib.Core.List.{List}
-use native.Mathlib.Omega.{arith}
-use lib.Ieee.{Float}
-use lib.ListN.{length, set, length-set}
-use Rattle.meter.specs.Meter.{nought}
-use Rattle.galitzaf.proofs.Arrays.{zeros, zeros-next, zeros-all, one_more}
-use borrow.Author.Rules.{rules}
+use Prim.Native.Nat.{◌≤◌, ◌-◌}
+use mathlib.Core.Path.{◌≡◌}
+use lib.ListN.{length}
+use Rattle.galitzaf.proofs.Arrays.{zeros}
 use Rattle.galitzaf.proofs.meters.galitzaf_reset_meters.Given as goal
 
 abbrev pub invariant-loop-i : goal.invariant-loop-i

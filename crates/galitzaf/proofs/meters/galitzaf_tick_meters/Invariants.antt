@@ -1,13 +1,9 @@
-use Prim.Native.Nat.{ℕ, ◌≤◌, ◌-◌, ◌<◌}
-use mathlib.Core.Bool.{true, false, ◌&&◌}
-use mathlib.Core.Path.{◌≡◌, refl, ap, sym, ◌∙◌}
-use native.Mathlib.Omega.{arith}
-use lib.Dec.{eqb}
-use lib.ListN.{length, length-set}
+use Prim.Native.Nat.{◌≤◌, ◌-◌}
+use mathlib.Core.Path.{◌≡◌}
+use lib.ListN.{length}
 use Rattle.meter.proofs.Rows.{steps, marks}
-use Rattle.galitzaf.specs.Meters.{row_of, loads_of, malformed_meters}
-use Rattle.galitzaf.proofs.Arrays.{Matched, matched, row-loads, bad-row, uneven, unfit, loads-next, bytes_next, loads-all, bytes-all, all-ticked, taken, not_taken}
-use borrow.Author.Rules.{rules}
+use Rattle.galitzaf.specs.Meters.{row_of, loads_of}
+use Rattle.galitzaf.proofs.Arrays.{Matched}
 use Rattle.galitzaf.proofs.meters.galitzaf_tick_meters.Given as goal
 
 -- every array has a place for each meter, and the first i of loads and bytes are ticked

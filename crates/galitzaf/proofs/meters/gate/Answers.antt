@@ -1,6 +1,4 @@
-use mathlib.Core.Path.{◌≡◌, refl, ap, sym, ◌∙◌}
 use borrow.Author.Tests.{eq-eqb, ne_eqb}
-use borrow.Author.Rules.{rules}
 use Rattle.galitzaf.proofs.meters.gate.Goals as goal
 
 pub returns-then-kind-eq0 : goal.returns-then-kind-eq0

@@ -1,4 +1,3 @@
-use borrow.Author.Rules.{rules}
 use Rattle.galitzaf.proofs.meters.malformed_row.Goals as goal
 
 pub returns : goal.returns

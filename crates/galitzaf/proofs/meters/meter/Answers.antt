@@ -1,8 +1,7 @@
-use mathlib.Core.Path.{◌≡◌, ap}
+use mathlib.Core.Path.{ap}
 use lib.Ieee.{Float}
 use Rattle.meter.specs.declared.Gate.{Gate}
 use Rattle.meter.specs.declared.Meter.{Meter}
-use borrow.Author.Rules.{rules}
 use Rattle.galitzaf.proofs.meters.meter.Goals as goal
 
 with-gate : Float → Gate → Meter

@@ -1,11 +1,10 @@
-use Prim.Native.Nat.{ℕ, ◌≤◌, ◌-◌}
-use mathlib.Core.Path.{◌≡◌, refl, ap, sym, ◌∙◌, subst}
+use Prim.Native.Nat.{ℕ}
+use mathlib.Core.Path.{◌≡◌, refl, ap, ◌∙◌}
 use mathlib.Core.Bool.{Bool, ◌||◌}
 use native.Mathlib.Omega.{arith}
 use lib.Dec.{ltb}
 use lib.ListN.{length, get_or}
 use Rattle.galitzaf.proofs.Arrays.{among, among_next, among-all, one_more}
-use borrow.Author.Rules.{rules}
 use Rattle.galitzaf.proofs.meters.unknown_kind.Goals as goal
 
 pub loop-i-init : goal.loop-i-init

@@ -1,11 +1,8 @@
-use Prim.Native.Nat.{ℕ, ◌≤◌, ◌-◌}
-use mathlib.Core.Path.{◌≡◌, refl, ap, sym, ◌∙◌, subst}
-use mathlib.Core.Bool.{Bool, ◌||◌}
-use native.Mathlib.Omega.{arith}
+use Prim.Native.Nat.{◌≤◌, ◌-◌}
+use mathlib.Core.Path.{◌≡◌}
 use lib.Dec.{ltb}
-use lib.ListN.{length, get_or}
-use Rattle.galitzaf.proofs.Arrays.{among, among_next, among-all, one_more}
-use borrow.Author.Rules.{rules}
+use lib.ListN.{length}
+use Rattle.galitzaf.proofs.Arrays.{among}
 use Rattle.galitzaf.proofs.meters.unknown_kind.Given as goal
 
 abbrev pub invariant-loop-i : goal.invariant-loop-i

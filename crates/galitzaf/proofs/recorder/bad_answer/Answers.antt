@@ -1,5 +1,4 @@
 use Rattle.galitzaf.proofs.States.{wrong-answer-length, by_kind}
-use borrow.Author.Rules.{rules}
 use Rattle.galitzaf.proofs.recorder.bad_answer.Goals as goal
 
 pub returns-then-answer-ne32 : goal.returns-then-answer-ne32

@@ -1,5 +1,4 @@
 use native.Mathlib.Omega.{arith}
-use borrow.Author.Rules.{rules}
 use Rattle.galitzaf.proofs.States.{wrong-length, by_place}
 use Rattle.galitzaf.proofs.recorder.is_unfit.Goals as goal
 

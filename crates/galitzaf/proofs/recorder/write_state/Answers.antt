@@ -1,5 +1,3 @@
-use mathlib.Core.Path.{◌≡◌, refl, ap, sym, ◌∙◌}
-use borrow.Author.Rules.{rules}
 use Rattle.image.proofs.Stores.{both-set}
 use Rattle.galitzaf.proofs.recorder.write_state.Goals as goal
 

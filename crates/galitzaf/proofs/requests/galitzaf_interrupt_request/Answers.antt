@@ -1,5 +1,4 @@
 use Prim.Native.Nat.{ℕ}
-use borrow.Author.Rules.{rules}
 use borrow.Author.Tests.{eq-eqb}
 use Rattle.galitzaf.specs.Calls.{interrupt_call}
 use Rattle.packing.proofs.ArgumentLines.{Decided, decided}

@@ -1,5 +1,4 @@
 use Prim.Native.Nat.{ℕ}
-use borrow.Author.Rules.{rules}
 use borrow.Author.Tests.{eq-eqb, lt-ltb, le-ltb}
 use Rattle.galitzaf.specs.Calls.{memory_call}
 use Rattle.packing.proofs.ArgumentLines.{Decided, decided}

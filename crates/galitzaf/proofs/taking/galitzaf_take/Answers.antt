@@ -1,5 +1,4 @@
 use mathlib.Core.Path.{sym, ◌∙◌}
-use borrow.Author.Rules.{rules}
 use borrow.Author.Tests.{eq-eqb, ne_eqb}
 use Rattle.galitzaf.specs.Takes.{take_call}
 use Rattle.galitzaf.proofs.taking.galitzaf_take.Goals as goal

@@ -1,5 +1,4 @@
 use mathlib.Core.Path.{ap, sym}
-use borrow.Author.Rules.{rules}
 use Rattle.takes.specs.Answers.{take_outcome_of}
 use Rattle.takes.specs.declared.TakeAnswer.{TakeAnswer}
 use Rattle.galitzaf.specs.Takes.{take_status}
