@@ -5,7 +5,6 @@ use native.Mathlib.Omega.{arith}
 use borrow.Author.Tests.{eq-eqb, ne_eqb}
 use Rattle.builder.specs.Build.{lent}
 use Rattle.galitzaf_builder.specs.Calls.{build_call}
-use borrow.Author.Rules.{rules}
 use Rattle.galitzaf_builder.proofs.galitzaf_build.Goals as goal
 
 -- Each way out is a line of the definition.

@@ -2,7 +2,6 @@ use mathlib.Core.Path.{ap, sym}
 use Rattle.builder.specs.Answers.{built_of}
 use Rattle.builder.specs.declared.BuildAnswer.{BuildAnswer}
 use Rattle.galitzaf_builder.specs.Calls.{build_status}
-use borrow.Author.Rules.{rules}
 use Rattle.galitzaf_builder.proofs.tell.Goals as goal
 
 pub returns-in-Done : goal.returns-in-Done
