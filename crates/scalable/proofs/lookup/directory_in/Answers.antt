@@ -1,0 +1,67 @@
+use Prim.Native.Nat.{ℕ, ◌+◌, ◌*◌, ◌/◌, ◌%◌}
+use mathlib.Core.Path.{◌≡◌, refl, ap, sym, ◌∙◌}
+use Rattle.image.specs.Bits.{bits}
+use Rattle.image.specs.Check.{Check}
+use Rattle.image.specs.Answers.{fetched8}
+use Rattle.image.specs.EntryKind.{pasid_directory_entry}
+use Rattle.image.specs.Memory.{Memory, found, entry}
+use Rattle.image.specs.Place.{entry_at}
+use Rattle.image.specs.Windows.{of_windows}
+use Rattle.pasid.specs.Answers.{directory_checked}
+use Rattle.pasid.specs.Directory.{directory_check}
+use Rattle.pasid.specs.declared.directory.DirectoryCheck.{DirectoryCheck}
+use Rattle.pasid.specs.declared.directory.PasidTable.{PasidTable}
+use Rattle.scalable.specs.Lookup.{directory_rules}
+use Rattle.scalable.proofs.Fetches.{Tells, no-entry, stops, goes}
+use Rattle.scalable.proofs.Tables.{directory-aligned, directory-place}
+use borrow.Author.Rules.{rules}
+use Rattle.scalable.proofs.lookup.directory_in.Goals as goal
+
+pub returns-in_default : goal.returns-in_default
+unfolding directory_rules
+returns-in_default c =
+    let a = c.args in
+    let m = of_windows a.windows.now a.image.now in
+    let at : ℕ = a.context.directory + 8 * bits a.context.pasid 19 6 in
+    let there : a.context.directory + 4096 * (a.context.pasid / 64 / 512) + 8 * (a.context.pasid / 64 % 512) ≡ at = directory-place a.context.directory a.context.pasid c.requires.1.2 in
+    let got : fetched8 c.page_entry8.result ≡ entry 1 m at = c.page_entry8.ensures.result_value ∙ ap (entry 1 m) there in
+    let t : Tells _ _ (directory_rules a.registers a.context) m = no-entry pasid_directory_entry at _ (directory_check a.registers.base.haw a.context.fpd) _ _ m (sym (ap fetched8 c.in_default.is) ∙ got) (ap entry_at there) in
+    record {
+      result_value = t.0;
+      result_value_2 = t.1;
+    }
+
+pub table_in-requires : goal.table_in-requires
+table_in-requires c =
+    let a = c.args in
+    (c.requires.0, directory-aligned a.registers.base.haw a.context.fpd c.in-Entry.e (sym (ap directory_checked c.in-Go.is) ∙ c.directory_check.ensures))
+
+pub returns-in-Stop : goal.returns-in-Stop
+unfolding directory_rules
+returns-in-Stop c =
+    let a = c.args in
+    let m = of_windows a.windows.now a.image.now in
+    let at : ℕ = a.context.directory + 8 * bits a.context.pasid 19 6 in
+    let there : a.context.directory + 4096 * (a.context.pasid / 64 / 512) + 8 * (a.context.pasid / 64 % 512) ≡ at = directory-place a.context.directory a.context.pasid c.requires.1.2 in
+    let got : fetched8 c.page_entry8.result ≡ entry 1 m at = c.page_entry8.ensures.result_value ∙ ap (entry 1 m) there in
+    let here : found c.in-Entry.e ≡ entry 1 m at = sym (ap fetched8 c.in-Entry.is) ∙ got in
+    let t : Tells _ _ (directory_rules a.registers a.context) m = stops pasid_directory_entry at _ (directory_check a.registers.base.haw a.context.fpd) _ _ m here (sym (ap directory_checked c.in-Stop.is) ∙ c.directory_check.ensures) (ap entry_at there) in
+    record {
+      result_value = rw c.field.ensures t.0;
+      result_value_2 = t.1;
+    }
+
+pub returns-in-Go : goal.returns-in-Go
+unfolding directory_rules
+returns-in-Go c =
+    let a = c.args in
+    let m = of_windows a.windows.now a.image.now in
+    let at : ℕ = a.context.directory + 8 * bits a.context.pasid 19 6 in
+    let there : a.context.directory + 4096 * (a.context.pasid / 64 / 512) + 8 * (a.context.pasid / 64 % 512) ≡ at = directory-place a.context.directory a.context.pasid c.requires.1.2 in
+    let got : fetched8 c.page_entry8.result ≡ entry 1 m at = c.page_entry8.ensures.result_value ∙ ap (entry 1 m) there in
+    let here : found c.in-Entry.e ≡ entry 1 m at = sym (ap fetched8 c.in-Entry.is) ∙ got in
+    let t : Tells _ _ (directory_rules a.registers a.context) m = goes pasid_directory_entry at _ (directory_check a.registers.base.haw a.context.fpd) _ _ m here (sym (ap directory_checked c.in-Go.is) ∙ c.directory_check.ensures) c.table_in.ensures.result_value (c.table_in.ensures.result_value_2 (entry_at at)) in
+    record {
+      result_value = t.0;
+      result_value_2 = t.1;
+    }
