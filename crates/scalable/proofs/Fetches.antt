@@ -1,6 +1,6 @@
 -- What the code tells of a stage of the lookup, by what its fetch and its check said.
 use Prim.Native.Nat.{ℕ}
-use mathlib.Core.Path.{◌≡◌, refl, ap, sym, ◌∙◌}
+use mathlib.Core.Path.{◌≡◌, ap, ◌∙◌}
 use Rattle.image.specs.Check.{Check, stop, go, on_check}
 use Rattle.image.specs.EntryKind.{EntryKind, words_of}
 use Rattle.image.specs.Memory.{Memory, missing, found, entry}

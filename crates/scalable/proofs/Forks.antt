@@ -6,7 +6,7 @@ use mathlib.Core.Path.{◌≡◌, refl}
 use Rattle.image.specs.Bits.{bits, bit}
 use Rattle.image.specs.Check.{go}
 use Rattle.image.specs.EntryKind.{EntryKind, root_entry, scalable_context_entry, pasid_directory_entry, pasid_table_entry}
-use Rattle.image.specs.Rules.{Rules, answer, fetch}
+use Rattle.image.specs.Rules.{answer}
 use Rattle.image.proofs.Forks.{Every, every-answer, every-fetch}
 use Rattle.image.proofs.Stages.{check-cases}
 use Rattle.registers.specs.Source.{bus_of}

@@ -1,10 +1,10 @@
 -- What the checks ensure of the tables that entries lead to, and where a PASID's entries are.
 use Prim.Native.Nat.{ℕ, ◌+◌, ◌*◌, ◌/◌, ◌%◌, ◌^◌, ◌≤◌, ◌<◌}
 use mathlib.Core.Bool.{Bool, true, false, not, ◌&&◌, ◌||◌}
-use mathlib.Core.Path.{◌≡◌, refl, ap, sym, ◌∙◌}
+use mathlib.Core.Path.{◌≡◌, ap, sym, ◌∙◌}
 use native.Mathlib.Nat.{div-one, lt_of_lt_of_le, mod-lt, mod-add-div}
 use native.Mathlib.Omega.{arith}
-use lib.Dec.{leb, eqb}
+use lib.Dec.{eqb}
 use lib.Pow.{pow_mono, pow_pos}
 use borrow.Author.Tests.{leb-false}
 use Rattle.image.specs.Bits.{bits, bit, any_set, in_place}

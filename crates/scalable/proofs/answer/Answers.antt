@@ -1,9 +1,8 @@
-use mathlib.Core.Path.{◌≡◌, refl, ap, sym, ◌∙◌, subst}
+use mathlib.Core.Path.{refl, ap, sym, ◌∙◌, subst}
 use lib.ListN.{take}
 use Rattle.dma.specs.Requests.{blocked}
 use Rattle.scalable.specs.Answers.{translation_of, TranslationNames, TranslationReachable}
 use Rattle.scalable.specs.Requests.{decision}
-use borrow.Author.Rules.{rules}
 use Rattle.scalable.proofs.answer.Goals as goal
 
 pub page_answer-requires : goal.page_answer-requires

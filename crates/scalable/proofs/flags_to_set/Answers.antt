@@ -1,7 +1,7 @@
 use Prim.Native.Nat.{ℕ}
 use mathlib.Core.Bool.{Bool, true, false}
 use mathlib.Core.List.{List, []}
-use mathlib.Core.Path.{◌≡◌, refl, ap, sym, ◌∙◌, subst}
+use mathlib.Core.Path.{◌≡◌, ap, sym, ◌∙◌, subst}
 use native.Mathlib.Omega.{arith}
 use lib.ListN.{take}
 use Rattle.std.specs.Prelude.{if◌then◌else◌}
@@ -10,7 +10,6 @@ use Rattle.dma.specs.Requests.{granted, refused}
 use Rattle.scalable.specs.Answers.{translation_of, TranslationReachable}
 use Rattle.scalable.specs.Requests.{say_only, decision}
 use Rattle.scalable.specs.declared.ScalableRequest.{ScalableRequest}
-use borrow.Author.Rules.{rules}
 use Rattle.scalable.proofs.flags_to_set.Goals.{After-meets_interrupt_range}
 use Rattle.scalable.proofs.flags_to_set.Goals as goal
 

@@ -1,5 +1,4 @@
-use mathlib.Core.Path.{◌≡◌, refl}
-use borrow.Author.Rules.{rules}
+use mathlib.Core.Path.{refl}
 use Rattle.scalable.proofs.page_answer.Goals as goal
 
 pub returns-then-meets_interrupt_range : goal.returns-then-meets_interrupt_range

@@ -1,15 +1,13 @@
 use mathlib.Core.Bool.{false}
-use mathlib.Core.Path.{◌≡◌, refl, ap, sym, ◌∙◌}
+use mathlib.Core.Path.{◌≡◌, ap, sym, ◌∙◌}
 use lib.ListN.{length}
 use Rattle.registers.specs.Admission.{admission}
 use Rattle.registers.specs.Answers.{admitted_of}
 use Rattle.registers.specs.declared.admission.Admission.{Admission}
 use Rattle.registers.proofs.Good.{taken-good}
-use Rattle.image.specs.Memory.{Memory}
 use Rattle.image.specs.Windows.{of_windows, bad_windows}
 use Rattle.dma.specs.Requests.{granted, refused}
 use Rattle.scalable.proofs.Admitted.{refuses, passes-wide, passes, takes, said, taken-said, bad-said}
-use borrow.Author.Rules.{rules}
 use Rattle.scalable.proofs.scalable_request.Goals.{After-admit}
 use Rattle.scalable.proofs.scalable_request.Goals as goal
 
@@ -60,4 +58,3 @@ returns-in-Taken c =
     let e = c.take_up.ensures in
     let t = taken-said a.registers a.request a.windows.now a.image.now (fine (goal.at.returns-in-Taken c).After-admit) same e.result_value e.result_value_2 e.image_after in
     record { result_value = t.0; result_value_2 = t.1.0; image_after = t.1.1 }
-

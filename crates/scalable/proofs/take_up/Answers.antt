@@ -1,15 +1,13 @@
 use Prim.Native.Nat.{ℕ}
 use mathlib.Core.List.{List}
-use mathlib.Core.Path.{◌≡◌, refl, ap, sym, ◌∙◌, subst}
+use mathlib.Core.Path.{refl, ap, sym, ◌∙◌, subst}
 use native.Mathlib.Omega.{arith}
-use Rattle.image.specs.Memory.{Memory}
 use Rattle.image.specs.Place.{Place}
 use Rattle.image.specs.Windows.{of_windows}
 use Rattle.flags.specs.Flags.{set_flags}
 use Rattle.scalable.specs.Answers.{TranslationNames}
 use Rattle.scalable.specs.Requests.{Decision, decision}
 use Rattle.scalable.proofs.Admitted.{too_wide, narrow, narrow_at}
-use borrow.Author.Rules.{rules}
 use Rattle.scalable.proofs.take_up.Goals as goal
 
 pub returns-then-pasid_too_wide : goal.returns-then-pasid_too_wide

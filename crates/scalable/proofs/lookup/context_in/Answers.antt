@@ -1,20 +1,16 @@
 use Prim.Native.Nat.{ℕ, ◌+◌, ◌*◌, ◌%◌}
-use mathlib.Core.Path.{◌≡◌, refl, ap, sym, ◌∙◌}
+use mathlib.Core.Path.{◌≡◌, ap, sym, ◌∙◌}
 use Rattle.image.specs.Bits.{bits}
-use Rattle.image.specs.Check.{Check}
 use Rattle.image.specs.Answers.{number64, fetched64}
 use Rattle.image.specs.EntryKind.{scalable_context_entry}
-use Rattle.image.specs.Memory.{Memory, found, entry}
+use Rattle.image.specs.Memory.{found, entry}
 use Rattle.image.specs.Place.{entry_at}
 use Rattle.image.specs.Windows.{of_windows}
 use Rattle.pasid.specs.Answers.{context_checked}
 use Rattle.pasid.specs.Context.{context_check}
-use Rattle.pasid.specs.declared.context.ContextCheck.{ContextCheck}
-use Rattle.pasid.specs.declared.context.ScalableContext.{ScalableContext}
 use Rattle.scalable.specs.Lookup.{context_rules}
 use Rattle.scalable.proofs.Fetches.{Tells, no-entry, stops, goes}
 use Rattle.scalable.proofs.Tables.{usable, context-place}
-use borrow.Author.Rules.{rules}
 use Rattle.scalable.proofs.lookup.context_in.Goals as goal
 
 pub returns-in_default : goal.returns-in_default

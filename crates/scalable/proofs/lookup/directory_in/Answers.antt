@@ -1,20 +1,16 @@
 use Prim.Native.Nat.{ℕ, ◌+◌, ◌*◌, ◌/◌, ◌%◌}
-use mathlib.Core.Path.{◌≡◌, refl, ap, sym, ◌∙◌}
+use mathlib.Core.Path.{◌≡◌, ap, sym, ◌∙◌}
 use Rattle.image.specs.Bits.{bits}
-use Rattle.image.specs.Check.{Check}
 use Rattle.image.specs.Answers.{fetched8}
 use Rattle.image.specs.EntryKind.{pasid_directory_entry}
-use Rattle.image.specs.Memory.{Memory, found, entry}
+use Rattle.image.specs.Memory.{found, entry}
 use Rattle.image.specs.Place.{entry_at}
 use Rattle.image.specs.Windows.{of_windows}
 use Rattle.pasid.specs.Answers.{directory_checked}
 use Rattle.pasid.specs.Directory.{directory_check}
-use Rattle.pasid.specs.declared.directory.DirectoryCheck.{DirectoryCheck}
-use Rattle.pasid.specs.declared.directory.PasidTable.{PasidTable}
 use Rattle.scalable.specs.Lookup.{directory_rules}
 use Rattle.scalable.proofs.Fetches.{Tells, no-entry, stops, goes}
 use Rattle.scalable.proofs.Tables.{directory-aligned, directory-place}
-use borrow.Author.Rules.{rules}
 use Rattle.scalable.proofs.lookup.directory_in.Goals as goal
 
 pub returns-in_default : goal.returns-in_default

@@ -1,21 +1,18 @@
 use Prim.Native.Nat.{ℕ, ◌+◌, ◌*◌}
-use mathlib.Core.Path.{◌≡◌, refl, ap, sym, ◌∙◌}
+use mathlib.Core.Path.{◌≡◌, ap, sym, ◌∙◌}
 use lib.Dec.{eqb}
 use Rattle.image.specs.Bits.{bit}
-use Rattle.image.specs.Check.{Check}
 use Rattle.image.specs.Answers.{number16, fetched16}
 use Rattle.image.specs.EntryKind.{root_entry}
-use Rattle.image.specs.Memory.{Memory, found, entry}
+use Rattle.image.specs.Memory.{found, entry}
 use Rattle.image.specs.Place.{entry_at}
 use Rattle.image.specs.Windows.{of_windows}
 use Rattle.registers.specs.Source.{bus_of}
 use Rattle.pasid.specs.Answers.{root_checked}
 use Rattle.pasid.specs.Root.{root_check}
-use Rattle.pasid.specs.declared.root.RootCheck.{RootCheck}
 use Rattle.scalable.specs.Lookup.{lookup_rules}
 use Rattle.scalable.proofs.Fetches.{Tells, no-entry, stops, goes}
 use Rattle.scalable.proofs.Tables.{root-aligned}
-use borrow.Author.Rules.{rules}
 use Rattle.scalable.proofs.lookup.find_pasid_entry.Goals as goal
 
 pub returns-in_default : goal.returns-in_default

@@ -1,21 +1,17 @@
 use Prim.Native.Nat.{ℕ, ◌+◌, ◌*◌, ◌%◌}
 use mathlib.Core.Path.{◌≡◌, refl, ap, sym, ◌∙◌}
 use Rattle.image.specs.Bits.{bits}
-use Rattle.image.specs.Check.{Check}
 use Rattle.image.specs.Answers.{number64, fetched64}
 use Rattle.image.specs.EntryKind.{pasid_table_entry}
-use Rattle.image.specs.Memory.{Memory, found, entry}
+use Rattle.image.specs.Memory.{found, entry}
 use Rattle.image.specs.Place.{entry_at, last_tried}
 use Rattle.image.specs.Rules.{run}
 use Rattle.image.specs.Windows.{of_windows}
 use Rattle.pasid.specs.Answers.{table_checked}
 use Rattle.pasid.specs.Table.{table_check}
-use Rattle.pasid.specs.declared.table.PasidEntry.{PasidEntry}
-use Rattle.pasid.specs.declared.validity.TableCheck.{TableCheck}
 use Rattle.scalable.specs.Lookup.{table_rules}
 use Rattle.scalable.proofs.Fetches.{Tells, no-entry, stops, goes}
 use Rattle.scalable.proofs.Tables.{table-place}
-use borrow.Author.Rules.{rules}
 use Rattle.scalable.proofs.lookup.table_in.Goals as goal
 
 pub returns-in_default : goal.returns-in_default

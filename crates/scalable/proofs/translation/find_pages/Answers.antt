@@ -1,21 +1,20 @@
 use Prim.Native.Nat.{ℕ}
 use mathlib.Core.Bool.{Bool, false}
 use mathlib.Core.List.{[]}
-use mathlib.Core.Path.{◌≡◌, refl, ap, sym, ◌∙◌, subst}
+use mathlib.Core.Path.{◌≡◌, ap, sym, ◌∙◌, subst}
 use borrow.Author.Tests.{eq-eqb, ne_eqb}
 use Rattle.image.specs.Place.{entry_at, last_tried}
-use Rattle.image.specs.Rules.{Rules, run, map_rules}
+use Rattle.image.specs.Rules.{run, map_rules}
 use Rattle.image.specs.Windows.{of_windows}
 use Rattle.dma.specs.Translation.{overflows}
 use Rattle.pasid.specs.declared.ScalableRegisters.{ScalableRegisters}
 use Rattle.pasid.specs.declared.table.PasidEntry.{PasidEntry}
 use Rattle.first.specs.First.{not_canonical}
 use Rattle.nested.specs.Answers.{PagesNames}
-use Rattle.nested.specs.Pages.{Pages, wanted_of_page, to_page}
+use Rattle.nested.specs.Pages.{wanted_of_page, to_page}
 use Rattle.nested.specs.Positions.{kind_rules}
 use Rattle.nested.proofs.Nested.{within}
 use Rattle.scalable.specs.Requests.{second_pages, paged_rules}
-use borrow.Author.Rules.{rules}
 use Rattle.scalable.proofs.translation.find_pages.Goals.{then-entry-eq2+else-overflows, else-entry-eq2+else-not_canonical}
 use Rattle.scalable.proofs.translation.find_pages.Goals as goal
 
@@ -36,10 +35,10 @@ overflows-requires c = (c.requires.1.0 c.if-entry-eq2.true).1
 pub returns-then-overflows : goal.returns-then-overflows
 unfolding paged_rules second_pages run last_tried
 returns-then-overflows c = record {
-      flags_after = rw (eq-eqb _ 2 c.if-entry-eq2.true, ← c.overflows.ensures, c.if-overflows.true);
-      pages_names = rw (eq-eqb _ 2 c.if-entry-eq2.true, ← c.overflows.ensures, c.if-overflows.true);
-      reachable = (tt, tt);
-    }
+  flags_after = rw (eq-eqb _ 2 c.if-entry-eq2.true, ← c.overflows.ensures, c.if-overflows.true);
+  pages_names = rw (eq-eqb _ 2 c.if-entry-eq2.true, ← c.overflows.ensures, c.if-overflows.true);
+  reachable = (tt, tt);
+}
 
 pub not_canonical-requires : goal.not_canonical-requires
 not_canonical-requires c = (c.requires.1.1 c.if-entry-eq2.false).1
@@ -47,10 +46,10 @@ not_canonical-requires c = (c.requires.1.1 c.if-entry-eq2.false).1
 pub returns-then-not_canonical : goal.returns-then-not_canonical
 unfolding paged_rules run last_tried
 returns-then-not_canonical c = record {
-      flags_after = rw (ne_eqb _ _ c.if-entry-eq2.false, ← c.not_canonical.ensures, c.if-not_canonical.true);
-      pages_names = rw (ne_eqb _ _ c.if-entry-eq2.false, ← c.not_canonical.ensures, c.if-not_canonical.true);
-      reachable = (tt, tt);
-    }
+  flags_after = rw (ne_eqb _ _ c.if-entry-eq2.false, ← c.not_canonical.ensures, c.if-not_canonical.true);
+  pages_names = rw (ne_eqb _ _ c.if-entry-eq2.false, ← c.not_canonical.ensures, c.if-not_canonical.true);
+  reachable = (tt, tt);
+}
 
 pub walk_pages-requires : goal.walk_pages-requires
 walk_pages-requires c = c.requires
@@ -65,7 +64,7 @@ returns c =
     let address = a.walk.asked.address in
     let write = a.walk.asked.write in
     let same : kind_rules r p address write ≡ paged_rules r address write p = elim c.if-entry-eq2.branch [
-      then-entry-eq2+else-overflows w ↦ second-alone r p address write w.if-entry-eq2.true (sym w.overflows.ensures ∙ w.if-overflows.false)
+      | then-entry-eq2+else-overflows w ↦ second-alone r p address write w.if-entry-eq2.true (sym w.overflows.ensures ∙ w.if-overflows.false)
       | else-entry-eq2+else-not_canonical w ↦ first-too r p address write w.if-entry-eq2.false (sym w.not_canonical.ensures ∙ w.if-not_canonical.false)
     ] in record {
       flags_after = e.0 ∙ ap (λ q. run q m) same;

@@ -1,18 +1,14 @@
-use Prim.Native.Nat.{ℕ}
-use mathlib.Core.List.{List}
-use mathlib.Core.Path.{◌≡◌, refl, ap, sym, ◌∙◌, subst}
+use mathlib.Core.Path.{◌≡◌, refl, ap, sym, ◌∙◌}
 use borrow.Author.Tests.{eq-eqb, ne_eqb}
-use Rattle.image.specs.Memory.{Memory}
 use Rattle.image.specs.Place.{entry_at, last_tried}
-use Rattle.image.specs.Rules.{Rules, run, map_rules}
+use Rattle.image.specs.Rules.{run, map_rules}
 use Rattle.image.specs.Windows.{of_windows}
 use Rattle.image.proofs.Places.{tried-map}
 use Rattle.image.proofs.Trees.{run-map}
 use Rattle.nested.specs.Answers.{pages_of, PagesNames, PagesGrows}
-use Rattle.nested.specs.Pages.{Pages, Reachable}
+use Rattle.nested.specs.Pages.{Reachable}
 use Rattle.nested.specs.declared.Pages.{Pages as PagesCode}
-use Rattle.scalable.specs.Requests.{Translation, translated, paged_rules, type_rules}
-use borrow.Author.Rules.{rules}
+use Rattle.scalable.specs.Requests.{translated, paged_rules, type_rules}
 use Rattle.scalable.proofs.translation.translate_in.Goals.{After-find_pages-pages}
 use Rattle.scalable.proofs.translation.translate_in.Goals as goal
 
