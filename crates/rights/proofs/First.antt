@@ -1,9 +1,9 @@
 -- A first-level entry whose rights are switched on goes on where it went on before, to the same table or page.
 use Prim.Native.Nat.{ℕ, ◌+◌, ◌-◌, ◌*◌, ◌%◌, ◌^◌, ◌≤◌}
 use mathlib.Core.Bool.{Bool, true, false, not, ◌&&◌, ◌||◌}
-use mathlib.Core.Path.{◌≡◌, refl, ap, sym, ◌∙◌}
+use mathlib.Core.Path.{◌≡◌, refl, ap, ◌∙◌}
 use native.Mathlib.Omega.{arith}
-use Rattle.image.specs.Bits.{bits, bit, in_place}
+use Rattle.image.specs.Bits.{bit, in_place}
 use Rattle.std.specs.Prelude.{if◌then◌else◌}
 use Rattle.dma.specs.Page.{leaf_at}
 use Rattle.dma.proofs.Raised.{Raised, same-field, same-leaf}

@@ -1,12 +1,12 @@
 -- The lookup of a PASID table entry, over two memories with the same tables.
 use Prim.Native.Nat.{ℕ, ◌+◌, ◌*◌, ◌%◌, ◌≤◌}
 use mathlib.Core.Bool.{Bool, false, not, ◌&&◌, ◌||◌}
-use mathlib.Core.Path.{◌≡◌, refl, ap, sym, ◌∙◌}
+use mathlib.Core.Path.{◌≡◌, refl, sym}
 use native.Mathlib.Omega.{arith}
 use Rattle.image.specs.Bits.{bits, bit}
 use Rattle.image.specs.Check.{Check, stop, go, on_check}
 use Rattle.image.specs.EntryKind.{root_entry, scalable_context_entry, pasid_directory_entry, pasid_table_entry}
-use Rattle.image.specs.Rules.{Rules, answer, fetch}
+use Rattle.image.specs.Rules.{Rules, answer}
 use Rattle.image.proofs.Choices.{past}
 use Rattle.registers.specs.Source.{bus_of}
 use Rattle.dma.proofs.Raised.{Raised}

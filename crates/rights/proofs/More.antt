@@ -1,7 +1,7 @@
 -- More memory: what a request names over a memory is the same in one that has all its words and more.
 use Prim.Native.Nat.{ℕ, ◌%◌}
 use mathlib.Core.List.{List, [], ◌∷◌, ◌++◌}
-use mathlib.Core.Path.{◌≡◌, refl, sym, ◌∙◌}
+use mathlib.Core.Path.{◌≡◌, refl}
 use native.Mathlib.Omega.{arith}
 use Rattle.image.specs.Alike.{Extends}
 use Rattle.image.specs.EntryKind.{EntryKind, words_of}

@@ -22,7 +22,7 @@ use Rattle.first.specs.First as first
 use Rattle.second.specs.Second.{Walked, page, fault as no_page, at_top, second_rules}
 use Rattle.second.specs.declared.step.Wanted.{Wanted}
 use Rattle.nested.specs.Pages.{Pages, reached, fault, FirstHanded, first_handed, entry_flags, no_first_entry, wanted_of_entry, wanted_of_page, to_entry, to_page, intermediate_rules, locate, host_page_rules, walk_step, pages_rules}
-use Rattle.nested.specs.Way.{Located, located, lost}
+use Rattle.nested.specs.Way.{Located, located}
 use Rattle.rights.proofs.First.{FirstKept, same-clear, first-kept}
 use Rattle.rights.proofs.Kept.{Keeps, keeps-answer, keeps-dead, keeps-map, keeps_then}
 use Rattle.rights.proofs.Raised.{Goes}

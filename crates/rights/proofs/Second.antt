@@ -1,13 +1,12 @@
 -- The second-level walk keeps its page where rights are switched on: frame, level and flags are the same, and a page that could be written
 -- still can.
-use Prim.Native.Nat.{ℕ, ◌+◌, ◌*◌, ◌%◌, ◌≤◌}
+use Prim.Native.Nat.{ℕ, ◌*◌, ◌%◌, ◌≤◌}
 use mathlib.Core.Bool.{Bool, true, false, not, ◌&&◌, ◌||◌}
 use mathlib.Core.List.{List, ◌++◌}
 use mathlib.Core.Path.{◌≡◌, refl, ap, ap₂, sym, ◌∙◌}
 use native.Mathlib.Omega.{arith}
-use Rattle.image.specs.Bits.{bits, bit, in_place}
+use Rattle.image.specs.Bits.{bit, in_place}
 use Rattle.std.specs.Prelude.{if◌then◌else◌}
-use Rattle.image.specs.Rules.{Rules}
 use Rattle.dma.specs.Page.{leaf_at, page_reserved}
 use Rattle.dma.specs.Walk.{Step, done, down}
 use Rattle.dma.proofs.Raised.{Raised, same-field, same-leaf}

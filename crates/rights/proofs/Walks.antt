@@ -1,10 +1,10 @@
 -- Walks whose steps keep what they make of an entry are rules that keep their answers.
 use Prim.Native.Nat.{ℕ, zero, suc, ◌%◌}
 use mathlib.Core.Bool.{true}
-use mathlib.Core.Path.{◌≡◌, refl, sym}
+use mathlib.Core.Path.{◌≡◌}
 use native.Mathlib.Omega.{arith}
 use Rattle.image.specs.EntryKind.{EntryKind, page_entry}
-use Rattle.image.specs.Rules.{Rules, answer, fetch}
+use Rattle.image.specs.Rules.{Rules, answer}
 use Rattle.dma.specs.Walk.{Step, done, down, on_step, place_in, walk_rules}
 use Rattle.nested.specs.Way.{Located, located, lost, on_located, entry_rules, ended, way_rules}
 use Rattle.rights.specs.Tables.{is_walked}
