@@ -1,6 +1,6 @@
 -- Document 02, Ask 14: every fault, each way of granting and each refusal, by pass-through, first level, second level and nested translation, as
 -- rows over one memory with a few words of it edited, each row with its record and the entry concerned, or the bits that it writes.
-use Rattle.std.specs.Prelude.{ℕ, ◌+◌, Bool, true, false, List, [], ◌∷◌, ◌++◌, ◌≡◌, eqb, leb}
+use Rattle.std.specs.Prelude.{ℕ, Bool, true, false, List, [], ◌∷◌, ◌++◌, ◌≡◌, eqb, leb}
 use Rattle.std.specs.Prelude.{if◌then◌else◌}
 use Rattle.image.specs.Bytes.{spell}
 use Rattle.image.specs.Memory.{Memory, missing, found}
