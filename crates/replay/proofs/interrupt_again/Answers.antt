@@ -5,6 +5,11 @@ pub returns : goal.returns
 unfolding interrupt_entry
 returns c =
     record {
-      value = rw (c.interrupt_entry.ensures, c.interrupt_request.ensures.result_value, c.interrupt_request.ensures.result_value_2, c.from_number.ensures);
+      value = rw (
+        c.interrupt_entry.ensures,
+        c.interrupt_request.ensures.result_value,
+        c.interrupt_request.ensures.result_value_2,
+        c.from_number.ensures,
+      );
       image_after = rw (c.interrupt_request.ensures.image_after, c.from_number.ensures);
     }

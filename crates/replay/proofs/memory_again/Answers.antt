@@ -3,4 +3,9 @@ use Rattle.replay.proofs.memory_again.Goals as goal
 
 pub returns : goal.returns
 unfolding memory_entry
-returns c = rw (c.memory_entry.ensures, c.memory_request.ensures.result_value, c.memory_request.ensures.result_value_2, c.from_number.ensures)
+returns c = rw (
+  c.memory_entry.ensures,
+  c.memory_request.ensures.result_value,
+  c.memory_request.ensures.result_value_2,
+  c.from_number.ensures,
+)

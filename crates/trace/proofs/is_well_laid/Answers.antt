@@ -29,7 +29,14 @@ pub bounds-block-1 : goal.bounds-block-1
 bounds-block-1 c = omega (arith, whole (goal.at.bounds-block-1 c).Else-not-is_framed)
 
 pub entries_well-requires : goal.entries_well-requires
-entries_well-requires c = (omega (arith, whole (goal.at.entries_well-requires c).Else-not-is_framed, few (goal.at.entries_well-requires c).Else-not-is_framed), few (goal.at.entries_well-requires c).Else-not-is_framed)
+entries_well-requires c = (
+  omega (
+    arith,
+    whole (goal.at.entries_well-requires c).Else-not-is_framed,
+    few (goal.at.entries_well-requires c).Else-not-is_framed,
+  ),
+  few (goal.at.entries_well-requires c).Else-not-is_framed,
+)
 
 pub returns : goal.returns
 returns c =

@@ -47,7 +47,8 @@ pub returns-then-is_shut : goal.returns-then-is_shut
 returns-then-is_shut c =
     let a = c.args in
     ap damaged c.next_block.ensures
-    ∙ at-shut a.bytes.now a.cursor.place a.cursor.index (more (goal.at.returns-then-is_shut c).Else-is_past) (sym c.is_shut.ensures ∙ c.if-is_shut.true)
+    ∙ at-shut a.bytes.now a.cursor.place a.cursor.index (more (goal.at.returns-then-is_shut c).Else-is_past)
+    (sym c.is_shut.ensures ∙ c.if-is_shut.true)
 
 pub overflow_mul-at : goal.overflow_mul-at
 overflow_mul-at c = omega (arith, whole (goal.at.overflow_mul-at c).Else-is_shut)
@@ -65,7 +66,8 @@ pub returns-in_default : goal.returns-in_default
 returns-in_default c =
     let a = c.args in
     ap damaged c.next_block-in_default.ensures
-    ∙ at-malformed a.bytes.now a.cursor.place a.cursor.index (more (goal.at.returns-in_default c).Else-is_past) (unshut (goal.at.returns-in_default c).Else-is_shut)
+    ∙ at-malformed a.bytes.now a.cursor.place a.cursor.index (more (goal.at.returns-in_default c).Else-is_past)
+    (unshut (goal.at.returns-in_default c).Else-is_shut)
     (sym (ap decoded_of c.in_default.is) ∙ c.decode.ensures)
 
 pub behind-requires : goal.behind-requires

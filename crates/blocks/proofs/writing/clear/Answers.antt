@@ -21,8 +21,12 @@ loop-i-smaller c = omega arith
 pub loop-i-preserved : goal.loop-i-preserved
 loop-i-preserved c =
     let a = c.args in
-    let l = c.loop-i in
-    (next-laid a.buffer.now a.at (replicate a.n 0) l.i (rw (length-replicate {A = ℕ} a.n 0) c.requires) (rw (length-replicate {A = ℕ} a.n 0) c.loop-i-test.true) l.invariant.0 (sym (get_or-replicate a.n l.i 0 0 c.loop-i-test.true)), omega arith, simp length-set l.invariant.2)
+    let l = c.loop-i in (
+      next-laid a.buffer.now a.at (replicate a.n 0) l.i (rw (length-replicate {A = ℕ} a.n 0) c.requires)
+          (rw (length-replicate {A = ℕ} a.n 0) c.loop-i-test.true) l.invariant.0 (sym (get_or-replicate a.n l.i 0 0 c.loop-i-test.true)),
+      omega arith,
+      simp length-set l.invariant.2,
+    )
 
 pub returns : goal.returns
 returns c =

@@ -42,8 +42,11 @@ put_number-requires-2 c =
 
 pub shape_of-buffer : goal.shape_of-buffer
 shape_of-buffer c =
-    ap length c.put_number-2.ensures ∙ length-laid c.put_number.new.buffer 508 4 (bytes_of 4 c.sum-sum.result) (length-bytes_of 4 c.sum-sum.result) (rw (numbered (goal.at.shape_of-buffer c).After-put_number) (omega arith)) ∙ numbered (goal.at.shape_of-buffer c).After-put_number ∙ sym c.requires.1
+    ap length c.put_number-2.ensures ∙ length-laid c.put_number.new.buffer 508 4 (bytes_of 4 c.sum-sum.result)
+    (length-bytes_of 4 c.sum-sum.result) (rw (numbered (goal.at.shape_of-buffer c).After-put_number) (omega arith))
+    ∙ numbered (goal.at.shape_of-buffer c).After-put_number ∙ sym c.requires.1
 
 pub returns : goal.returns
 returns c =
-    (finished c.args.buffer.now c.args.number c.args.count c.requires.1 c.requires.0 c.clear.ensures c.put_number.ensures c.sum-sum.ensures c.put_number-2.ensures)
+    (finished c.args.buffer.now c.args.number c.args.count c.requires.1 c.requires.0 c.clear.ensures c.put_number.ensures
+    c.sum-sum.ensures c.put_number-2.ensures)

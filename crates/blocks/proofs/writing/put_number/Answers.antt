@@ -22,8 +22,12 @@ loop-i-smaller c = omega arith
 pub loop-i-preserved : goal.loop-i-preserved
 loop-i-preserved c =
     let a = c.args in
-    let l = c.loop-i in
-    (next-byte a.buffer.now a.at a.n a.value l.i c.requires c.loop-i-test.true l.invariant.0 l.invariant.1, next-rest a.value l.i l.invariant.1, omega arith, simp length-set l.invariant.3)
+    let l = c.loop-i in (
+      next-byte a.buffer.now a.at a.n a.value l.i c.requires c.loop-i-test.true l.invariant.0 l.invariant.1,
+      next-rest a.value l.i l.invariant.1,
+      omega arith,
+      simp length-set l.invariant.3,
+    )
 
 pub returns : goal.returns
 returns c =

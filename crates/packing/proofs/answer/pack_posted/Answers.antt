@@ -8,9 +8,11 @@ use Rattle.packing.proofs.answer.pack_posted.Goals as goal
 pub returns-in-Silent : goal.returns-in-Silent
 returns-in-Silent c =
     let a = c.args in
-    rw (c.head.ensures, low-alone a.descriptor) (sym (ap (λ (n : Notification). posted_bytes a.descriptor a.posted (due_of n)) c.in-Silent.is))
+    rw (c.head.ensures, low-alone a.descriptor) (sym (ap (λ (n : Notification). posted_bytes a.descriptor a.posted
+    (due_of n)) c.in-Silent.is))
 
 pub returns-in-Due : goal.returns-in-Due
 returns-in-Due c =
     let a = c.args in
-    rw (c.head-in-Due.ensures, low-alone a.descriptor) (sym (ap (λ (n : Notification). posted_bytes a.descriptor a.posted (due_of n)) c.in-Due.is))
+    rw (c.head-in-Due.ensures, low-alone a.descriptor) (sym (ap (λ (n : Notification). posted_bytes a.descriptor a.posted
+    (due_of n)) c.in-Due.is))

@@ -27,10 +27,12 @@ second c = c.field-2.ensures ∙ ap (λ (w : ℕ). bits w 31 28) c.word_or_zero-
 pub returns-then-field-ne0-2 : goal.returns-then-field-ne0-2
 returns-then-field-ne0-2 c =
     second-set c.args.registers.now (λ i. (c.type_inv.registers i).fits) c.if-registers-ne24.false
-    (sym (first (goal.at.returns-then-field-ne0-2 c).After-field) ∙ c.if-field-ne0.false) (λ e. c.if-field-ne0-2.true (second (goal.at.returns-then-field-ne0-2 c).After-field-2 ∙ e))
+    (sym (first (goal.at.returns-then-field-ne0-2 c).After-field) ∙ c.if-field-ne0.false)
+    (λ e. c.if-field-ne0-2.true (second (goal.at.returns-then-field-ne0-2 c).After-field-2 ∙ e))
 
 pub returns : goal.returns
 returns c =
     rw (c.field-3.ensures, c.word_or_zero-head.ensures)
     (third-tells c.args.registers.now (λ i. (c.type_inv.registers i).fits) c.if-registers-ne24.false
-    (sym (first (goal.at.returns c).After-field) ∙ c.if-field-ne0.false) (sym (second (goal.at.returns c).After-field-2) ∙ c.if-field-ne0-2.false))
+    (sym (first (goal.at.returns c).After-field) ∙ c.if-field-ne0.false)
+    (sym (second (goal.at.returns c).After-field-2) ∙ c.if-field-ne0-2.false))

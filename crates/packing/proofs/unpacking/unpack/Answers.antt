@@ -13,5 +13,22 @@ overflow_cast-result-3 c = record { fits = rw c.field-3.ensures (fits c.word_or_
 
 pub returns : goal.returns
 returns c =
-    rw (c.field.ensures, c.field-2.ensures, c.bit.ensures, c.bit-2.ensures, c.bit-3.ensures, c.bit-4.ensures, c.bit-5.ensures, c.bit-6.ensures, c.word_or_zero.ensures, c.word_or_zero-2.ensures, c.field-3.ensures, c.bit-7.ensures, c.bit-8.ensures, c.bit-9.ensures, c.bit-10.ensures, c.word_or_zero-head.ensures)
+    rw (
+      c.field.ensures,
+      c.field-2.ensures,
+      c.bit.ensures,
+      c.bit-2.ensures,
+      c.bit-3.ensures,
+      c.bit-4.ensures,
+      c.bit-5.ensures,
+      c.bit-6.ensures,
+      c.word_or_zero.ensures,
+      c.word_or_zero-2.ensures,
+      c.field-3.ensures,
+      c.bit-7.ensures,
+      c.bit-8.ensures,
+      c.bit-9.ensures,
+      c.bit-10.ensures,
+      c.word_or_zero-head.ensures,
+    )
     (told-unpacked c.args.registers.now (λ i. (c.type_inv.registers i).fits) (registers-length c.args.registers.now c.requires))

@@ -37,7 +37,11 @@ returns-then-w-lt14 c =
 pub overflow_add-result-2 : goal.overflow_add-result-2
 overflow_add-result-2 c =
     let a = c.args in
-    omega (arith, fit-number a.w (length a.buffer.now) (append-fit a.w a.buffer.now a.e (fit (goal.at.overflow_add-result-2 c).Else-is_unfit-is_well)))
+    omega (
+      arith,
+      fit-number a.w (length a.buffer.now) (append-fit a.w a.buffer.now a.e
+          (fit (goal.at.overflow_add-result-2 c).Else-is_unfit-is_well)),
+    )
 
 pub returns : goal.returns
 returns c =

@@ -25,7 +25,15 @@ pub returns-in-Entry : goal.returns-in-Entry
 unfolding next_call
 returns-in-Entry c =
     let told = rw c.read.ensures at c.next.ensures in
-    rw (← c.is_bad.ensures, c.if-is_bad.false, eq-eqb _ 32 c.if-entry-ne32.false, c.write.ensures, c.write_entry.ensures, ← told, c.in-Entry.is)
+    rw (
+      ← c.is_bad.ensures,
+      c.if-is_bad.false,
+      eq-eqb _ 32 c.if-entry-ne32.false,
+      c.write.ensures,
+      c.write_entry.ensures,
+      ← told,
+      c.in-Entry.is,
+    )
 
 pub returns-in-Damaged : goal.returns-in-Damaged
 unfolding next_call

@@ -20,4 +20,14 @@ take_over-requires c = (writer-two c.args.writer.now _ (sym c.is_bad.ensures ∙
 
 pub returns : goal.returns
 unfolding append_call
-returns c = rw (← c.is_bad.ensures, c.if-is_bad.false, eq-eqb _ 32 c.if-answer-ne32.false, c.take_over.ensures.0, c.take_over.ensures.1, ← c.asked-request.ensures, ← c.with_answer-e.ensures, ← c.read-w.ensures, ← c.append.ensures)
+returns c = rw (
+  ← c.is_bad.ensures,
+  c.if-is_bad.false,
+  eq-eqb _ 32 c.if-answer-ne32.false,
+  c.take_over.ensures.0,
+  c.take_over.ensures.1,
+  ← c.asked-request.ensures,
+  ← c.with_answer-e.ensures,
+  ← c.read-w.ensures,
+  ← c.append.ensures,
+)
