@@ -1,5 +1,6 @@
+-- Each way out is a line of the definition.
 use Prim.Native.Nat.{ℕ}
-use mathlib.Core.Path.{sym, ◌∙◌, subst}
+use mathlib.Core.Path.{sym, subst}
 use native.Mathlib.Omega.{arith}
 use lib.ListN.{length}
 use borrow.Author.Tests.{eq-eqb, ne_eqb}
@@ -7,7 +8,6 @@ use Rattle.mapping.specs.Mapping.{Mapped, mapping_answer}
 use Rattle.mapping.specs.Mapping as mapping
 use Rattle.mapping.specs.Told.{room, told_of}
 use Rattle.galitzaf_listing.specs.Listing.{Few, list_call}
-use borrow.Author.Rules.{rules}
 use Rattle.galitzaf_listing.proofs.galitzaf_list_spans.Goals as goal
 
 pub returns-then-malformed : goal.returns-then-malformed
@@ -18,9 +18,6 @@ pub returns-then-windows-ne0 : goal.returns-then-windows-ne0
 unfolding list_call
 returns-then-windows-ne0 c = rw (← c.malformed.ensures, c.if-malformed.false, ne_eqb _ _ c.if-windows-ne0.true)
 
-pub unpack-requires : goal.unpack-requires
-unpack-requires c = let past = c in sym past.malformed.ensures ∙ past.if-malformed.false
-
 -- no more than 4,096 are ever counted
 few-told : (n : ℕ) (answer : Mapped) → Few (told_of (room n) answer)
 few-told n (mapping.refused number) = tt
@@ -30,29 +27,21 @@ few-told n (mapping.spans_mapped spans) = omega arith
 
 pub listing_status-requires : goal.listing_status-requires
 listing_status-requires c =
-    let l = c in
-    let u = l in
-    let f = u in
-    let a = f.args in
-    subst Few (sym l.list_spans-listing.ensures.listed_as.0)
-    (few-told (length a.spans.now) (mapping_answer u.unpack.result f.from_number-asked.result.id a.windows.now a.image.now))
+    let a = c.args in
+    subst Few (sym c.list_spans-listing.ensures.listed_as.0)
+    (few-told (length a.spans.now) (mapping_answer c.unpack.result c.from_number-asked.result.id a.windows.now a.image.now))
 
 pub returns : goal.returns
 unfolding list_call
 returns c =
-    let l = c in
-    let u = l in
-    let f = u in
-    let second = f in
-    let first = second in
     rw (
-      ← first.malformed.ensures,
-      first.if-malformed.false,
-      eq-eqb _ _ second.if-windows-ne0.false,
+      ← c.malformed.ensures,
+      c.if-malformed.false,
+      eq-eqb _ _ c.if-windows-ne0.false,
       c.listing_status.ensures,
-      l.list_spans-listing.ensures.listed_as.0,
-      l.list_spans-listing.ensures.listed_as.1,
-      l.list_spans-listing.ensures.known_after,
-      u.unpack.ensures,
-      f.from_number-asked.ensures,
+      c.list_spans-listing.ensures.listed_as.0,
+      c.list_spans-listing.ensures.listed_as.1,
+      c.list_spans-listing.ensures.known_after,
+      c.unpack.ensures,
+      c.from_number-asked.ensures,
     )
