@@ -1,6 +1,5 @@
 -- Demand 3 for requests in scalable mode, over lent memory.
 use Prim.Native.Nat.{◌≤◌}
-use mathlib.Core.Path.{◌≡◌, sym}
 use Rattle.image.specs.Rules.{named}
 use Rattle.scalable.specs.Requests.{scalable_rules}
 use Rattle.scalable.proofs.Isolation.{scalable-locality}
