@@ -1,5 +1,4 @@
 use mathlib.Core.Path.{sym, ◌∙◌}
-use borrow.Author.Rules.{rules}
 use borrow.Author.Tests.{eq-eqb, ne_eqb, lt-ltb, le-ltb, le-leb, lt-leb}
 use Rattle.galitzaf_scalable.specs.Scalable.{scalable_call}
 use Rattle.galitzaf_scalable.proofs.galitzaf_scalable_request.Goals as goal

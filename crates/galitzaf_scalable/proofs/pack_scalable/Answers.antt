@@ -2,7 +2,6 @@ use mathlib.Core.Path.{ap, sym, ◌∙◌}
 use Rattle.scalable.specs.Answers.{outcome_of, entry_of}
 use Rattle.scalable.specs.declared.ScalableAnswer.{ScalableAnswer}
 use Rattle.packing.specs.Answer.{memory_bytes}
-use borrow.Author.Rules.{rules}
 use Rattle.galitzaf_scalable.proofs.pack_scalable.Goals as goal
 
 pub returns-in-Granted : goal.returns-in-Granted

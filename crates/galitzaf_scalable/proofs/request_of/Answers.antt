@@ -1,4 +1,3 @@
-use borrow.Author.Rules.{rules}
 use Rattle.galitzaf_scalable.specs.Scalable.{scalable_request_of}
 use Rattle.galitzaf_scalable.proofs.request_of.Goals as goal
 

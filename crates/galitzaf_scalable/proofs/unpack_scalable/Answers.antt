@@ -1,4 +1,3 @@
-use borrow.Author.Rules.{rules}
 use Rattle.galitzaf_scalable.specs.Scalable.{unpacked_scalable}
 use Rattle.galitzaf_scalable.proofs.unpack_scalable.Goals as goal
 
