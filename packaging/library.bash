@@ -54,5 +54,19 @@ copy_crates() { # FOLDER CRATE...
         done
     done
 }
+# words_of CRATE FOLDER: sets `words` to what rt gives the kit's compiler for a crate in a folder in which `rt ci` has proved those under it.
+words_of() {
+    local crate=$1 folder=$2 library at kit
+    kit=$(dirname "$(rt doc)")
+    words=(--crate-name "$crate" src/lib.rt --extern "std=$kit/rlibs/std.rlib" -L "dependency=$kit/rlibs")
+    for library in $(sed -n "s/#.*//; s/^$crate\( [^:]*\)\?: *//p" crates.txt); do
+        at=$folder/crates/$library/out/rlib
+        [ -d "$at" ] || at=$kit/rlibs
+        words+=(--extern "$library=$at/$library.rlib")
+    done
+    for library in "$folder"/crates/*/out/rlib; do words+=(-L "dependency=$library"); done
+    words+=(--antt-project "$kit/rattle/logic/antt-project.json" --logic-built "$kit/logic_built" --links "$crate=")
+    if grep -q "^$crate staticlib:" crates.txt; then words+=(--crate-type staticlib); fi
+}
 # The one version number.
 version=$(sed -n 's/^#define GALITZAF_VERSION "\(.*\)"$/\1/p' include/galitzaf.h)
