@@ -54,7 +54,8 @@ copy_crates() { # FOLDER CRATE...
         done
     done
 }
-# words_of CRATE FOLDER: sets `words` to what rt gives the kit's compiler for a crate in a folder in which `rt ci` has proved those under it.
+# words_of CRATE FOLDER: sets `words` to what rt gives the kit's compiler for a crate in a folder in which `rt ci` has proved those under
+# it.
 words_of() {
     local crate=$1 folder=$2 library at kit
     kit=$(dirname "$(rt doc)")

@@ -1,8 +1,8 @@
 # What the check scripts of this folder share. Sourced by them, from anywhere; leaves the shell in the repository's root.
 #
 # Each check prints one line, 'ok NAME' or 'FAILED NAME', and the last line is 'N passed, M failed'. What a failed
-# check said goes to standard error. What is kept is written under target/, and all else outside the checkout, into $scratch, which goes with
-# the script: `rt ci` refuses a link, another repository, and a file of Rattle code or of definitions anywhere but in the crates.
+# check said goes to standard error. What is kept is written under target/, and all else outside the checkout, into $scratch, which goes
+# with the script: `rt ci` refuses a link, another repository, and a file of Rattle code or of definitions anywhere but in the crates.
 . "$(dirname "${BASH_SOURCE[0]}")/../packaging/library.bash"
 
 export CARGO_TARGET_DIR=$PWD/target/cargo
