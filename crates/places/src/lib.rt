@@ -11,6 +11,7 @@ ghost use Rattle.places.specs.Changes.{unless, released, linked, filled, holding
 pub const WORDS: usize = 776;
 
 // Bits 31:23 of a product.
+#[tactic(auto, unfolding(crate::specs::Layout::bucket_of))]
 fn bucket_of(key: u64) -> usize
     ensures value { result ≡ bucket_of key }
     ensures upper_bound { result < 512 }
@@ -27,6 +28,7 @@ fn first_age(state: &[u64], key: u64) -> u64
     let head = state[0] % 64;
     let mut place = state[264 + bucket_of(key)];
     let mut least: u64 = 0;
+    // A while: it follows the links, which a lent state holds, and no counter says how many there are.
     while place < 64 {
         let age = (place + 64 - head) % 64;
         if age < least {
@@ -42,6 +44,7 @@ fn first_age(state: &[u64], key: u64) -> u64
 }
 
 // The same, where a page of the key's level can be held at all.
+#[tactic(auto, unfolding(crate::specs::Chain::age_of_key))]
 pub fn age_of_key(state: &[u64], key: u64) -> u64
     requires { length state.now ≡ words }
     ensures { result ≡ age_of_key state.now key }
@@ -59,6 +62,7 @@ fn unless(place: u64, newest: u64) -> u64
 }
 
 // Its bucket forgets a place, if it is the newest there: all behind it are older, and gone.
+#[tactic(auto, unfolding(crate::specs::Changes::released))]
 fn release(state: &mut [u64], place: usize)
     requires { (length state.old ≡ words) × (place < 64) }
     ensures { state.new ≡ released state.old place }
@@ -68,6 +72,7 @@ fn release(state: &mut [u64], place: usize)
     state[bucket] = newest;
 }
 
+#[tactic(auto, unfolding(crate::specs::Changes::linked))]
 fn link(state: &mut [u64], key: u64, place: usize)
     requires { (length state.old ≡ words) × (place < 64) }
     ensures { state.new ≡ linked state.old key place }
@@ -78,6 +83,7 @@ fn link(state: &mut [u64], key: u64, place: usize)
     state[bucket] = place as u64;
 }
 
+#[tactic(auto, unfolding(crate::specs::Changes::filled))]
 fn fill(state: &mut [u64], key: u64, frame: u64, domain: u64, place: usize)
     requires { (length state.old ≡ words) × (place < 64) }
     ensures { state.new ≡ filled state.old key frame domain place }
@@ -121,9 +127,7 @@ pub fn sift(state: &mut [u64], domain: u64)
     ensures { state.new ≡ sifted domain (head_of state.old) 64 state.old }
 {
     let newest = (state[0] % 64) as usize;
-    let mut n: usize = 64;
-    while 0 < n {
-        n -= 1;
+    for n in (0..64).rev() {
         resettle(state, domain, (newest + n) % 64);
     }
 }
@@ -132,9 +136,5 @@ pub fn sift(state: &mut [u64], domain: u64)
 pub fn clear(state: &mut [u64])
     ensures { state.new ≡ replicate (length state.old) 0 }
 {
-    let mut i: usize = 0;
-    while i < state.len() {
-        state[i] = 0;
-        i += 1;
-    }
+    state.fill(0);
 }

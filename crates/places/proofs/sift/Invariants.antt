@@ -9,6 +9,3 @@ use Rattle.places.proofs.sift.Given as goal
 abbrev pub invariant-loop-n : goal.invariant-loop-n
 invariant-loop-n l =
     (length l.state ≡ words) × (l.newest < 64) × (l.n ≤ 64) × (sifted l.domain l.newest l.n l.state ≡ sifted l.domain (head_of l.initial.state) 64 l.initial.state)
-
-abbrev pub decreases-loop-n : goal.decreases-loop-n
-decreases-loop-n l = l.n
