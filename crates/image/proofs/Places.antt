@@ -1,5 +1,6 @@
 -- Laws of where the rules stopped, for every rules tree.
-use Rattle.std.proofs.Common.{◌≡◌, ℕ, [], ◌++◌, refl, ap, arith}
+use Rattle.std.proofs.Common.{◌≡◌, ℕ, [], ◌++◌, Option, refl, ap, arith}
+use Rattle.std.specs.declared.option.Option.TheVariants as option
 use Rattle.image.specs.Check.{Check, stop, go, on_check}
 use Rattle.image.specs.Answers.{place_of}
 use Rattle.image.specs.EntryKind.{EntryKind, words_of}
@@ -7,8 +8,6 @@ use Rattle.image.specs.Memory.{Memory, Fetched, missing, found, entry, on_fetch}
 use Rattle.image.specs.Place.{Place, no_entry, entry_at, last_tried, stopped_at}
 use Rattle.image.specs.Rules.{Rules, answer, fetch, named, map_rules, words_from, SameIn}
 use Rattle.image.specs.Stage.{stage}
-use Rattle.image.specs.declared.EntryAddress.{EntryAddress}
-use Rattle.image.specs.declared.EntryAddress.TheVariants as address
 use Rattle.image.proofs.Local.{alike-left, alike_right, entry-alike}
 use Rattle.image.proofs.Stages.{after}
 use Rattle.image.proofs.Trees.{Complete}
@@ -88,8 +87,8 @@ module _ {A B : Type 0} (kind : EntryKind) (at : ℕ) (absent : A) (check : ℕ 
     checked-at {e} h told = rw (← h) (ap (λ (q : Rules A). last_tried (entry_at at) q m) told)
 
 -- no two places of the code stand for the same entry
-pub place_of-injective : (p q : EntryAddress) → place_of p ≡ place_of q → p ≡ q
-place_of-injective address.NoEntry address.NoEntry e = refl
-place_of-injective address.NoEntry (address.At b) e = let z : ◌≡◌ {A = ℕ} 0 1 = cc in absurd (omega arith)
-place_of-injective (address.At a) address.NoEntry e = let z : ◌≡◌ {A = ℕ} 0 1 = cc in absurd (omega arith)
-place_of-injective (address.At a) (address.At b) e = cc
+pub place_of-injective : (p q : Option ℕ) → place_of p ≡ place_of q → p ≡ q
+place_of-injective option.None option.None e = refl
+place_of-injective option.None (option.Some b) e = let z : ◌≡◌ {A = ℕ} 0 1 = cc in absurd (omega arith)
+place_of-injective (option.Some a) option.None e = let z : ◌≡◌ {A = ℕ} 0 1 = cc in absurd (omega arith)
+place_of-injective (option.Some a) (option.Some b) e = cc

@@ -1,13 +1,11 @@
 -- Windows as the code's fetches use them: the window of a span is one of the windows lent.
-use Rattle.std.proofs.Common.{◌≡◌, ℕ, ◌+◌, ◌*◌, ◌%◌, ◌^◌, ◌<◌, ◌≤◌, true, false, List, [], ◌∷◌, length, drop, sym, subst, refl, ◌∙◌, arith}
+use Rattle.std.proofs.Common.{◌≡◌, ℕ, ◌+◌, ◌*◌, ◌%◌, ◌^◌, ◌<◌, ◌≤◌, true, false, List, [], ◌∷◌, length, drop, Option, Some, None, sym, subst, refl, ◌∙◌, arith}
 use native.Mathlib.Decide.{dec_le}
 use Rattle.image.specs.Spans.{window_by, Opened, Holds}
 use Rattle.image.specs.Answers.{HeldBy}
 use Rattle.image.specs.Windows.{Window, windows_of, window_at, end_of, holds_all, spot_in, bad_windows}
 use Rattle.image.specs.declared.Span.{Span}
-use Rattle.image.specs.declared.entries.Held.{Held}
-use Rattle.image.specs.declared.entries.Held.TheVariants as held
-use Rattle.image.proofs.GoodWindows.{three-each, good-at, window-good, held as held_by, spot-at, spot-after, spot-none-left}
+use Rattle.image.proofs.GoodWindows.{three-each, good-at, window-good, held, spot-at, spot-after, spot-none-left}
 
 -- the window whose three numbers stand from an index on
 pub spanned : {w : Window} (numbers : List ℕ) (run : ℕ) → bad_windows numbers run ≡ false → (n at : ℕ) → 3 * n + 3 ≤ length numbers
@@ -32,9 +30,9 @@ passed-by numbers at i there is h = spot-after numbers 1 at i there (rw is at h)
 pub among : {w : Window} {ws vs : List Window} {run at : ℕ} → spot_in ws 1 at ≡ spot_in vs 1 at → Holds w vs run at → Holds w ws run at
 among same h = record { good = h.good; byte = h.byte; spot = same ∙ h.spot }
 
-pub held-among : (r : Held) (ws vs : List Window) (run at : ℕ) → spot_in ws 1 at ≡ spot_in vs 1 at → HeldBy r vs run at → HeldBy r ws run at
-held-among (held.In s) ws vs run at same h = among same h
-held-among held.Nowhere ws vs run at same h = same ∙ h
+pub held-among : (r : Option Span) (ws vs : List Window) (run at : ℕ) → spot_in ws 1 at ≡ spot_in vs 1 at → HeldBy r vs run at → HeldBy r ws run at
+held-among (Some s) ws vs run at same h = among same h
+held-among None ws vs run at same h = same ∙ h
 
 -- no window at all
 pub no-window : (numbers : List ℕ) → length numbers < 3 → length numbers % 3 ≡ 0 → window_at numbers 0 ≡ record { start = 0; place = 0; size = 0 }
@@ -62,7 +60,7 @@ module _ (first : Span) (numbers : List ℕ) (run : ℕ) (opened : Opened first 
         go : Dec (3 ≤ length numbers) → Holds (window_by first) (windows_of numbers) run at
         go (yes there) = spanned numbers run opened.0 0 at there opened.1 h
         go (no few) =
-            let lies = held_by (record { start = 0; place = 0; size = 0 }) 1 at (subst (λ (w : Window). holds_all w 1 at ≡ true) (none (omega arith)) h) in
+            let lies = held (record { start = 0; place = 0; size = 0 }) 1 at (subst (λ (w : Window). holds_all w 1 at ≡ true) (none (omega arith)) h) in
             absurd (omega (arith, lies.1))
 
     pub first_past : holds_all (window_by first) 1 at ≡ false → spot_in (windows_of numbers) 1 at ≡ spot_in (windows_of (drop 3 numbers)) 1 at

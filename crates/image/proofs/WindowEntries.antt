@@ -1,6 +1,6 @@
 -- Entries through windows: one that doesn't leave its page is fetched exactly where it lies whole in a single window. Windows begin at
 -- multiples of 4096, so that none of its words can stand in one window and the next in another, also where the two touch.
-use Rattle.std.proofs.Common.{◌≡◌, ℕ, zero, suc, ◌+◌, ◌-◌, ◌*◌, ◌%◌, ◌<◌, ◌≤◌, min, Bool, true, false, leb, List, [], ◌∷◌, length, take, drop, sym, refl, ap, ◌∙◌, subst, arith, length-drop, length-take, le-leb}
+use Rattle.std.proofs.Common.{◌≡◌, ℕ, zero, suc, ◌+◌, ◌-◌, ◌*◌, ◌%◌, ◌<◌, ◌≤◌, min, Bool, true, false, leb, List, [], ◌∷◌, length, take, drop, Option, Some, None, sym, refl, ap, ◌∙◌, subst, arith, length-drop, length-take, le-leb}
 use native.Mathlib.Decide.{dec_le}
 use borrow.Author.Tests.{lt-leb}
 use Rattle.image.specs.Bytes.{little_endian, spell}
@@ -10,10 +10,6 @@ use Rattle.image.specs.Windows.{Window, windows_of, end_of, holds_all, Spot, now
 use Rattle.image.specs.Spans.{window_by, Holds, Stands}
 use Rattle.image.specs.Answers.{HeldBy, PlacedBy}
 use Rattle.image.specs.declared.Span.{Span}
-use Rattle.image.specs.declared.entries.Held.{Held}
-use Rattle.image.specs.declared.entries.Held.TheVariants as found_in
-use Rattle.image.specs.declared.entries.Placed.{Placed}
-use Rattle.image.specs.declared.entries.Placed.TheVariants as placed
 use Rattle.image.proofs.GoodWindows.{GoodWithAll, Good, good, good-window, held, holding, before-it, past-it, spot-first, spot-next}
 use Rattle.image.proofs.Pages.{in-page}
 use Rattle.image.proofs.Words.{words_in, inside, join-missing, spell-run, whole-image}
@@ -231,19 +227,19 @@ pub lacks-spot : (numbers : List ℕ) (len : ℕ) → bad_windows numbers len �
 lacks-spot numbers len fine at more page h = by_last len (windows_of numbers) at more (good numbers len fine) page ∙ rw h
 
 -- an entry whose place in the run was looked for
-pub record Placing (numbers run : List ℕ) (n at : ℕ) (p : Placed) : Type 0 where
+pub record Placing (numbers run : List ℕ) (n at : ℕ) (p : Option ℕ) : Type 0 where
   pub fine : bad_windows numbers (length run) ≡ false
   pub page : at % 4096 + 8 * suc n ≤ 4096
   pub by : PlacedBy p (windows_of numbers) (length run) (8 * suc n) at
 
-module _ {numbers run : List ℕ} {n at : ℕ} {p : Placed} (h : Placing numbers run n at p) where
-  pub placed-missing : p ≡ placed.Nowhere → missing ≡ entry (suc n) (of_windows numbers run) at
+module _ {numbers run : List ℕ} {n at : ℕ} {p : Option ℕ} (h : Placing numbers run n at p) where
+  pub placed-missing : p ≡ None → missing ≡ entry (suc n) (of_windows numbers run) at
   unfolding entry_in
   placed-missing is = sym (single numbers run h.fine n at h.page ∙ rw (rw is at h.by))
 
-  module _ {from : ℕ} (is : p ≡ placed.At from) where
+  module _ {from : ℕ} (is : p ≡ Some from) where
     stands : Stands from (windows_of numbers) (length run) (8 * suc n) at
-    stands = subst (λ (p : Placed). PlacedBy p (windows_of numbers) (length run) (8 * suc n) at) is h.by
+    stands = subst (λ (p : Option ℕ). PlacedBy p (windows_of numbers) (length run) (8 * suc n) at) is h.by
 
     pub placed-room : from + 8 * suc n ≤ length run
     placed-room = stands.in_run
@@ -253,28 +249,28 @@ module _ {numbers run : List ℕ} {n at : ℕ} {p : Placed} (h : Placing numbers
     placed-entry e = ap found e ∙ sym (single numbers run h.fine n at h.page ∙ rw stands.spot)
 
 -- an entry in its table's page, where the window with its last byte was looked for
-pub record Paging (numbers run : List ℕ) (n table offset : ℕ) (r : Held) : Type 0 where
+pub record Paging (numbers run : List ℕ) (n table offset : ℕ) (r : Option Span) : Type 0 where
   pub fine : bad_windows numbers (length run) ≡ false
   pub aligned : table % 4096 ≡ 0
   pub page : offset + 8 * suc n ≤ 4096
   pub by : HeldBy r (windows_of numbers) (length run) (table + offset + (8 * suc n - 1))
 
-module _ {numbers run : List ℕ} {n table offset : ℕ} {r : Held} (h : Paging numbers run n table offset r) where
+module _ {numbers run : List ℕ} {n table offset : ℕ} {r : Option Span} (h : Paging numbers run n table offset r) where
   all : (8 * suc n - 1) + 1 ≡ 8 * suc n
   all = omega arith
 
-  pub page-missing : r ≡ found_in.Nowhere → missing ≡ entry (suc n) (of_windows numbers run) (table + offset)
+  pub page-missing : r ≡ None → missing ≡ entry (suc n) (of_windows numbers run) (table + offset)
   unfolding entry_in
   page-missing is =
       sym (single numbers run h.fine n (table + offset) (omega arith)
       ∙ rw (rw all at (lacks-spot numbers (length run) h.fine (table + offset) (8 * suc n - 1) (omega arith) (rw is at h.by))))
 
-  module _ {s : Span} (is : r ≡ found_in.In s) where
+  module _ {s : Span} (is : r ≡ Some s) where
     abbrev w : Window
     w = window_by s
 
     holds : Holds w (windows_of numbers) (length run) (table + offset + (8 * suc n - 1))
-    holds = subst (λ (r : Held). HeldBy r (windows_of numbers) (length run) (table + offset + (8 * suc n - 1))) is h.by
+    holds = subst (λ (r : Option Span). HeldBy r (windows_of numbers) (length run) (table + offset + (8 * suc n - 1))) is h.by
 
     lies : (w.start ≤ table) × (table + offset + 8 * suc n ≤ end_of w) × (w.place + w.size ≤ length run)
     lies =

@@ -4,7 +4,7 @@ ghost use Rattle.image.specs.Bytes.{bytes_of};
 ghost use Rattle.image.specs.Memory.{word_at, of_image, entry, on_fetch, with_word};
 ghost use Rattle.image.specs.Answers.{fetched8, missed8};
 
-use crate::Found8;
+use crate::Missing;
 
 // The number in the 8 bytes from an index, lowest byte first.
 fn little_endian(image: &[u8], at: usize) -> u64
@@ -26,27 +26,24 @@ pub fn word(image: &[u8], at: usize) -> u64
     little_endian(image, at)
 }
 
-pub fn fetch8(image: &[u8], at: u64) -> Found8
+pub fn fetch8(image: &[u8], at: u64) -> Result<u64, Missing>
     ensures result_value { fetched8 result ≡ entry 1 (of_image image.now) at }
     ensures at_value { missed8 result at ≡ at }
 {
     if image.len() < 8 {
-        return Found8::Missing(at);
+        return Err(Missing { at });
     }
     if ((image.len() - 8) as u64) < at {
-        return Found8::Missing(at);
+        return Err(Missing { at });
     }
-    Found8::Entry(word(image, at as usize))
+    Ok(word(image, at as usize))
 }
 
 // The word of a buffer at a place; 0 where it doesn't lie whole in it.
 pub fn word_or_zero(buffer: &[u8], at: u64) -> u64
     ensures { result ≡ on_fetch (entry 1 (of_image buffer.now) at) 0 (λ w. w) }
 {
-    match fetch8(buffer, at) {
-        Found8::Entry(word) => word,
-        Found8::Missing(_) => 0,
-    }
+    fetch8(buffer, at).unwrap_or(0)
 }
 
 // A word into the 8 bytes from an index, lowest byte first.

@@ -8,15 +8,8 @@ ghost use Rattle.image.specs.Spans.{window_by, Opened};
 ghost use Rattle.image.specs.Windows.{windows_of, window_at, end_of, holds_all, on_spot, spot_in, of_windows, page_from, bad_window, bad_windows};
 
 use crate::buffer::word;
-use crate::{Entry16, Entry64, Found8, Found16, Found64, Span};
+use crate::{Entry16, Entry64, Missing, Span};
 use std::num::{wrapping_add_u64, wrapping_sub_u64};
-
-// The window that holds a byte.
-#[derive(Clone, Copy)]
-pub enum Held {
-    In(Span),
-    Nowhere,
-}
 
 fn span_at(windows: &[u64], i: usize) -> Span
     requires { i + 3 ≤ length windows.now }
@@ -52,47 +45,47 @@ fn contains(span: Span, at: u64) -> bool
 }
 
 // Unrolled: a loop over the windows is slower than their tests.
-fn later_window(windows: &[u64], run: usize, at: u64) -> Held
+fn later_window(windows: &[u64], run: usize, at: u64) -> Option<Span>
     requires { bad_windows windows.now run ≡ false }
     ensures { HeldBy result (windows_of (drop 3 windows.now)) run at }
 {
     let count = windows.len();
     if count < 6 {
-        return Held::Nowhere;
+        return None;
     }
     let second = span_at(windows, 3);
     if contains(second, at) {
-        return Held::In(second);
+        return Some(second);
     }
     if count < 9 {
-        return Held::Nowhere;
+        return None;
     }
     let third = span_at(windows, 6);
     if contains(third, at) {
-        return Held::In(third);
+        return Some(third);
     }
     if count < 12 {
-        return Held::Nowhere;
+        return None;
     }
     let fourth = span_at(windows, 9);
     if contains(fourth, at) {
-        return Held::In(fourth);
+        return Some(fourth);
     }
-    Held::Nowhere
+    None
 }
 
-fn window_of(first: Span, windows: &[u64], run: usize, at: u64) -> Held
+fn window_of(first: Span, windows: &[u64], run: usize, at: u64) -> Option<Span>
     requires { Opened first windows.now run }
     ensures { HeldBy result (windows_of windows.now) run at }
 {
     if contains(first, at) {
-        return Held::In(first);
+        return Some(first);
     }
     later_window(windows, run, at)
 }
 
 // The window with a byte, for those who have none of the windows at hand.
-pub fn find_window(windows: &[u64], run: usize, at: u64) -> Held
+pub fn find_window(windows: &[u64], run: usize, at: u64) -> Option<Span>
     requires { bad_windows windows.now run ≡ false }
     ensures { HeldBy result (windows_of windows.now) run at }
 {
@@ -148,18 +141,24 @@ fn load64(image: &[u8], from: usize) -> Entry64
 }
 
 // The entry at an offset of a table's page, which is handed on where a window has the entry's last byte.
-pub fn page_entry8_by(first: Span, windows: &[u64], image: &[u8], table: u64, offset: u64) -> Found8
+pub fn page_entry8_by(
+    first: Span,
+    windows: &[u64],
+    image: &[u8],
+    table: u64,
+    offset: u64,
+) -> Result<u64, Missing>
     requires { Opened first windows.now (length image.now) × (table % 4096 ≡ 0) × (offset < 4096) × (offset % 8 ≡ 0) }
     ensures result_value { fetched8 result ≡ entry 1 (of_windows windows.now image.now) (table + offset) }
     ensures offset_value { missed8 result (table + offset) ≡ table + offset }
 {
     match window_of(first, windows, image.len(), table + offset + 7) {
-        Held::In(span) => Found8::Entry(word(table_page(span, image, table), offset as usize)),
-        Held::Nowhere => Found8::Missing(table + offset),
+        Some(span) => Ok(word(table_page(span, image, table), offset as usize)),
+        None => Err(Missing { at: table + offset }),
     }
 }
 
-pub fn page_entry8(windows: &[u64], image: &[u8], table: u64, offset: u64) -> Found8
+pub fn page_entry8(windows: &[u64], image: &[u8], table: u64, offset: u64) -> Result<u64, Missing>
     requires { (bad_windows windows.now (length image.now) ≡ false) × (table % 4096 ≡ 0) × (offset < 4096) × (offset % 8 ≡ 0) }
     ensures result_value { fetched8 result ≡ entry 1 (of_windows windows.now image.now) (table + offset) }
     ensures offset_value { missed8 result (table + offset) ≡ table + offset }
@@ -173,18 +172,23 @@ pub fn page_entry16_by(
     image: &[u8],
     table: u64,
     offset: u64,
-) -> Found16
+) -> Result<Entry16, Missing>
     requires { Opened first windows.now (length image.now) × (table % 4096 ≡ 0) × (offset < 4096) × (offset % 16 ≡ 0) }
     ensures result_value { fetched16 result ≡ entry 2 (of_windows windows.now image.now) (table + offset) }
     ensures offset_value { missed16 result (table + offset) ≡ table + offset }
 {
     match window_of(first, windows, image.len(), table + offset + 15) {
-        Held::In(span) => Found16::Entry(load16(table_page(span, image, table), offset as usize)),
-        Held::Nowhere => Found16::Missing(table + offset),
+        Some(span) => Ok(load16(table_page(span, image, table), offset as usize)),
+        None => Err(Missing { at: table + offset }),
     }
 }
 
-pub fn page_entry16(windows: &[u64], image: &[u8], table: u64, offset: u64) -> Found16
+pub fn page_entry16(
+    windows: &[u64],
+    image: &[u8],
+    table: u64,
+    offset: u64,
+) -> Result<Entry16, Missing>
     requires { (bad_windows windows.now (length image.now) ≡ false) × (table % 4096 ≡ 0) × (offset < 4096) × (offset % 16 ≡ 0) }
     ensures result_value { fetched16 result ≡ entry 2 (of_windows windows.now image.now) (table + offset) }
     ensures offset_value { missed16 result (table + offset) ≡ table + offset }
@@ -192,19 +196,22 @@ pub fn page_entry16(windows: &[u64], image: &[u8], table: u64, offset: u64) -> F
     page_entry16_by(first_span(windows), windows, image, table, offset)
 }
 
-// An entry of 32 bytes, held as one of 64 whose upper half is 0.
-pub fn page_entry32(windows: &[u64], image: &[u8], table: u64, offset: u64) -> Found64
+// An entry of 32 bytes, held as one of 64 whose upper half is 0. Where its second half is missing, it is still the entry that is named.
+pub fn page_entry32(
+    windows: &[u64],
+    image: &[u8],
+    table: u64,
+    offset: u64,
+) -> Result<Entry64, Missing>
     requires { (bad_windows windows.now (length image.now) ≡ false) × (table % 4096 ≡ 0) × (offset < 4096) × (offset % 32 ≡ 0) }
     ensures result_value { fetched64 result ≡ entry 4 (of_windows windows.now image.now) (table + offset) }
     ensures offset_value { missed64 result (table + offset) ≡ table + offset }
 {
-    let Found16::Entry(low) = page_entry16(windows, image, table, offset) else {
-        return Found64::Missing(table + offset);
+    let low = page_entry16(windows, image, table, offset)?;
+    let Ok(high) = page_entry16(windows, image, table, offset + 16) else {
+        return Err(Missing { at: table + offset });
     };
-    let Found16::Entry(high) = page_entry16(windows, image, table, offset + 16) else {
-        return Found64::Missing(table + offset);
-    };
-    Found64::Entry(Entry64 {
+    Ok(Entry64 {
         w0: low.low,
         w1: low.high,
         w2: high.low,
@@ -217,41 +224,33 @@ pub fn page_entry32(windows: &[u64], image: &[u8], table: u64, offset: u64) -> F
 }
 
 // Where in the run the bytes from one up to so many after it stand, where a window has them all.
-#[derive(Clone, Copy)]
-enum Placed {
-    At(usize),
-    Nowhere,
-}
-
-fn place_of(windows: &[u64], run: usize, at: u64, more: u64) -> Placed
+fn place_of(windows: &[u64], run: usize, at: u64, more: u64) -> Option<usize>
     requires { (bad_windows windows.now run ≡ false) × (at % 4096 + more < 4096) }
     ensures { PlacedBy result (windows_of windows.now) run (more + 1) at }
 {
-    match window_of(first_span(windows), windows, run, at + more) {
-        Held::In(span) => Placed::At(place_in(span, at)),
-        Held::Nowhere => Placed::Nowhere,
-    }
+    let span = window_of(first_span(windows), windows, run, at + more)?;
+    Some(place_in(span, at))
 }
 
-pub fn fetch16(windows: &[u64], image: &[u8], at: u64) -> Found16
+pub fn fetch16(windows: &[u64], image: &[u8], at: u64) -> Result<Entry16, Missing>
     requires { (bad_windows windows.now (length image.now) ≡ false) × (at % 16 ≡ 0) }
     ensures result_value { fetched16 result ≡ entry 2 (of_windows windows.now image.now) at }
     ensures at_value { missed16 result at ≡ at }
 {
     match place_of(windows, image.len(), at, 15) {
-        Placed::At(from) => Found16::Entry(load16(image, from)),
-        Placed::Nowhere => Found16::Missing(at),
+        Some(from) => Ok(load16(image, from)),
+        None => Err(Missing { at }),
     }
 }
 
-pub fn fetch64(windows: &[u64], image: &[u8], at: u64) -> Found64
+pub fn fetch64(windows: &[u64], image: &[u8], at: u64) -> Result<Entry64, Missing>
     requires { (bad_windows windows.now (length image.now) ≡ false) × (at % 64 ≡ 0) }
     ensures result_value { fetched64 result ≡ entry 8 (of_windows windows.now image.now) at }
     ensures at_value { missed64 result at ≡ at }
 {
     match place_of(windows, image.len(), at, 63) {
-        Placed::At(from) => Found64::Entry(load64(image, from)),
-        Placed::Nowhere => Found64::Missing(at),
+        Some(from) => Ok(load64(image, from)),
+        None => Err(Missing { at }),
     }
 }
 
@@ -260,8 +259,5 @@ pub fn place64(windows: &[u64], run: usize, at: u64) -> usize
     requires { (bad_windows windows.now run ≡ false) × (at % 64 ≡ 0) }
     ensures { result ≡ on_spot (spot_in (windows_of windows.now) 64 at) 0 (λ place left. place) }
 {
-    match place_of(windows, run, at, 63) {
-        Placed::At(from) => from,
-        Placed::Nowhere => 0,
-    }
+    place_of(windows, run, at, 63).unwrap_or(0)
 }

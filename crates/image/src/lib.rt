@@ -12,21 +12,21 @@ mod windows;
 
 pub use buffer::{fetch8, store8, word_or_zero};
 pub use entries::{
-    Held, fetch16, fetch64, find_window, first_span, page_entry8, page_entry8_by, page_entry16,
+    fetch16, fetch64, find_window, first_span, page_entry8, page_entry8_by, page_entry16,
     page_entry16_by, page_entry32, place_in, place64, table_page,
 };
 pub use entry_fields::{any_set16, any_set64, bit16, bit64, bits16, bits64};
 pub use windows::{bad_several, bad_windows};
 
 // An entry of 16 bytes: bits 63:0 and 127:64.
-#[derive(Clone, Copy)]
+#[derive(Clone, Copy, Debug, PartialEq, Eq)]
 pub struct Entry16 {
     pub low: u64,
     pub high: u64,
 }
 
 // An entry of 64 bytes: bits 63:0 in w0, 511:448 in w7.
-#[derive(Clone, Copy)]
+#[derive(Clone, Copy, Debug, PartialEq, Eq)]
 pub struct Entry64 {
     pub w0: u64,
     pub w1: u64,
@@ -40,37 +40,17 @@ pub struct Entry64 {
 
 // A window as the fetches use it: its host addresses, and what is added to one of them, modulo 2^64, for its place in the run. That is made
 // before the address is known, so that a single sum stands between an entry's address and its load.
-#[derive(Clone, Copy)]
+#[derive(Clone, Copy, Debug, PartialEq, Eq)]
 pub struct Span {
     pub start: u64,
     pub size: u64,
     pub shift: u64,
 }
 
-// The entry concerned in a fault: none, or the one at a host address.
-#[derive(Clone, Copy)]
-pub enum EntryAddress {
-    NoEntry,
-    At(u64),
-}
-
-// An entry, or the host address of one that can't be fetched.
-#[derive(Clone, Copy)]
-pub enum Found8 {
-    Entry(u64),
-    Missing(u64),
-}
-
-#[derive(Clone, Copy)]
-pub enum Found16 {
-    Entry(Entry16),
-    Missing(u64),
-}
-
-#[derive(Clone, Copy)]
-pub enum Found64 {
-    Entry(Entry64),
-    Missing(u64),
+// The host address of an entry that can't be fetched.
+#[derive(Clone, Copy, Debug, PartialEq, Eq)]
+pub struct Missing {
+    pub at: u64,
 }
 
 // The field of a word from bit high down to bit low; 0 where low is above high.

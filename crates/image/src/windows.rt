@@ -182,14 +182,7 @@ fn any_share(windows: &[u64]) -> bool
 fn bad_count(count: usize) -> bool
     ensures { result ≡ bad_numbers count }
 {
-    match count {
-        0 => false,
-        3 => false,
-        6 => false,
-        9 => false,
-        12 => false,
-        _ => true,
-    }
+    !matches!(count, 0 | 3 | 6 | 9 | 12)
 }
 
 // Refusal 1's part on windows: these are refused on a run of so many bytes.

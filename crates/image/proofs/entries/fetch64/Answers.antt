@@ -7,18 +7,18 @@ placing : (c : After-place_of) → let a = c.args in Placing a.windows.now a.ima
 placing c = search rules
 
 pub load64-requires : goal.load64-requires
-load64-requires c = placed-room (placing (goal.at.load64-requires c).After-place_of) c.in-At.is
+load64-requires c = placed-room (placing (goal.at.load64-requires c).After-place_of) c.in-Some.is
 
-pub returns-in-At : goal.returns-in-At
-returns-in-At c =
+pub returns-in-Some : goal.returns-in-Some
+returns-in-Some c =
     record {
-      result_value = placed-entry (placing (goal.at.returns-in-At c).After-place_of) c.in-At.is c.load64.ensures;
+      result_value = placed-entry (placing (goal.at.returns-in-Some c).After-place_of) c.in-Some.is c.load64.ensures;
       at_value = refl;
     }
 
-pub returns-in-Nowhere : goal.returns-in-Nowhere
-returns-in-Nowhere c =
+pub returns-in-None : goal.returns-in-None
+returns-in-None c =
     record {
-      result_value = placed-missing (placing (goal.at.returns-in-Nowhere c).After-place_of) c.in-Nowhere.is;
+      result_value = placed-missing (placing (goal.at.returns-in-None c).After-place_of) c.in-None.is;
       at_value = refl;
     }

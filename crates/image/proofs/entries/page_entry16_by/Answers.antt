@@ -7,21 +7,21 @@ paging : (c : After-window_of) → let a = c.args in Paging a.windows.now a.imag
 paging c = search rules
 
 pub table_page-requires : goal.table_page-requires
-table_page-requires c = page-begins (paging (goal.at.table_page-requires c).After-window_of) c.in-In.is
+table_page-requires c = page-begins (paging (goal.at.table_page-requires c).After-window_of) c.in-Some.is
 
 pub load16-requires : goal.load16-requires
-load16-requires c = page-room (paging (goal.at.load16-requires c).After-window_of) c.in-In.is c.table_page.ensures
+load16-requires c = page-room (paging (goal.at.load16-requires c).After-window_of) c.in-Some.is c.table_page.ensures
 
-pub returns-in-In : goal.returns-in-In
-returns-in-In c =
+pub returns-in-Some : goal.returns-in-Some
+returns-in-Some c =
     record {
-      result_value = page-entry (paging (goal.at.returns-in-In c).After-window_of) c.in-In.is c.table_page.ensures c.load16.ensures;
+      result_value = page-entry (paging (goal.at.returns-in-Some c).After-window_of) c.in-Some.is c.table_page.ensures c.load16.ensures;
       offset_value = refl;
     }
 
-pub returns-in-Nowhere : goal.returns-in-Nowhere
-returns-in-Nowhere c =
+pub returns-in-None : goal.returns-in-None
+returns-in-None c =
     record {
-      result_value = page-missing (paging (goal.at.returns-in-Nowhere c).After-window_of) c.in-Nowhere.is;
+      result_value = page-missing (paging (goal.at.returns-in-None c).After-window_of) c.in-None.is;
       offset_value = refl;
     }

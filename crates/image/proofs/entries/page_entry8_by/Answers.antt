@@ -1,7 +1,6 @@
 use Rattle.std.proofs.Common.{refl, rules}
 use Rattle.image.specs.Bytes.{little_endian}
 use Rattle.image.specs.Memory.{word_at}
-use Rattle.image.specs.Memory.{word_at}
 use Rattle.image.proofs.WindowEntries.{Paging, page-begins, page-room, page-entry, page-missing}
 use Rattle.image.proofs.entries.page_entry8_by.Goals.{After-window_of}
 use Rattle.image.proofs.entries.page_entry8_by.Goals as goal
@@ -10,22 +9,22 @@ paging : (c : After-window_of) → let a = c.args in Paging a.windows.now a.imag
 paging c = search rules
 
 pub table_page-requires : goal.table_page-requires
-table_page-requires c = page-begins (paging (goal.at.table_page-requires c).After-window_of) c.in-In.is
+table_page-requires c = page-begins (paging (goal.at.table_page-requires c).After-window_of) c.in-Some.is
 
 pub word-requires : goal.word-requires
-word-requires c = page-room (paging (goal.at.word-requires c).After-window_of) c.in-In.is c.table_page.ensures
+word-requires c = page-room (paging (goal.at.word-requires c).After-window_of) c.in-Some.is c.table_page.ensures
 
-pub returns-in-In : goal.returns-in-In
+pub returns-in-Some : goal.returns-in-Some
 unfolding word_at little_endian
-returns-in-In c =
+returns-in-Some c =
     record {
-      result_value = page-entry (paging (goal.at.returns-in-In c).After-window_of) c.in-In.is c.table_page.ensures c.word.ensures;
+      result_value = page-entry (paging (goal.at.returns-in-Some c).After-window_of) c.in-Some.is c.table_page.ensures c.word.ensures;
       offset_value = refl;
     }
 
-pub returns-in-Nowhere : goal.returns-in-Nowhere
-returns-in-Nowhere c =
+pub returns-in-None : goal.returns-in-None
+returns-in-None c =
     record {
-      result_value = page-missing (paging (goal.at.returns-in-Nowhere c).After-window_of) c.in-Nowhere.is;
+      result_value = page-missing (paging (goal.at.returns-in-None c).After-window_of) c.in-None.is;
       offset_value = refl;
     }
