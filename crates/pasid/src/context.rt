@@ -3,7 +3,7 @@ ghost use Rattle.std.specs.Prelude.{◌≡◌, ◌^◌, ◌<◌};
 ghost use Rattle.image.specs.Bits.{bits, any_set};
 ghost use Rattle.image.specs.Answers.{number64};
 ghost use Rattle.pasid.specs.Answers.{context_checked};
-ghost use Rattle.pasid.specs.Context.{context_reserved, beyond as pasidBeyond, context_invalid, pasid_of as pasidFor, context_of, context_check};
+ghost use Rattle.pasid.specs.Context.{context_reserved, beyond as pasid_beyond, context_invalid, pasid_of as pasid_for, context_of, context_check};
 
 use crate::Pasid;
 use crate::reason::ScalableReason;
@@ -22,13 +22,6 @@ pub struct ScalableContext {
     pub fpd: bool,
 }
 
-#[derive(Clone, Copy)]
-pub enum ContextCheck {
-    // Why the request ends here.
-    Stop(ScalableReason),
-    Go(ScalableContext),
-}
-
 // Bits 255:85.
 fn upper_set(e: Entry64) -> bool
     ensures { result ≡ any_set (number64 e) 255 85 }
@@ -44,6 +37,7 @@ fn context_reserved(haw: u8, e: Entry64) -> bool
 }
 
 // PDTS, bits 11:9.
+#[tactic(auto, using(image::proofs::Fields::fits))]
 fn directory_size(e: Entry64) -> u64
     ensures { (result ≡ bits (number64 e) 11 9) × (result < 8) }
 {
@@ -51,6 +45,7 @@ fn directory_size(e: Entry64) -> u64
 }
 
 // RID_PASID, bits 83:64.
+#[tactic(auto, using(image::proofs::Fields::fits))]
 fn rid_pasid(e: Entry64) -> u64
     ensures { (result ≡ bits (number64 e) 83 64) × (result < 2 ^ 20) }
 {
@@ -59,12 +54,13 @@ fn rid_pasid(e: Entry64) -> u64
 
 // The directory has 2^(PDTS+7) entries of 64 PASIDs each.
 fn beyond(e: Entry64, pasid: u64) -> bool
-    ensures { result ≡ pasidBeyond (number64 e) pasid }
+    ensures { result ≡ pasid_beyond (number64 e) pasid }
 {
     at_or_above_power(pasid, directory_size(e) as u32 + 13)
 }
 
 // PRE without DTE; a RID_PASID that the directory doesn't hold, where it is used.
+#[tactic(auto, unfolding(crate::specs::Context::context_invalid))]
 fn context_invalid(pasid: Pasid, e: Entry64) -> bool
     ensures { result ≡ context_invalid pasid (number64 e) }
 {
@@ -72,7 +68,7 @@ fn context_invalid(pasid: Pasid, e: Entry64) -> bool
 }
 
 fn pasid_of(pasid: Pasid, e: Entry64) -> u32
-    ensures { result ≡ pasidFor pasid (number64 e) }
+    ensures { result ≡ pasid_for pasid (number64 e) }
 {
     if pasid.present {
         return pasid.value;
@@ -91,23 +87,25 @@ fn context_of(pasid: Pasid, e: Entry64) -> ScalableContext
     }
 }
 
-pub fn context_check(haw: u8, pasid: Pasid, e: Entry64) -> ContextCheck
+// What the entry says, or why the request ends here.
+#[tactic(auto, unfolding(crate::specs::Context::context_check))]
+pub fn context_check(haw: u8, pasid: Pasid, e: Entry64) -> Result<ScalableContext, ScalableReason>
     ensures { context_checked result ≡ context_check haw pasid (number64 e) }
 {
     if !bit64(e, 0) {
-        return ContextCheck::Stop(ScalableReason::ContextNotPresent);
+        return Err(ScalableReason::ContextNotPresent);
     }
     if context_reserved(haw, e) {
-        return ContextCheck::Stop(ScalableReason::ContextReserved);
+        return Err(ScalableReason::ContextReserved);
     }
     if context_invalid(pasid, e) {
-        return ContextCheck::Stop(ScalableReason::ContextInvalid);
+        return Err(ScalableReason::ContextInvalid);
     }
     if pasid.present & !bit64(e, 3) {
-        return ContextCheck::Stop(ScalableReason::PasidDisabled);
+        return Err(ScalableReason::PasidDisabled);
     }
     if pasid.present & beyond(e, pasid.value as u64) {
-        return ContextCheck::Stop(ScalableReason::PasidOutOfRange);
+        return Err(ScalableReason::PasidOutOfRange);
     }
-    ContextCheck::Go(context_of(pasid, e))
+    Ok(context_of(pasid, e))
 }

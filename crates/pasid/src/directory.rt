@@ -14,13 +14,6 @@ pub struct PasidTable {
     pub fpd: bool,
 }
 
-#[derive(Clone, Copy)]
-pub enum DirectoryCheck {
-    // Why the request ends here.
-    Stop(ScalableReason),
-    Go(PasidTable),
-}
-
 // Bits 11:2 and 63:HAW.
 fn directory_reserved(haw: u8, e: u64) -> bool
     ensures { result ≡ directory_reserved haw e }
@@ -28,17 +21,18 @@ fn directory_reserved(haw: u8, e: u64) -> bool
     (field(e, 11, 2) != 0) | at_or_above_power(e, haw as u32)
 }
 
-// fpd: of the context.
-pub fn directory_check(haw: u8, fpd: bool, e: u64) -> DirectoryCheck
+// The PASID table, or why the request ends here. fpd: of the context.
+#[tactic(auto, unfolding(crate::specs::Directory::directory_check))]
+pub fn directory_check(haw: u8, fpd: bool, e: u64) -> Result<PasidTable, ScalableReason>
     ensures { directory_checked result ≡ directory_check haw fpd e }
 {
     if field(e, 0, 0) != 1 {
-        return DirectoryCheck::Stop(ScalableReason::DirectoryNotPresent);
+        return Err(ScalableReason::DirectoryNotPresent);
     }
     if directory_reserved(haw, e) {
-        return DirectoryCheck::Stop(ScalableReason::DirectoryReserved);
+        return Err(ScalableReason::DirectoryReserved);
     }
-    DirectoryCheck::Go(PasidTable {
+    Ok(PasidTable {
         address: in_place(e, 63, 12),
         fpd: fpd | (field(e, 1, 1) == 1),
     })

@@ -19,6 +19,7 @@ pub struct ScalableFault {
 }
 
 // FPD silences neither faults of the root entry nor 40h, 50h and 58h.
+#[tactic(auto, unfolding(crate::specs::Record::silenced))]
 fn may_record(fpd: bool, number: u8) -> bool
     ensures { result ≡ recordable fpd number }
 {
@@ -30,6 +31,7 @@ fn may_record(fpd: bool, number: u8) -> bool
 }
 
 // PASID value in 123:104, PASID present in 95: bits 59:40 and 31 of the upper word.
+#[tactic(auto, unfolding(crate::specs::Record::pasid_word, image::specs::Bits::bits))]
 fn pasid_word(pasid: Pasid) -> u64
     ensures { (result ≡ pasid_word pasid) × (result < 2 ^ 61) }
 {

@@ -9,14 +9,14 @@ mod root;
 mod table;
 mod validity;
 
-pub use context::{ContextCheck, ScalableContext, context_check};
-pub use directory::{DirectoryCheck, PasidTable, directory_check};
+pub use context::{ScalableContext, context_check};
+pub use directory::{PasidTable, directory_check};
 pub use fault::{ScalableFault, scalable_fault};
 pub use reason::ScalableReason;
 use registers::Registers;
-pub use root::{RootCheck, root_check};
+pub use root::root_check;
 pub use table::PasidEntry;
-pub use validity::{TableCheck, table_check};
+pub use validity::table_check;
 
 // The registers of scalable mode: those of legacy mode, whose levels and page sizes are the second level's, and ten capabilities. Any
 // value of a capability is good, so that refusal 1 is that of the base registers.

@@ -8,14 +8,6 @@ use crate::reason::ScalableReason;
 use image::{Entry16, field, in_place};
 use registers::at_or_above_power;
 
-#[derive(Clone, Copy)]
-pub enum RootCheck {
-    // Why the request ends here.
-    Stop(ScalableReason),
-    // The address of the context table.
-    Go(u64),
-}
-
 fn half_of(upper: bool, e: Entry16) -> u64
     ensures { result ≡ half upper (number16 e) }
 {
@@ -32,22 +24,24 @@ fn half_reserved(haw: u8, half: u64) -> bool
     (field(half, 0, 0) == 1) & ((field(half, 11, 1) != 0) | at_or_above_power(half, haw as u32))
 }
 
+#[tactic(auto, unfolding(crate::specs::Root::root_reserved))]
 fn root_reserved(haw: u8, e: Entry16) -> bool
     ensures { result ≡ root_reserved haw (number16 e) }
 {
     half_reserved(haw, half_of(false, e)) | half_reserved(haw, half_of(true, e))
 }
 
-// upper: bit 7 of device and function.
-pub fn root_check(haw: u8, upper: bool, e: Entry16) -> RootCheck
+// The address of the context table, or why the request ends here. upper: bit 7 of device and function.
+#[tactic(auto, unfolding(crate::specs::Root::root_check))]
+pub fn root_check(haw: u8, upper: bool, e: Entry16) -> Result<u64, ScalableReason>
     ensures { root_checked result ≡ root_check haw upper (number16 e) }
 {
     let half = half_of(upper, e);
     if field(half, 0, 0) != 1 {
-        return RootCheck::Stop(ScalableReason::RootNotPresent);
+        return Err(ScalableReason::RootNotPresent);
     }
     if root_reserved(haw, e) {
-        return RootCheck::Stop(ScalableReason::RootReserved);
+        return Err(ScalableReason::RootReserved);
     }
-    RootCheck::Go(in_place(half, 63, 12))
+    Ok(in_place(half, 63, 12))
 }

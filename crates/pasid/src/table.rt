@@ -38,6 +38,7 @@ fn upper_set(e: Entry64) -> bool
 }
 
 // SLADE, SRE and EAFE are reserved where the unit hasn't what they switch on.
+#[tactic(auto, unfolding(crate::specs::Table::feature_reserved))]
 fn feature_reserved(registers: ScalableRegisters, e: Entry64) -> bool
     ensures { result ≡ feature_reserved registers (number64 e) }
 {
@@ -54,6 +55,7 @@ fn pointers_reserved(haw: u8, e: Entry64) -> bool
 }
 
 // Bits 11:10, 86:80, 139:136 and 511:192; the addresses, and what isn't supported.
+#[tactic(auto, unfolding(crate::specs::Table::table_reserved))]
 pub(crate) fn table_reserved(registers: ScalableRegisters, e: Entry64) -> bool
     ensures { result ≡ table_reserved registers (number64 e) }
 {
@@ -66,6 +68,7 @@ pub(crate) fn table_reserved(registers: ScalableRegisters, e: Entry64) -> bool
 }
 
 // PGTT, bits 8:6.
+#[tactic(auto, using(image::proofs::Fields::fits))]
 pub(crate) fn translation_type(e: Entry64) -> u64
     ensures { (result ≡ bits (number64 e) 8 6) × (result < 8) }
 {
@@ -73,6 +76,7 @@ pub(crate) fn translation_type(e: Entry64) -> u64
 }
 
 // AW, bits 4:2.
+#[tactic(auto, using(image::proofs::Fields::fits))]
 pub(crate) fn address_width(e: Entry64) -> u64
     ensures { (result ≡ bits (number64 e) 4 2) × (result < 8) }
 {
@@ -80,6 +84,7 @@ pub(crate) fn address_width(e: Entry64) -> u64
 }
 
 // FLPM, bits 131:130.
+#[tactic(auto, using(image::proofs::Fields::fits))]
 pub(crate) fn paging_mode(e: Entry64) -> u64
     ensures { (result ≡ bits (number64 e) 131 130) × (result < 4) }
 {

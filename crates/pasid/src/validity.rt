@@ -12,13 +12,6 @@ use crate::table::{
 use dma::width_supported;
 use image::{Entry64, bit64};
 
-#[derive(Clone, Copy)]
-pub enum TableCheck {
-    // Why the request ends here.
-    Stop(ScalableReason),
-    Go(PasidEntry),
-}
-
 fn type_supported(registers: ScalableRegisters, pgtt: u64) -> bool
     ensures { result ≡ type_supported registers pgtt }
 {
@@ -36,6 +29,7 @@ fn mode_supported(registers: ScalableRegisters, flpm: u64) -> bool
 }
 
 // PGTT; AW where there is a second level, FLPM where there is a first.
+#[tactic(auto, unfolding(crate::specs::Table::table_invalid))]
 fn table_invalid(registers: ScalableRegisters, e: Entry64) -> bool
     ensures { result ≡ table_invalid registers (number64 e) }
 {
@@ -47,26 +41,27 @@ fn table_invalid(registers: ScalableRegisters, e: Entry64) -> bool
         | (first & !mode_supported(registers, paging_mode(e)))
 }
 
-// fpd: of the entries before it.
+// What the entry says, or why the request ends here. fpd: of the entries before it.
+#[tactic(auto, unfolding(crate::specs::Table::table_check))]
 pub fn table_check(
     registers: ScalableRegisters,
     privileged: bool,
     fpd: bool,
     e: Entry64,
-) -> TableCheck
+) -> Result<PasidEntry, ScalableReason>
     ensures { table_checked result ≡ table_check registers privileged fpd (number64 e) }
 {
     if !bit64(e, 0) {
-        return TableCheck::Stop(ScalableReason::TableNotPresent);
+        return Err(ScalableReason::TableNotPresent);
     }
     if table_reserved(registers, e) {
-        return TableCheck::Stop(ScalableReason::TableReserved);
+        return Err(ScalableReason::TableReserved);
     }
     if table_invalid(registers, e) {
-        return TableCheck::Stop(ScalableReason::TableInvalid);
+        return Err(ScalableReason::TableInvalid);
     }
     if privileged & !bit64(e, 128) {
-        return TableCheck::Stop(ScalableReason::SupervisorDenied);
+        return Err(ScalableReason::SupervisorDenied);
     }
-    TableCheck::Go(pasid_entry_of(privileged, fpd, e))
+    Ok(pasid_entry_of(privileged, fpd, e))
 }
