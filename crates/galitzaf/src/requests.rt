@@ -26,7 +26,7 @@ pub extern "C" fn galitzaf_memory_request(
         return BAD_KIND;
     }
     let request = MemoryRequest {
-        source: SourceId::from_number(source),
+        source: SourceId::from(source),
         address,
         write: write == 1,
     };
@@ -54,7 +54,7 @@ pub extern "C" fn galitzaf_interrupt_request(
         return status;
     }
     let request = InterruptRequest {
-        source: SourceId::from_number(source),
+        source: SourceId::from(source),
         address,
         data,
     };

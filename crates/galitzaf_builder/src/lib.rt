@@ -66,7 +66,7 @@ pub extern "C" fn galitzaf_build(
         unpack(registers),
         windows,
         image,
-        SourceId::from_number(source),
+        SourceId::from(source),
         start,
         size,
         items,

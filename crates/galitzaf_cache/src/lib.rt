@@ -46,7 +46,7 @@ pub extern "C" fn galitzaf_cached_request(
         return BAD_KIND;
     }
     let request = MemoryRequest {
-        source: SourceId::from_number(source),
+        source: SourceId::from(source),
         address,
         write: write == 1,
     };

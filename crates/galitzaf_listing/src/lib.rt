@@ -54,7 +54,7 @@ pub extern "C" fn galitzaf_list_spans(
     if windows.len() % 3 != 0 {
         return BAD_WINDOWS;
     }
-    let asked = SourceId::from_number(source);
+    let asked = SourceId::from(source);
     let listing = list_spans(unpack(registers), windows, image, asked, known, spans);
     listing_status(listing)
 }

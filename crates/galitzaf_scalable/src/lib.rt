@@ -42,7 +42,7 @@ fn request_of(source: u16, address: u64, kind: u8, pasid: u32) -> ScalableReques
 {
     let what = kind as u64;
     ScalableRequest {
-        source: SourceId::from_number(source),
+        source: SourceId::from(source),
         address,
         write: bit(what, 0),
         pasid: Pasid {

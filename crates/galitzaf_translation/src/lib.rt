@@ -65,7 +65,7 @@ pub extern "C" fn galitzaf_translation_request(
         return status;
     }
     let request = TranslationRequest {
-        source: SourceId::from_number(source),
+        source: SourceId::from(source),
         address,
     };
     store(

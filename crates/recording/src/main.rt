@@ -73,7 +73,7 @@ fn interrupt_reason(n: u64) -> Reason {
 }
 
 fn fault_of(x: u64) -> Fault {
-    let source = SourceId::from_number((x / 64 % 65536) as u16);
+    let source = SourceId::from((x / 64 % 65536) as u16);
     let fpd = x % 4 == 0;
     if x / 4 % 2 == 0 {
         faults::memory_fault(memory_reason(x / 16), fpd, source, x, x / 8 % 2 == 0)

@@ -1,13 +1,13 @@
-// Whether a request is taken up at all: refusals 1 and 2, then the switch of its kind.
+// Whether a request is taken up at all: two refusals, then the switch of its kind.
 ghost use Rattle.std.specs.Prelude.{◌≡◌};
 ghost use Rattle.registers.specs.Admission.{admission, in_interrupt_range};
 ghost use Rattle.registers.specs.Answers.{admitted_of};
 
 use crate::Registers;
+use crate::refusal::Refusal;
 
-#[derive(Clone, Copy)]
+#[derive(Clone, Copy, Debug, PartialEq, Eq)]
 pub enum Admission {
-    Refused(u8),
     // Translation or remapping is off: the request goes on unchanged.
     Passed,
     Taken,
@@ -20,17 +20,17 @@ pub fn in_interrupt_range(address: u64) -> bool
 }
 
 // wrong_kind: the address is one of the other kind of request. on: the switch of this kind.
-pub fn admit(registers: Registers, wrong_kind: bool, on: bool) -> Admission
+pub fn admit(registers: Registers, wrong_kind: bool, on: bool) -> Result<Admission, Refusal>
     ensures { admitted_of result ≡ admission registers wrong_kind on }
 {
     if registers.bad() {
-        return Admission::Refused(1);
+        return Err(Refusal::BadRegisters);
     }
     if wrong_kind {
-        return Admission::Refused(2);
+        return Err(Refusal::WrongAddress);
     }
     if on {
-        return Admission::Taken;
+        return Ok(Admission::Taken);
     }
-    Admission::Passed
+    Ok(Admission::Passed)
 }

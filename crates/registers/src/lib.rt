@@ -7,15 +7,17 @@ ghost use Rattle.registers.specs.Registers.{registers_bad, bad_table, outside};
 mod admission;
 mod page_size;
 mod power;
+mod refusal;
 mod source_id;
 
 pub use admission::{Admission, admit, in_interrupt_range};
 pub use page_size::{Page1G, Page2M, Page4K};
 pub use power::at_or_above_power;
+pub use refusal::Refusal;
 pub use source_id::SourceId;
 
 // The unit's registers, by value. Each may hold any value of its type; `bad` tells what the unit refuses.
-#[derive(Clone, Copy)]
+#[derive(Clone, Copy, Debug, PartialEq, Eq)]
 pub struct Registers {
     // Host and guest address widths, in bits.
     pub haw: u8,
@@ -39,7 +41,7 @@ pub struct Registers {
 }
 
 impl Registers {
-    // Refusal 1. A HAW in its range is below 64, so that the shifts by it need no test. No other test hides behind a branch:
+    // Why a request is refused first. A HAW in its range is below 64, so that the shifts by it need no test. No other test hides behind a branch:
     // good registers, the usual case, take them all.
     pub fn bad(self) -> bool
         ensures { result ≡ registers_bad self }

@@ -1,4 +1,5 @@
 // The three sizes of a page. A page spans 2^SHIFT bytes, and an address has its place within the page in its low SHIFT bits.
+// Three types: a constant of a generic type or a trait is a call that promises nothing, and proofs need each span's value.
 ghost use Rattle.std.specs.Prelude.{◌≡◌, ◌%◌, ◌^◌};
 
 #[derive(Clone, Copy)]

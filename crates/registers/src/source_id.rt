@@ -2,7 +2,7 @@
 ghost use Rattle.std.specs.Prelude.{◌≡◌};
 ghost use Rattle.registers.specs.Source.{source_of, bus_of, devfn_of};
 
-#[derive(Clone, Copy)]
+#[derive(Clone, Copy, Debug, PartialEq, Eq)]
 pub struct SourceId {
     pub id: u16,
 }
@@ -19,13 +19,6 @@ impl SourceId {
         }
     }
 
-    // Of the number as a C caller or a trace has it.
-    pub fn from_number(id: u16) -> Self
-        ensures { result.id ≡ id }
-    {
-        Self::new((id / Self::FUNCTIONS) as u8, (id % Self::FUNCTIONS) as u8)
-    }
-
     pub fn bus(self) -> u8
         ensures { result ≡ bus_of self.id }
     {
@@ -36,5 +29,14 @@ impl SourceId {
         ensures { result ≡ devfn_of self.id }
     {
         (self.id % Self::FUNCTIONS) as u8
+    }
+}
+
+// Of the number as a C caller or a trace has it.
+impl From<u16> for SourceId {
+    ghost from_gives = { λ id source. source.id ≡ id };
+
+    fn from(id: u16) -> Self {
+        Self { id }
     }
 }

@@ -21,7 +21,7 @@ fn memory_again(registers: Registers, windows: &[u64], image: &[u8], e: Traced) 
     ensures { result ≡ memory_entry registers windows.now image.now (memory_in e) }
 {
     let request = MemoryRequest {
-        source: SourceId::from_number(e.source),
+        source: SourceId::from(e.source),
         address: e.address,
         write: e.kind == 2,
     };
@@ -32,7 +32,7 @@ fn translation_again(registers: Registers, windows: &[u64], image: &[u8], e: Tra
     ensures { result ≡ translation_entry registers windows.now image.now (translation_in e) }
 {
     let request = TranslationRequest {
-        source: SourceId::from_number(e.source),
+        source: SourceId::from(e.source),
         address: e.address,
     };
     translation_entry(
@@ -47,7 +47,7 @@ fn interrupt_again(registers: Registers, windows: &[u64], image: &mut [u8], e: T
     ensures image_after { image.new ≡ interrupt_written windows.now (interrupt_answer registers (interrupt_in e) windows.now image.old) image.old }
 {
     let request = InterruptRequest {
-        source: SourceId::from_number(e.source),
+        source: SourceId::from(e.source),
         address: e.address,
         data: e.data,
     };

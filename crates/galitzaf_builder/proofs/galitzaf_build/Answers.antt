@@ -50,5 +50,5 @@ returns c =
     let third = fourth in
     let second = third in
     let first = second in
-    rw (← first.malformed.ensures, first.if-malformed.false, eq-eqb _ _ second.if-windows-ne0.false, eq-eqb _ _ third.if-items-ne0.false, eq-eqb _ _ fourth.if-item-ne1.false, ← u.unpack.ensures, ← f.from_number.ensures, ← b.build-answer.ensures)
+    rw (← first.malformed.ensures, first.if-malformed.false, eq-eqb _ _ second.if-windows-ne0.false, eq-eqb _ _ third.if-items-ne0.false, eq-eqb _ _ fourth.if-item-ne1.false, ← u.unpack.ensures, ← f.from.ensures, ← b.build-answer.ensures)
     (ap (λ (p : ℕ × List ℕ). (p.0, lent b.build-answer.new.memory b.build-answer.new.copy b.build-answer.new.marks, p.1)) t.tell.ensures)

@@ -54,5 +54,5 @@ returns c =
       c.cached_request.ensures.result_value_2,
       c.cached_request.ensures.state_after,
       c.unpack.ensures,
-      c.from_number.ensures,
+      c.from.ensures,
     )

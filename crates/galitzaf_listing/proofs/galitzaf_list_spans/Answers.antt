@@ -29,7 +29,7 @@ pub listing_status-requires : goal.listing_status-requires
 listing_status-requires c =
     let a = c.args in
     subst Few (sym c.list_spans-listing.ensures.listed_as.0)
-    (few-told (length a.spans.now) (mapping_answer c.unpack.result c.from_number-asked.result.id a.windows.now a.image.now))
+    (few-told (length a.spans.now) (mapping_answer c.unpack.result c.from-asked.result.id a.windows.now a.image.now))
 
 pub returns : goal.returns
 unfolding list_call
@@ -43,5 +43,5 @@ returns c =
       c.list_spans-listing.ensures.listed_as.1,
       c.list_spans-listing.ensures.known_after,
       c.unpack.ensures,
-      c.from_number-asked.ensures,
+      c.from-asked.ensures,
     )

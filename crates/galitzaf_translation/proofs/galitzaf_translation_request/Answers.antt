@@ -37,5 +37,5 @@ returns c =
       c.translation_request.ensures.result_value,
       c.translation_request.ensures.result_value_2,
       c.unpack.ensures,
-      c.from_number.ensures,
+      c.from.ensures,
     )

@@ -9,7 +9,7 @@ returns c =
         c.interrupt_entry.ensures,
         c.interrupt_request.ensures.result_value,
         c.interrupt_request.ensures.result_value_2,
-        c.from_number.ensures,
+        c.from.ensures,
       );
-      image_after = rw (c.interrupt_request.ensures.image_after, c.from_number.ensures);
+      image_after = rw (c.interrupt_request.ensures.image_after, c.from.ensures);
     }

@@ -7,5 +7,5 @@ returns c = rw (
   c.memory_entry.ensures,
   c.memory_request.ensures.result_value,
   c.memory_request.ensures.result_value_2,
-  c.from_number.ensures,
+  c.from.ensures,
 )

@@ -7,5 +7,5 @@ returns c = rw (
   c.translation_entry.ensures,
   c.translation_request.ensures.result_value,
   c.translation_request.ensures.result_value_2,
-  c.from_number.ensures,
+  c.from.ensures,
 )

@@ -33,4 +33,4 @@ returns c =
     let source = unpacked in
     let first = source in
     let past = (status (goal.at.returns c).After-bad_arguments-status).accepted first.if-status-ne-OK.false in
-    rw (past.registers-fine, past.windows-fine, eq-eqb _ _ past.answer-whole, stored.store.ensures, packed.pack_interrupt.ensures, asked.interrupt_request.ensures.result_value, asked.interrupt_request.ensures.result_value_2, asked.interrupt_request.ensures.image_after, unpacked.unpack.ensures, source.from_number.ensures)
+    rw (past.registers-fine, past.windows-fine, eq-eqb _ _ past.answer-whole, stored.store.ensures, packed.pack_interrupt.ensures, asked.interrupt_request.ensures.result_value, asked.interrupt_request.ensures.result_value_2, asked.interrupt_request.ensures.image_after, unpacked.unpack.ensures, source.from.ensures)

@@ -28,7 +28,7 @@ returns c =
     let source = unpacked in
     let first = source in
     let past = (status (goal.at.returns c).After-bad_arguments-status).accepted first.if-status-ne-OK.false in
-    rw (past.registers-fine, past.windows-fine, eq-eqb _ _ past.answer-whole, le-ltb _ _ source.if-write-gt1.false, stored.store_memory.ensures, asked.memory_request.ensures.result_value, asked.memory_request.ensures.result_value_2, unpacked.unpack.ensures, source.from_number.ensures)
+    rw (past.registers-fine, past.windows-fine, eq-eqb _ _ past.answer-whole, le-ltb _ _ source.if-write-gt1.false, stored.store_memory.ensures, asked.memory_request.ensures.result_value, asked.memory_request.ensures.result_value_2, unpacked.unpack.ensures, source.from.ensures)
 
 pub unpack-requires : goal.unpack-requires
 unpack-requires c = let first = c in ((status (goal.at.unpack-requires c).After-bad_arguments-status).accepted first.if-status-ne-OK.false).registers-fine
