@@ -1,12 +1,13 @@
--- A row part way through: after i turns of the loop that looks at the meters, and of the loop that ticks them.
+-- A row that is looked at, and part way through the loop that ticks it: after i turns.
 use Prim.Native.Nat.{ℕ, zero, suc, ◌<◌}
-use mathlib.Core.Path.{◌≡◌, refl, ap, ap₂, sym, ◌∙◌, subst}
+use mathlib.Core.Path.{◌≡◌, refl, ap, sym, ◌∙◌}
 use mathlib.Core.Bool.{Bool, true, false, cond, not, ◌&&◌, ◌||◌}
 use mathlib.Core.List.{List, [], ◌∷◌, map}
 use native.Mathlib.Omega.{arith}
 use borrow.Author.Tests.{not-true, not-false}
 use lib.Dec.{T, eqb, eqb→eq}
 use lib.ListN.{length, get_or, set}
+use Rattle.std.specs.List.{zip, list_all}
 use Rattle.meter.specs.declared.Meter.{Meter}
 use Rattle.meter.specs.Meter.{ticked, meter_byte}
 use Rattle.meter.specs.Refused.{some, bad_count, bad_meter}
@@ -15,13 +16,6 @@ use Rattle.meter.proofs.Exactly.{never}
 
 abbrev pub fit : Meter → ℕ → Bool
 fit meter count = not (bad_count count || bad_meter meter)
-
--- the first i fit
-unfoldable pub all_fit : ℕ → List Meter → List ℕ → Bool
-all_fit zero ms cs = true
-all_fit (suc i) [] cs = true
-all_fit (suc i) (m ∷ ms) [] = true
-all_fit (suc i) (m ∷ ms) (c ∷ cs) = fit m c && all_fit i ms cs
 
 -- the first i are ticked
 unfoldable pub steps : ℕ → List Meter → List ℕ → List Meter
@@ -37,28 +31,6 @@ marks (suc i) [] cs bs = bs
 marks (suc i) (m ∷ ms) [] bs = bs
 marks (suc i) (m ∷ ms) (c ∷ cs) [] = []
 marks (suc i) (m ∷ ms) (c ∷ cs) (b ∷ bs) = meter_byte (ticked m c) ∷ marks i ms cs bs
-
-and-more : (a b c : Bool) → (a && b && c) ≡ (a && (b && c))
-and-more true b c = refl
-and-more false b c = refl
-
-pub all_fit-next : (i : ℕ) (ms : List Meter) (cs : List ℕ) (d : Meter) → i < length ms → i < length cs
-    → (all_fit i ms cs && fit (get_or ms i d) (get_or cs i 0)) ≡ all_fit (suc i) ms cs
-unfolding all_fit
-all_fit-next i [] cs d l k = absurd (omega arith)
-all_fit-next i (m ∷ ms) [] d l k = absurd (omega arith)
-all_fit-next zero (m ∷ ms) (c ∷ cs) d l k = right (fit m c)
-  where
-    right : (a : Bool) → (true && a) ≡ (a && true)
-    right true = refl
-    right false = refl
-all_fit-next (suc i) (m ∷ ms) (c ∷ cs) d l k =
-    and-more (fit m c) (all_fit i ms cs) (fit (get_or ms i d) (get_or cs i 0)) ∙ ap (λ (t : Bool). fit m c && t) (all_fit-next i ms cs d (omega arith) (omega arith))
-
--- one more that fits, beside a test that came before
-pub good-next : (g : Bool) (i : ℕ) (ms : List Meter) (cs : List ℕ) (d : Meter) → i < length ms → i < length cs
-    → ((g && all_fit i ms cs) && fit (get_or ms i d) (get_or cs i 0)) ≡ (g && all_fit (suc i) ms cs)
-good-next g i ms cs d l k = and-more g (all_fit i ms cs) (fit (get_or ms i d) (get_or cs i 0)) ∙ ap (λ (t : Bool). g && t) (all_fit-next i ms cs d l k)
 
 pub steps-length : (i : ℕ) (ms : List Meter) (cs : List ℕ) → length (steps i ms cs) ≡ length ms
 unfolding steps
@@ -101,8 +73,10 @@ shuffle false true false d = refl
 shuffle false false true d = refl
 shuffle false false false d = refl
 
-pub fits_all : (ms : List Meter) (cs : List ℕ) → length cs ≡ length ms → all_fit (length ms) ms cs ≡ not (some bad_count cs || some bad_meter ms)
-unfolding all_fit some
+-- all fit: no count is bad, and no meter
+pub fits_all : (ms : List Meter) (cs : List ℕ) → length cs ≡ length ms
+    → list_all (λ (p : Meter × ℕ). fit p.0 p.1) (zip ms cs) ≡ not (some bad_count cs || some bad_meter ms)
+unfolding some
 fits_all [] [] same = refl
 fits_all [] (c ∷ cs) same = absurd (omega arith)
 fits_all (m ∷ ms) [] same = absurd (omega arith)
@@ -136,17 +110,6 @@ module _ (ms : List Meter) (cs bs : List ℕ) where
   abbrev pub even : Bool
   even = eqb (length cs) (length ms) && eqb (length bs) (length ms)
 
-  -- how far the row is looked at
-  abbrev pub span : ℕ
-  span = cond even (length ms) 0
-
-  -- whether all was found good, and how far the row is ticked then
-  abbrev pub fine : Bool
-  fine = even && all_fit span ms cs
-
-  abbrev pub end : ℕ
-  end = cond fine (length ms) 0
-
   pub lengths : even ≡ true → (length cs ≡ length ms) × (length bs ≡ length ms)
   lengths e =
       let parts = both_true (eqb (length cs) (length ms)) (eqb (length bs) (length ms)) e in
@@ -172,21 +135,3 @@ module _ (ms : List Meter) (cs bs : List ℕ) where
 
   pub all-good : even ≡ true → not bads ≡ true → done ≡ tick_row ms cs bs
   all-good e f = sym (ap (λ (t : Bool). cond t kept done) (not-true bads f)) ∙ judged true e
-
-  outcome : (g h : Bool) → even ≡ g → (g && all_fit (cond g (length ms) 0) ms cs) ≡ h
-      → (h, steps (cond h (length ms) 0) ms cs, marks (cond h (length ms) 0) ms cs bs) ≡ tick_row ms cs bs
-  unfolding steps marks
-  outcome false true e f = never (sym f)
-  outcome false false e f = uneven e
-  outcome true true e f =
-      let same = lengths e in
-      ap₂ (λ (s : List Meter) (b : List ℕ). (true, s, b)) (steps_all ms cs) (marks-all ms cs bs same.0 same.1)
-      ∙ all-good e (sym (fits_all ms cs same.0) ∙ f)
-  outcome true false e f = one-bad e (sym (fits_all ms cs (lengths e).0) ∙ f)
-
-  pub all-turns : (fine, steps end ms cs, marks end ms cs bs) ≡ tick_row ms cs bs
-  all-turns = outcome even fine refl refl
-
-  pub inside : (g : Bool) (i : ℕ) → i < cond g (length ms) 0 → (g ≡ true → even ≡ true) → (i < length ms) × (i < length cs) × (i < length bs)
-  inside true i l e = let same = lengths (e refl) in (l, subst (λ (n : ℕ). i < n) (sym same.0) l, subst (λ (n : ℕ). i < n) (sym same.1) l)
-  inside false i l e = absurd (omega arith)

@@ -1,5 +1,5 @@
 // What a tick of a row refuses, for one meter and its count.
-ghost use Rattle.std.specs.Prelude.{◌≡◌, cond, not, ◌&&◌, ◌||◌, eqb};
+ghost use Rattle.std.specs.Prelude.{◌≡◌, not, ◌&&◌, ◌||◌, eqb};
 ghost use Rattle.meter.specs.Refused.{bad_count, bad_load, bad_limit, bad_gate, bad_meter};
 
 use crate::{Gate, Meter};
@@ -11,11 +11,11 @@ fn bad_load(load: f64) -> bool
     !((0.0 <= load) & (load <= 131070.0))
 }
 
-// Not finite, or below zero. A number less itself is 0; a NaN or an infinity less itself is a NaN.
+// Not finite, or below zero.
 fn bad_limit(limit: f64) -> bool
     ensures { result ≡ bad_limit limit }
 {
-    !((limit - limit == 0.0) & (0.0 <= limit))
+    !(limit.is_finite() & (0.0 <= limit))
 }
 
 fn bad_gate(gate: Gate) -> bool
@@ -31,8 +31,7 @@ fn bad_gate(gate: Gate) -> bool
 fn bad_meter(meter: Meter) -> bool
     ensures { result ≡ bad_meter meter }
 {
-    let gate = meter.gate;
-    bad_load(meter.load) | bad_gate(gate)
+    bad_load(meter.load) | bad_gate(meter.gate)
 }
 
 pub fn fits(meter: Meter, count: u32) -> bool
@@ -45,11 +44,4 @@ pub fn one_per_meter(meters: usize, counts: usize, bytes: usize) -> bool
     ensures { result ≡ (eqb counts meters && eqb bytes meters) }
 {
     (counts == meters) & (bytes == meters)
-}
-
-// How far a loop goes: over all of the row, or not at all.
-pub fn all_if(good: bool, meters: usize) -> usize
-    ensures { result ≡ cond good meters 0 }
-{
-    if good { meters } else { 0 }
 }

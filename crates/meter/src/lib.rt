@@ -27,16 +27,15 @@ pub struct Meter {
 fn tick_load(load: f64, count: u32) -> f64
     ensures { result ≡ tick_load load count }
 {
-    load * 0.5 + count as f64
+    load * 0.5 + f64::from(count)
 }
 
 pub fn tick(meter: Meter, count: u32) -> Meter
     ensures { result ≡ ticked meter count }
 {
-    let gate = meter.gate;
     Meter {
         load: tick_load(meter.load, count),
-        gate,
+        ..meter
     }
 }
 
@@ -55,13 +54,11 @@ pub fn trips(gate: Gate, load: f64) -> bool
 pub fn byte(meter: Meter) -> u8
     ensures { result ≡ meter_byte meter }
 {
-    let gate = meter.gate;
-    trips(gate, meter.load) as u8
+    u8::from(trips(meter.gate, meter.load))
 }
 
 pub fn clear(meter: Meter) -> Meter
     ensures { result ≡ cleared meter }
 {
-    let gate = meter.gate;
-    Meter { load: 0.0, gate }
+    Meter { load: 0.0, ..meter }
 }

@@ -1,9 +1,6 @@
-use Rattle.std.proofs.Common.{length, ◌-◌, ◌≡◌, ◌++◌, map, take, drop}
+use Rattle.std.proofs.Common.{◌≡◌, ◌++◌, map, take, drop}
 use Rattle.meter.specs.Meter.{cleared}
 use Rattle.meter.proofs.row.reset_row.Given as goal
 
-abbrev pub invariant-loop-i : goal.invariant-loop-i
-invariant-loop-i l = l.row ≡ map cleared (take l.i l.initial.row) ++ drop l.i l.initial.row
-
-abbrev pub decreases-loop-i : goal.decreases-loop-i
-decreases-loop-i l = length l.initial.row - l.i
+abbrev pub invariant-loop-meter : goal.invariant-loop-meter
+invariant-loop-meter l = l.row ≡ map cleared (take l.meter-index l.initial.row) ++ drop l.meter-index l.initial.row

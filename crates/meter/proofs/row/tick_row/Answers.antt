@@ -1,32 +1,31 @@
-use Rattle.std.proofs.Common.{rules, arith, ◌≡◌, ◌∙◌, sym, ap, ap₂, subst, ◌<◌, ◌+◌, ◌≤◌, ℕ, List, Bool, ◌&&◌, cond, length, get_or, set}
-use Rattle.std.proofs.Math.Numerals.{add-one}
+use Rattle.std.proofs.Common.{rules, tests, arith, add-one, ◌≡◌, ℕ, ◌<◌, ◌+◌, ◌∙◌, sym, ap, ap₂, true, not, ◌||◌, List, length, get_or, set}
+use Rattle.std.proofs.lemmas.Iterator.{YieldsList-from_slice, YieldsList-from_zip}
+use Rattle.std.proofs.lemmas.Iterator.Search.{all_from_yields_List}
 use Rattle.meter.specs.declared.Meter.{Meter}
 use Rattle.meter.specs.Meter.{ticked, meter_byte}
-use Rattle.meter.proofs.Rows.{even, span, fine, end, inside, good-next, all_fit, steps, marks, steps_next, marks-next, all-turns, both_true}
+use Rattle.meter.specs.Refused.{some, bad_count, bad_meter}
+use Rattle.meter.proofs.Rows.{even, fit, fits_all, lengths, one-bad, all-good, steps, marks, steps_next, marks-next, steps_all, marks-all}
+use Rattle.meter.proofs.row.tick_row.Goals.{After-all}
 use Rattle.meter.proofs.row.tick_row.Goals as goal
 
+-- what was looked at: lists that are one per meter, and whether all fit
+one-each : (c : After-all) → even c.args.row.now c.args.counts.now c.args.bytes.now ≡ true
+one-each c = sym c.one_per_meter.ensures ∙ c.if-not-one_per_meter.false
+
+looked : (c : After-all) → c.all.result ≡ not (some bad_count c.args.counts.now || some bad_meter c.args.row.now)
+looked c =
+    all_from_yields_List (λ (p : Meter × ℕ). fit p.0 p.1) c.all.new.self _ c.all.result c.all.ensures.ran
+    (YieldsList-from_zip (YieldsList-from_slice c.args.row.now cc) (YieldsList-from_slice c.args.counts.now cc)) (λ x b q k. search (rules, tests))
+    ∙ fits_all c.args.row.now c.args.counts.now (lengths c.args.row.now c.args.counts.now c.args.bytes.now (one-each c)).0
+
+pub returns-then-not-all : goal.returns-then-not-all
+returns-then-not-all c =
+    let at = (goal.at.returns-then-not-all c).After-all in
+    one-bad c.args.row.now c.args.counts.now c.args.bytes.now (one-each at) (sym (looked at) ∙ c.if-not-all.true)
+
 pub loop-i-init : goal.loop-i-init
-unfolding all_fit
-loop-i-init c = search rules
-
-pub loop-i-preserved : goal.loop-i-preserved
-loop-i-preserved c =
-    let ms = c.args.row.now in
-    let cs = c.args.counts.now in
-    let bs = c.args.bytes.now in
-    let i = c.loop-i.i in
-    let l : i < cond c.one_per_meter-good.result (length ms) 0 = subst (λ (n : ℕ). i < n) c.all_if-end.ensures c.loop-i-test.true in
-    let at = inside ms cs bs c.one_per_meter-good.result i l (λ e. sym c.one_per_meter-good.ensures ∙ e) in
-    record {
-      within = search rules;
-      looked = ap₂ (λ (a b : Bool). a && b) c.loop-i.invariant.looked c.fits-good.ensures
-          ∙ good-next (even ms cs bs) i ms cs _ at.0 at.1
-          ∙ ap (λ (n : ℕ). even ms cs bs && all_fit n ms cs) (sym (add-one i));
-    }
-
-pub loop-i-2-init : goal.loop-i-2-init
 unfolding steps marks
-loop-i-2-init c = search rules
+loop-i-init c = search rules
 
 steps-more : (i : ℕ) (ms : List Meter) (cs : List ℕ) (row : List Meter) (d m : Meter) → i < length ms → i < length cs → row ≡ steps i ms cs
     → m ≡ ticked (get_or row i d) (get_or cs i 0) → set row i m ≡ steps (i + 1) ms cs
@@ -36,44 +35,37 @@ steps-more i ms cs row d m l k e f =
     ∙ ap (λ (n : ℕ). steps n ms cs) (sym (add-one i))
 
 marks-more : (i : ℕ) (ms : List Meter) (cs bs : List ℕ) (row : List Meter) (bytes : List ℕ) (d m : Meter) (byte : ℕ)
-    → (i < length ms) × (i < length cs) × (i < length bs) → row ≡ steps i ms cs → bytes ≡ marks i ms cs bs
+    → i < length ms → i < length cs → i < length bs → row ≡ steps i ms cs → bytes ≡ marks i ms cs bs
     → m ≡ ticked (get_or row i d) (get_or cs i 0) → byte ≡ meter_byte m → set bytes i byte ≡ marks (i + 1) ms cs bs
-marks-more i ms cs bs row bytes d m byte at e b f g =
+marks-more i ms cs bs row bytes d m byte l k n e b f g =
     ap₂ (λ (r : List ℕ) (x : ℕ). set r i x) b (g ∙ ap meter_byte (f ∙ ap (λ (r : List Meter). ticked (get_or r i d) (get_or cs i 0)) e))
-    ∙ marks-next i ms cs bs d at.0 at.1 at.2
+    ∙ marks-next i ms cs bs d l k n
     ∙ ap (λ (n : ℕ). marks n ms cs bs) (sym (add-one i))
 
-pub loop-i-2-preserved : goal.loop-i-2-preserved
-loop-i-2-preserved c =
+pub loop-i-preserved : goal.loop-i-preserved
+loop-i-preserved c =
     let ms = c.args.row.now in
     let cs = c.args.counts.now in
     let bs = c.args.bytes.now in
-    let i = c.loop-i-2.i in
-    let l : i < cond c.loop-i.good (length ms) 0 = subst (λ (n : ℕ). i < n) c.all_if-end-2.ensures c.loop-i-2-test.true in
-    let at = inside ms cs bs c.loop-i.good i l (λ e. (both_true (even ms cs bs) (all_fit c.loop-i.i ms cs) (sym c.loop-i.invariant.looked ∙ e)).0) in
+    let i = c.loop-i.i in
+    let same = lengths ms cs bs (one-each (goal.at.loop-i-preserved c).After-all) in
+    let before = c.loop-i.invariant in
     record {
-      within = search rules;
-      ticked = steps-more i ms cs c.loop-i-2.row _ _ at.0 at.1 c.loop-i-2.invariant.ticked c.tick-meter.ensures;
+      ticked = steps-more i ms cs c.loop-i.row _ _ (omega arith) (omega arith) before.ticked c.tick-ticked.ensures;
       marked =
-          marks-more i ms cs bs c.loop-i-2.row c.loop-i-2.bytes _ _ _ at c.loop-i-2.invariant.ticked c.loop-i-2.invariant.marked c.tick-meter.ensures
-          c.byte.ensures;
+          marks-more i ms cs bs c.loop-i.row c.loop-i.bytes _ _ _ (omega arith) (omega arith) (omega arith) before.ticked before.marked
+          c.tick-ticked.ensures c.byte.ensures;
     }
-
-same : (i n : ℕ) → i ≤ n → n ≤ i → i ≡ n
-same i n l k = omega arith
 
 pub returns : goal.returns
 returns c =
     let ms = c.args.row.now in
     let cs = c.args.counts.now in
     let bs = c.args.bytes.now in
-    let reached : c.loop-i.i ≡ span ms cs bs = same c.loop-i.i _ c.loop-i.invariant.within c.loop-i-test.false ∙ c.all_if-end.ensures
-    ∙ ap (λ (t : Bool). cond t (length ms) 0) c.one_per_meter-good.ensures in
-    let good : c.loop-i.good ≡ fine ms cs bs = c.loop-i.invariant.looked ∙ ap (λ (n : ℕ). even ms cs bs && all_fit n ms cs) reached in
-    let ended : c.loop-i-2.i ≡ end ms cs bs = same c.loop-i-2.i _ c.loop-i-2.invariant.within c.loop-i-2-test.false ∙ c.all_if-end-2.ensures
-    ∙ ap (λ (t : Bool). cond t (length ms) 0) good in
-    ap (λ (g : Bool). (g, c.loop-i-2.row, c.loop-i-2.bytes)) good
-    ∙ ap₂ (λ (r : List Meter) (b : List ℕ). (fine ms cs bs, r, b))
-    (c.loop-i-2.invariant.ticked ∙ ap (λ (n : ℕ). steps n ms cs) ended)
-    (c.loop-i-2.invariant.marked ∙ ap (λ (n : ℕ). marks n ms cs bs) ended)
-    ∙ all-turns ms cs bs
+    let at = (goal.at.returns c).After-all in
+    let same = lengths ms cs bs (one-each at) in
+    let ended : c.loop-i.i ≡ length ms = omega arith in
+    ap₂ (λ (r : List Meter) (b : List ℕ). (true, r, b))
+    (c.loop-i.invariant.ticked ∙ ap (λ (n : ℕ). steps n ms cs) ended ∙ steps_all ms cs)
+    (c.loop-i.invariant.marked ∙ ap (λ (n : ℕ). marks n ms cs bs) ended ∙ marks-all ms cs bs same.0 same.1)
+    ∙ all-good ms cs bs (one-each at) (sym (looked at) ∙ c.if-not-all.false)
