@@ -1,4 +1,5 @@
 pub mod Bounded
 pub mod Exactly
+pub mod Finite
 pub mod Runs
 pub mod Rows

@@ -12,6 +12,7 @@ fn bad_load(load: f64) -> bool
 }
 
 // Not finite, or below zero.
+#[tactic(auto, using(crate::proofs::Finite::same_finite))]
 fn bad_limit(limit: f64) -> bool
     ensures { result ≡ bad_limit limit }
 {
