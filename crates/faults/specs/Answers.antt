@@ -8,7 +8,6 @@ use Rattle.faults.specs.Record.{FaultAnswer}
 use Rattle.faults.specs.declared.recorder.Recorder.{Recorder}
 use Rattle.faults.specs.declared.recorder.RecorderAnswer.{RecorderAnswer}
 use Rattle.faults.specs.declared.recorder.RecorderAnswer.TheVariants as said
-use Rattle.faults.specs.declared.recorder.RecorderStep.{RecorderStep}
 use Rattle.faults.specs.Recorder.{
   After,
   leaves,
@@ -49,6 +48,3 @@ answer_of said.OverflowCleared = overflow_cleared
 -- a call's answer, with the recorder and the buffer that it leaves
 abbrev pub left_by : RecorderAnswer → Recorder → List ℕ → After
 left_by answer recorder buffer = leaves (answer_of answer) buffer recorder.next recorder.overflow
-
-abbrev pub after_of : RecorderStep → List ℕ → After
-after_of step = left_by step.answer step.recorder

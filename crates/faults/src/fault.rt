@@ -9,7 +9,7 @@ use registers::{Page4K, SourceId};
 
 // The record's 128 bits are two words, bit 64 the lowest of high. They come first: in an answer that holds a fault or an address, no word is
 // then moved that holds parts of two fields.
-#[derive(Clone, Copy)]
+#[derive(Clone, Copy, Debug, PartialEq, Eq)]
 pub struct Fault {
     pub low: u64,
     pub high: u64,

@@ -2,59 +2,36 @@
 ghost use Rattle.std.specs.Prelude.{◌≡◌};
 ghost use Rattle.faults.specs.Reason.{number_of};
 
-#[derive(Clone, Copy)]
+#[derive(Clone, Copy, Debug, PartialEq, Eq)]
 pub enum Reason {
-    RootNotPresent,
-    ContextNotPresent,
-    ContextInvalid,
-    AddressOverflow,
-    WriteDenied,
-    ReadDenied,
-    PageEntryAccess,
-    RootAccess,
-    ContextAccess,
-    RootReserved,
-    ContextReserved,
-    PageEntryReserved,
-    TranslationBlocked,
-    RequestReserved,
-    IndexOutOfRange,
-    IrteNotPresent,
-    IrteAccess,
-    IrteReserved,
-    CompatibilityBlocked,
-    SourceRejected,
-    DescriptorAccess,
-    DescriptorReserved,
+    RootNotPresent = 0x01,
+    ContextNotPresent = 0x02,
+    ContextInvalid = 0x03,
+    AddressOverflow = 0x04,
+    WriteDenied = 0x05,
+    ReadDenied = 0x06,
+    PageEntryAccess = 0x07,
+    RootAccess = 0x08,
+    ContextAccess = 0x09,
+    RootReserved = 0x0A,
+    ContextReserved = 0x0B,
+    PageEntryReserved = 0x0C,
+    TranslationBlocked = 0x0D,
+    RequestReserved = 0x20,
+    IndexOutOfRange = 0x21,
+    IrteNotPresent = 0x22,
+    IrteAccess = 0x23,
+    IrteReserved = 0x24,
+    CompatibilityBlocked = 0x25,
+    SourceRejected = 0x26,
+    DescriptorAccess = 0x27,
+    DescriptorReserved = 0x28,
 }
 
 impl Reason {
     pub fn number(self) -> u8
         ensures { result ≡ number_of self }
     {
-        match self {
-            Reason::RootNotPresent => 0x01,
-            Reason::ContextNotPresent => 0x02,
-            Reason::ContextInvalid => 0x03,
-            Reason::AddressOverflow => 0x04,
-            Reason::WriteDenied => 0x05,
-            Reason::ReadDenied => 0x06,
-            Reason::PageEntryAccess => 0x07,
-            Reason::RootAccess => 0x08,
-            Reason::ContextAccess => 0x09,
-            Reason::RootReserved => 0x0A,
-            Reason::ContextReserved => 0x0B,
-            Reason::PageEntryReserved => 0x0C,
-            Reason::TranslationBlocked => 0x0D,
-            Reason::RequestReserved => 0x20,
-            Reason::IndexOutOfRange => 0x21,
-            Reason::IrteNotPresent => 0x22,
-            Reason::IrteAccess => 0x23,
-            Reason::IrteReserved => 0x24,
-            Reason::CompatibilityBlocked => 0x25,
-            Reason::SourceRejected => 0x26,
-            Reason::DescriptorAccess => 0x27,
-            Reason::DescriptorReserved => 0x28,
-        }
+        self as u8
     }
 }

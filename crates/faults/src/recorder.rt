@@ -1,14 +1,14 @@
 // The recorder: records in a lent buffer, whose length gives the number of slots, and its small state.
-ghost use Rattle.std.specs.Prelude.{◌≡◌, ℕ, ◌%◌, ◌+◌, ◌^◌, ◌<◌, ◌≤◌, List, [], ◌∷◌};
+ghost use Rattle.std.specs.Prelude.{◌≡◌, ◌%◌, ◌+◌, ◌^◌, ◌<◌, ◌≤◌, [], ◌∷◌};
 ghost use Rattle.image.specs.Bytes.{spell};
-ghost use Rattle.faults.specs.Answers.{after_of, answer_of, fault_of};
-ghost use Rattle.faults.specs.Recorder.{leaves, recording, clearing, clearing_overflow};
+ghost use Rattle.faults.specs.Answers.{left_by, answer_of, fault_of};
+ghost use Rattle.faults.specs.Recorder.{recording, clearing, clearing_overflow};
 ghost use Rattle.faults.specs.Slots.{slots_of, slots_in};
 
 use crate::fault::Fault;
 use crate::slots::{clear_record, is_standing, write_record};
 
-#[derive(Clone, Copy)]
+#[derive(Clone, Copy, Debug, PartialEq, Eq)]
 pub struct Recorder {
     // The slot that the next record goes to.
     pub next: u8,
@@ -16,18 +16,18 @@ pub struct Recorder {
 }
 
 // What became of a call. A clear also tells whether a record stood there, or overflow was set.
-#[derive(Clone, Copy)]
+#[derive(Clone, Copy, Debug, PartialEq, Eq)]
 pub enum RecorderAnswer {
     // Refusal 3.
-    Refused,
-    NotRecordable,
-    Dropped,
-    Overflowed,
-    Written,
-    SlotClear,
-    SlotCleared,
-    OverflowClear,
-    OverflowCleared,
+    Refused = 0x03,
+    NotRecordable = 0x11,
+    Dropped = 0x12,
+    Overflowed = 0x13,
+    Written = 0x14,
+    SlotClear = 0x20,
+    SlotCleared = 0x21,
+    OverflowClear = 0x30,
+    OverflowCleared = 0x31,
 }
 
 impl RecorderAnswer {
@@ -35,22 +35,12 @@ impl RecorderAnswer {
     pub fn number(self) -> u32
         ensures { result ≡ answer_of self }
     {
-        match self {
-            RecorderAnswer::Refused => 0x03,
-            RecorderAnswer::NotRecordable => 0x11,
-            RecorderAnswer::Dropped => 0x12,
-            RecorderAnswer::Overflowed => 0x13,
-            RecorderAnswer::Written => 0x14,
-            RecorderAnswer::SlotClear => 0x20,
-            RecorderAnswer::SlotCleared => 0x21,
-            RecorderAnswer::OverflowClear => 0x30,
-            RecorderAnswer::OverflowCleared => 0x31,
-        }
+        self as u32
     }
 }
 
 // What the recorder is handed of a fault: whether it may be recorded, and its record.
-#[derive(Clone, Copy)]
+#[derive(Clone, Copy, Debug, PartialEq, Eq)]
 pub struct FaultRecord {
     pub recordable: bool,
     pub low: u64,
@@ -64,24 +54,6 @@ pub fn record_of(fault: Fault) -> FaultRecord
         recordable: fault.recordable,
         low: fault.low,
         high: fault.high,
-    }
-}
-
-// A call's answer, with the recorder that it leaves.
-#[derive(Clone, Copy)]
-pub struct RecorderStep {
-    pub answer: RecorderAnswer,
-    pub recorder: Recorder,
-}
-
-impl RecorderStep {
-    fn new(answer: RecorderAnswer, next: u8, overflow: bool) -> RecorderStep
-        ensures { (buffer : List ℕ) → after_of result buffer ≡ leaves (answer_of answer) buffer next overflow }
-    {
-        RecorderStep {
-            answer,
-            recorder: Recorder { next, overflow },
-        }
     }
 }
 
@@ -116,75 +88,61 @@ fn with_bit_127(high: u64) -> u64
     high % 0x8000_0000_0000_0000 + 0x8000_0000_0000_0000
 }
 
-// The recorder after a record was handed to it, as two words.
-pub fn after_words(
-    buffer: &mut [u8],
-    recorder: Recorder,
-    recordable: bool,
-    low: u64,
-    high: u64,
-) -> RecorderStep
-    ensures { after_of result buffer.new ≡ recording (slots_in buffer.old) buffer.old recorder.next recorder.overflow recordable (spell (low ∷ high ∷ [])) }
-{
-    let slots = slot_count(buffer.len());
-    let next = recorder.next;
-    let overflow = recorder.overflow;
-    if slots <= next as usize {
-        return RecorderStep::new(RecorderAnswer::Refused, next, overflow);
+// The recorder's calls, its state and the records' buffer changed in place.
+impl Recorder {
+    // Hands it a fault's record.
+    #[tactic(auto, unfolding(crate::specs::Recorder::recording), using(crate::proofs::Recording::in_reach))]
+    pub fn record(&mut self, buffer: &mut [u8], fault: FaultRecord) -> RecorderAnswer
+        ensures { left_by result self.new buffer.new ≡ recording (slots_in buffer.old) buffer.old self.old.next self.old.overflow fault.recordable (spell (fault.low ∷ fault.high ∷ [])) }
+    {
+        let slots = slot_count(buffer.len());
+        let slot = self.next as usize;
+        if slots <= slot {
+            return RecorderAnswer::Refused;
+        }
+        if !fault.recordable {
+            return RecorderAnswer::NotRecordable;
+        }
+        if self.overflow {
+            return RecorderAnswer::Dropped;
+        }
+        if is_standing(buffer, slot) {
+            self.overflow = true;
+            return RecorderAnswer::Overflowed;
+        }
+        write_record(buffer, slot, fault.low, with_bit_127(fault.high));
+        self.next = slot_after(self.next, slots);
+        RecorderAnswer::Written
     }
-    if !recordable {
-        return RecorderStep::new(RecorderAnswer::NotRecordable, next, overflow);
-    }
-    if overflow {
-        return RecorderStep::new(RecorderAnswer::Dropped, next, overflow);
-    }
-    if is_standing(buffer, next as usize) {
-        return RecorderStep::new(RecorderAnswer::Overflowed, next, true);
-    }
-    write_record(buffer, next as usize, low, with_bit_127(high));
-    RecorderStep::new(RecorderAnswer::Written, slot_after(next, slots), overflow)
-}
 
-// The recorder after a fault was handed to it.
-pub fn after_record(buffer: &mut [u8], recorder: Recorder, fault: FaultRecord) -> RecorderStep
-    ensures { after_of result buffer.new ≡ recording (slots_in buffer.old) buffer.old recorder.next recorder.overflow fault.recordable (spell (fault.low ∷ fault.high ∷ [])) }
-{
-    after_words(buffer, recorder, fault.recordable, fault.low, fault.high)
-}
+    // Clears a slot's bit 127.
+    #[tactic(auto, unfolding(crate::specs::Recorder::clearing), using(crate::proofs::Recording::in_reach))]
+    pub fn clear_slot(&mut self, buffer: &mut [u8], slot: u8) -> RecorderAnswer
+        ensures { left_by result self.new buffer.new ≡ clearing (slots_in buffer.old) buffer.old self.old.next self.old.overflow slot }
+    {
+        let slots = slot_count(buffer.len());
+        if (slots <= self.next as usize) | (slots <= slot as usize) {
+            return RecorderAnswer::Refused;
+        }
+        if is_standing(buffer, slot as usize) {
+            clear_record(buffer, slot as usize);
+            return RecorderAnswer::SlotCleared;
+        }
+        RecorderAnswer::SlotClear
+    }
 
-// The recorder after a slot's bit 127 was cleared.
-pub fn after_clear(buffer: &mut [u8], recorder: Recorder, slot: u8) -> RecorderStep
-    ensures { after_of result buffer.new ≡ clearing (slots_in buffer.old) buffer.old recorder.next recorder.overflow slot }
-{
-    let slots = slot_count(buffer.len());
-    if (slots <= recorder.next as usize) | (slots <= slot as usize) {
-        return RecorderStep::new(RecorderAnswer::Refused, recorder.next, recorder.overflow);
+    // Clears the overflow flag.
+    #[tactic(auto, unfolding(crate::specs::Recorder::clearing_overflow))]
+    pub fn clear_overflow(&mut self, buffer: &[u8]) -> RecorderAnswer
+        ensures { left_by result self.new buffer.now ≡ clearing_overflow (slots_in buffer.now) buffer.now self.old.next self.old.overflow }
+    {
+        if slot_count(buffer.len()) <= self.next as usize {
+            return RecorderAnswer::Refused;
+        }
+        if self.overflow {
+            self.overflow = false;
+            return RecorderAnswer::OverflowCleared;
+        }
+        RecorderAnswer::OverflowClear
     }
-    if is_standing(buffer, slot as usize) {
-        clear_record(buffer, slot as usize);
-        return RecorderStep::new(
-            RecorderAnswer::SlotCleared,
-            recorder.next,
-            recorder.overflow,
-        );
-    }
-    RecorderStep::new(RecorderAnswer::SlotClear, recorder.next, recorder.overflow)
-}
-
-// The recorder after its overflow flag was cleared.
-pub fn after_clear_overflow(buffer: &[u8], recorder: Recorder) -> RecorderStep
-    ensures { after_of result buffer.now ≡ clearing_overflow (slots_in buffer.now) buffer.now recorder.next recorder.overflow }
-{
-    let slots = slot_count(buffer.len());
-    if slots <= recorder.next as usize {
-        return RecorderStep::new(RecorderAnswer::Refused, recorder.next, recorder.overflow);
-    }
-    if recorder.overflow {
-        return RecorderStep::new(RecorderAnswer::OverflowCleared, recorder.next, false);
-    }
-    RecorderStep::new(
-        RecorderAnswer::OverflowClear,
-        recorder.next,
-        recorder.overflow,
-    )
 }

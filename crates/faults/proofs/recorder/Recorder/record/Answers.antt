@@ -1,0 +1,38 @@
+use Rattle.std.proofs.Common.{◌+◌, ◌*◌, ◌≤◌, length, rules}
+use borrow.Author.Tests.{lt-leb}
+use Rattle.faults.specs.Recorder.{recording}
+use Rattle.faults.proofs.Buffer.{marked}
+use Rattle.faults.proofs.Recording.{in_reach, counted}
+use Rattle.faults.proofs.recorder.Recorder.record.Goals.{Else-slots-slot}
+use Rattle.faults.proofs.recorder.Recorder.record.Goals as goal
+
+-- Past the refusal the next slot lies in the buffer.
+reached : (c : Else-slots-slot) → 16 * c.args.self.now.next + 16 ≤ length c.args.buffer.now
+reached c =
+    in_reach (length c.args.buffer.now) c.args.self.now.next
+    (rw (← c.slot_count-slots.ensures) (lt-leb _ _ c.if-slots-slot.false))
+
+pub is_standing-requires : goal.is_standing-requires
+is_standing-requires c = reached (goal.at.is_standing-requires c).Else-slots-slot
+
+pub write_record-requires : goal.write_record-requires
+write_record-requires c = reached (goal.at.write_record-requires c).Else-slots-slot
+
+pub slot_after-self-requires : goal.slot_after-self-requires
+slot_after-self-requires c = (c.if-slots-slot.false, rw c.slot_count-slots.ensures (counted _).0)
+
+pub returns : goal.returns
+unfolding recording
+returns c =
+    rw (
+      ← c.slot_count-slots.ensures,
+      lt-leb _ _ c.if-slots-slot.false,
+      c.if-not-fault.false,
+      c.if-self.false,
+      ← c.is_standing.ensures,
+      c.if-is_standing.false,
+      ← marked c.args.fault.low c.args.fault.high (search rules),
+      ← c.with_bit_127.ensures,
+      c.write_record.ensures,
+      c.slot_after-self.ensures,
+    )
