@@ -1,4 +1,5 @@
 -- A memory request by what becomes of it at admission.
+use Rattle.std.specs.Prelude.{Result}
 use Prim.Native.Nat.{ℕ, ◌%◌}
 use mathlib.Core.Bool.{Bool, true, false}
 use mathlib.Core.List.{List}
@@ -20,6 +21,8 @@ use Rattle.dma.specs.Translation.{translation_rules}
 use Rattle.dma.specs.declared.MemoryAnswer.{MemoryAnswer}
 use Rattle.dma.specs.declared.MemoryRequest.{MemoryRequest}
 use Rattle.dma.specs.declared.translation.Translation.{Translation as TranslationCode}
+use Rattle.faults.specs.declared.reason.Reason.{Reason}
+use Rattle.faults.specs.declared.stop.Stop.{Stop}
 
 -- registers under which a request is taken up have a root table that begins a page
 pub taken-root : (registers : Registers) (wrong on : Bool) → taken_up ≡ admission registers wrong on → registers.root_table % 4096 ≡ 0
@@ -64,7 +67,7 @@ module _ (registers : Registers) (request : MemoryRequest) (windows bytes : List
 
   -- a request taken up, by what its walk answers and what is made of that
   pub memory-taken : {wrong : Bool} → wrong ≡ in_interrupt_range request.address → taken_up ≡ admission registers wrong registers.te
-      → (r : MemoryAnswer) (t : TranslationCode)
+      → (r : MemoryAnswer) (t : Result TranslationCode (Stop Reason))
       → (outcome_of r ≡ memory_outcome request (translation_of t)) × ((place : Place) → Names t place → entry_of r ≡ concerned (outcome_of r) place)
       → (translation_of t ≡ run (translation_rules registers request.address request.write request.source.id) (of_windows windows bytes))
       × Names t (stopped_at (translation_rules registers request.address request.write request.source.id) (of_windows windows bytes))

@@ -1,4 +1,5 @@
 -- Laws of the lookup of a context, whatever follows it.
+use Rattle.std.specs.Prelude.{Result, Ok, Err}
 use Prim.Native.Nat.{ℕ, ◌+◌, ◌*◌}
 use mathlib.Core.Bool.{Bool, false}
 use mathlib.Core.Path.{◌≡◌, refl, ap, sym, ◌∙◌, subst}
@@ -18,9 +19,10 @@ use Rattle.dma.specs.Lookup.{Lookup, context, no_context, on_lookup, context_rul
 use Rattle.dma.specs.Root.{root_check}
 use Rattle.dma.specs.Answers.{lookup_of, lookup_place}
 use Rattle.dma.specs.declared.context.Context.{Context}
-use Rattle.dma.specs.declared.context.Lookup.{Lookup as LookupCode}
-use Rattle.dma.specs.declared.context.Lookup.TheVariants as lookup
+use Rattle.dma.specs.declared.context.FoundContext.{FoundContext}
+use Rattle.faults.specs.Reason.{number_of}
 use Rattle.faults.specs.declared.reason.Reason.{Reason}
+use Rattle.faults.specs.declared.stop.Stop.{Stop}
 use Rattle.dma.proofs.Stages.{usable}
 
 -- what holds of the forks and answers of a lookup and of what follows a context
@@ -197,16 +199,16 @@ finds registers source m =
     (λ c good. every-answer (λ kind at l. Finds l) Finds 0 (context c) good))
 
 -- the lookup as the code has it, and what follows: what is answered, where that stops, and that a context found is usable
-record Looked {A : Type 0} (registers : Registers) (faulted : (reason : ℕ) (fpd : Bool) → A) (next : Context → Rules A) (m : Memory) (source : ℕ) (l : LookupCode) : Type 0 where
+record Looked {A : Type 0} (registers : Registers) (faulted : (reason : ℕ) (fpd : Bool) → A) (next : Context → Rules A) (m : Memory) (source : ℕ) (l : Result FoundContext (Stop Reason)) : Type 0 where
   pub answers : on_lookup (lookup_of l) faulted (λ c. run (next c) m) ≡ run (root_rules registers faulted next source) m
   pub stops : on_lookup (lookup_of l) (λ reason fpd. lookup_place l) (λ c. last_tried (lookup_place l) (next c) m) ≡ stopped_at (root_rules registers faulted next source) m
   pub finding : Finds (lookup_of l)
 
 -- of a result of the code, by what it says and which entry it names
 module _ {A R : Type 0} (said : R → A) (Named : R → Place → Type 0) (registers : Registers) (faulted : (reason : ℕ) (fpd : Bool) → A)
-    (next : Context → Rules A) (m : Memory) (source : ℕ) {l : LookupCode}
+    (next : Context → Rules A) (m : Memory) (source : ℕ) {l : Result FoundContext (Stop Reason)}
     (looks : (lookup_of l ≡ run (lookup_rules registers source) m) × (lookup_place l ≡ stopped_at (lookup_rules registers source) m)) where
-  looked : {l' : LookupCode} → l ≡ l' → Looked registers faulted next m source l'
+  looked : {l' : Result FoundContext (Stop Reason)} → l ≡ l' → Looked registers faulted next m source l'
   looked is =
       let found = sym (ap lookup_of is) ∙ looks.0 in
       let tried = sym (ap lookup_place is) ∙ looks.1 in
@@ -217,17 +219,16 @@ module _ {A R : Type 0} (said : R → A) (Named : R → Place → Type 0) (regis
       }
 
   -- a lookup that found no context is told as such
-  pub no-context-told : {reason : Reason} {fpd : Bool} {at : ℕ} (other : Context → A) (r : R) → l ≡ lookup.Fault reason fpd at
-      → (said r ≡ on_lookup (lookup_of l) faulted other) × Named r (lookup_place l)
+  pub no-context-told : {s : Stop Reason} (r : R) → l ≡ Err s
+      → (said r ≡ faulted (number_of s.reason) s.fpd) × Named r (entry_at s.at)
       → (said r ≡ run (root_rules registers faulted next source) m) × Named r (stopped_at (root_rules registers faulted next source) m)
-  no-context-told other r is told =
-      (told.0 ∙ ap (λ l. on_lookup (lookup_of l) faulted other) is ∙ (looked is).answers, subst (Named r) (ap lookup_place is ∙ (looked is).stops) told.1)
+  no-context-told r is told = (told.0 ∙ (looked is).answers, subst (Named r) (looked is).stops told.1)
 
   -- with a context what follows it is told
-  pub context-told : {c : Context} {at : ℕ} (r : R) → l ≡ lookup.Found c at
-      → (said r ≡ run (next c) m) × Named r (last_tried (entry_at at) (next c) m)
+  pub context-told : {found : FoundContext} (r : R) → l ≡ Ok found
+      → (said r ≡ run (next found.context) m) × Named r (last_tried (entry_at found.at) (next found.context) m)
       → (said r ≡ run (root_rules registers faulted next source) m) × Named r (stopped_at (root_rules registers faulted next source) m)
   context-told r is told = (told.0 ∙ (looked is).answers, subst (Named r) (looked is).stops told.1)
 
-  pub context-usable : {c : Context} {at : ℕ} → l ≡ lookup.Found c at → Usable c
+  pub context-usable : {found : FoundContext} → l ≡ Ok found → Usable found.context
   context-usable is = (looked is).finding

@@ -1,7 +1,7 @@
 -- What one level of the walk makes of the entry that the code fetched and checked.
 use Prim.Native.Nat.{ℕ, zero, suc, ◌-◌, ◌%◌, ◌<◌}
 use mathlib.Core.Bool.{Bool, true, false}
-use mathlib.Core.Path.{◌≡◌, refl, subst}
+use mathlib.Core.Path.{◌≡◌, refl}
 use native.Mathlib.Omega.{arith}
 use Rattle.image.specs.Check.{Check, stop, go, on_check}
 use Rattle.std.specs.Prelude.{if◌then◌else◌}
@@ -10,24 +10,11 @@ use Rattle.image.specs.Place.{Place, entry_at, last_tried}
 use Rattle.image.specs.Rules.{run}
 use Rattle.registers.specs.declared.Registers.{Registers}
 use Rattle.dma.specs.Page.{page_check, leaf_at}
-use Rattle.dma.specs.Translation.{Translation, leaf, fault, checked, page_step, page_over, page_rules}
+use Rattle.dma.specs.Translation.{Translation, leaf, fault, page_step, page_over, page_rules}
 use Rattle.dma.specs.Walk.{Step, done, down, place_in, step_over}
-use Rattle.dma.specs.Answers.{step_of, Names}
-use Rattle.dma.specs.declared.translation.Translation.{Translation as TranslationCode}
-use Rattle.dma.specs.declared.page.Step.{Step as StepCode}
-use Rattle.dma.specs.declared.page.Step.TheVariants as step
 use Rattle.dma.proofs.Steps.{page-frame}
 use Rattle.dma.proofs.Onward as walk
 use Rattle.dma.proofs.Walks.{walk-anew}
-
--- a fault's entry by another name
-pub renamed : (t : TranslationCode) {place place' : Place} → place ≡ place' → Names t place → Names t place'
-renamed t is h = subst (λ (p : Place). Names t p) is h
-
--- a check that goes on
-pub gone : (fpd : Bool) (k : Check ℕ) {frame : ℕ} → down frame tt ≡ checked fpd k → go frame ≡ k
-gone fpd (stop reason) h = let z : ◌≡◌ {A = ℕ} 0 1 = cc in absurd (omega arith)
-gone fpd (go a) h = cc
 
 module _ (registers : Registers) (address : ℕ) (write fpd : Bool) (m : Memory) (n table : ℕ) where
   pub unfetched : missing ≡ entry 1 m (place_in address table n)
@@ -36,19 +23,10 @@ module _ (registers : Registers) (address : ℕ) (write fpd : Bool) (m : Memory)
   unfetched h = rw (← h)
 
   module _ {e : ℕ} (h : found e ≡ entry 1 m (place_in address table n)) where
-    -- a check that is no go-ahead
-    pub stopped : (r : StepCode) → ((table : ℕ) → r ≡ step.Down table → ⊥) → step_of r ≡ checked fpd (page_check registers write (suc n) e)
-        → step_of r ≡ page_over registers address write fpd m n table
+    pub stopped : {reason : ℕ} → stop reason ≡ page_check registers write (suc n) e
+        → done (fault reason fpd) ≡ page_over registers address write fpd m n table
     unfolding step_over
-    stopped r other told = rw (← h) (on r (page_check registers write (suc n) e) other told)
-      where
-        on : (r : StepCode) (k : Check ℕ) → ((table : ℕ) → r ≡ step.Down table → ⊥) → step_of r ≡ checked fpd k
-            → step_of r ≡ on_check k (λ reason. done (fault reason fpd)) (λ frame. if leaf_at (suc n) e then done (leaf frame (suc n)) else down frame tt)
-        on (step.Down table) k other told = absurd (other table refl)
-        on (step.Leaf frame level) (stop reason) other told = told
-        on (step.Leaf frame level) (go a) other told = let z : ◌≡◌ {A = ℕ} 0 1 = cc in absurd (omega arith)
-        on (step.Fault reason f at) (stop r) other told = told
-        on (step.Fault reason f at) (go a) other told = let z : ◌≡◌ {A = ℕ} 0 1 = cc in absurd (omega arith)
+    stopped told = rw (← h, ← told)
 
     module _ {frame : ℕ} (told : go frame ≡ page_check registers write (suc n) e) where
       pub at_leaf : leaf_at (suc n) e ≡ true

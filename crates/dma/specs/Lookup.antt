@@ -1,7 +1,7 @@
 -- Document 01, "Memory requests, step by step": the root entry, then the context entry, as a rules tree over any kind of answer. What
 -- follows a context is a parameter.
 use Rattle.std.specs.Prelude.{ℕ, ◌+◌, ◌*◌, Bool, false}
-use Rattle.image.specs.Check.{Check, on_check}
+use Rattle.image.specs.Check.{on_check}
 use Rattle.image.specs.EntryKind.{root_entry, context_entry}
 use Rattle.image.specs.Rules.{Rules, answer}
 use Rattle.image.specs.Stage.{stage}
@@ -39,7 +39,3 @@ lookup_rules registers = root_rules registers no_context (λ c. answer (context 
 abbrev pub checked_context : Registers → (e : ℕ) → Lookup
 checked_context registers e =
     on_check (context_check registers e) (λ reason. no_context reason (fault_processing_disabled e)) context
-
--- a root entry's check that stopped, told as a lookup
-abbrev pub stopped_lookup : Check ℕ → Lookup
-stopped_lookup check = on_check check (λ reason. no_context reason false) (λ table. no_context 0x08 false)

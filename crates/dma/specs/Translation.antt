@@ -4,8 +4,8 @@ use Rattle.std.specs.Prelude.{if◌then◌else◌}
 use Rattle.image.specs.Memory.{Memory}
 use Rattle.image.specs.Rules.{Rules, answer}
 use Rattle.registers.specs.declared.Registers.{Registers}
-use Rattle.image.specs.Check.{Check, stop, go, on_check}
-use Rattle.dma.specs.Lookup.{Lookup, on_lookup, root_rules}
+use Rattle.image.specs.Check.{on_check}
+use Rattle.dma.specs.Lookup.{root_rules}
 use Rattle.dma.specs.Page.{page_check, leaf_at}
 use Rattle.dma.specs.Walk.{Step, done, down, walk_rules, step_over}
 use Rattle.dma.specs.declared.context.Context.{Context}
@@ -22,15 +22,6 @@ abbrev pub Reachable : Translation → Type 0
 Reachable through = Unit {0}
 Reachable (leaf frame level) = (frame < 2 ^ 52) × (0 < level) × (level ≤ 3)
 Reachable (fault reason fpd) = Unit {0}
-
--- what a page entry's check says, told as a step: for the code's contracts
-abbrev pub checked : (fpd : Bool) → Check ℕ → Step (Unit {0}) Translation
-checked fpd (stop reason) = done (fault reason fpd)
-checked fpd (go frame) = down frame tt
-
--- a lookup that found no context, told as a translation: for the code's contracts
-abbrev pub without_context : Lookup → Translation
-without_context found = on_lookup found fault (λ c. through)
 
 -- X is the smaller of MGAW and AW's 39, 48 or 57 bits; the address is at or above 2^X
 abbrev pub overflows : Registers → (levels address : ℕ) → Bool

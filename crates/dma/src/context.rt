@@ -8,7 +8,7 @@ ghost use Rattle.dma.specs.Answers.{lookup_of, lookup_place};
 ghost use Rattle.dma.specs.Lookup.{checked_context};
 
 use crate::entry::{present, table_address};
-use faults::Reason;
+use faults::{Reason, Stop};
 use image::{Entry16, any_set16, bit16, bits16};
 use registers::{Registers, at_or_above_power};
 
@@ -26,15 +26,15 @@ pub struct Context {
     pub domain: u16,
 }
 
-// What a lookup of a source's context finds, with the host address of the last entry that was tried.
+// A source's context, with the host address of its entry.
 #[derive(Clone, Copy)]
-pub enum Lookup {
-    Found(Context, u64),
-    // Why there is none, and FPD as it was read by then.
-    Fault(Reason, bool, u64),
+pub struct FoundContext {
+    pub context: Context,
+    pub at: u64,
 }
 
 // AW, bits 66:64.
+#[tactic(auto, using(image::proofs::Fields::fits))]
 fn address_width(e: Entry16) -> u64
     ensures { (result ≡ address_width (number16 e)) × (result < 8) }
 {
@@ -42,6 +42,7 @@ fn address_width(e: Entry16) -> u64
 }
 
 // TT, bits 3:2.
+#[tactic(auto, using(image::proofs::Fields::fits))]
 fn translation_type(e: Entry16) -> u64
     ensures { (result ≡ translation_type (number16 e)) × (result < 4) }
 {
@@ -49,6 +50,7 @@ fn translation_type(e: Entry16) -> u64
 }
 
 // Bits 87:72.
+#[tactic(auto, using(image::proofs::Fields::fits))]
 fn domain(e: Entry16) -> u64
     ensures { (result ≡ bits (number16 e) 87 72) × (result < 65536) }
 {
@@ -84,6 +86,7 @@ fn context_reserved(haw: u8, e: Entry16) -> bool
         | at_or_above_power(e.low, haw as u32)
 }
 
+#[tactic(auto, unfolding(crate::specs::Context::context_invalid))]
 fn context_invalid(registers: Registers, e: Entry16) -> bool
     ensures { result ≡ context_invalid registers (number16 e) }
 {
@@ -109,19 +112,39 @@ fn context_of(e: Entry16) -> Context
     }
 }
 
-pub(crate) fn context_check(registers: Registers, at: u64, e: Entry16) -> Lookup
+#[tactic(auto, unfolding(crate::specs::Context::context_check))]
+pub(crate) fn context_check(
+    registers: Registers,
+    at: u64,
+    e: Entry16,
+) -> Result<FoundContext, Stop<Reason>>
     ensures result_value { lookup_of result ≡ checked_context registers (number16 e) }
     ensures result_value_2 { lookup_place result ≡ entry_at at }
 {
     let fpd = fault_processing_disabled(e);
     if !present(e) {
-        return Lookup::Fault(Reason::ContextNotPresent, fpd, at);
+        return Err(Stop {
+            reason: Reason::ContextNotPresent,
+            fpd,
+            at,
+        });
     }
     if context_reserved(registers.haw, e) {
-        return Lookup::Fault(Reason::ContextReserved, fpd, at);
+        return Err(Stop {
+            reason: Reason::ContextReserved,
+            fpd,
+            at,
+        });
     }
     if context_invalid(registers, e) {
-        return Lookup::Fault(Reason::ContextInvalid, fpd, at);
+        return Err(Stop {
+            reason: Reason::ContextInvalid,
+            fpd,
+            at,
+        });
     }
-    Lookup::Found(context_of(e), at)
+    Ok(FoundContext {
+        context: context_of(e),
+        at,
+    })
 }

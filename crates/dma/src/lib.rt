@@ -15,18 +15,17 @@ mod root;
 mod translation;
 mod walk;
 
-pub use context::{Context, Lookup, width_supported};
+pub use context::{Context, FoundContext, width_supported};
 pub use entry::{entry_offset, table_address};
-use faults::{Fault, memory_fault};
-pub use image::EntryAddress;
+use faults::{Fault, Reason, Stop, memory_fault};
 use image::{bad_windows, first_span};
 pub use lookup::find_context;
 pub use page::{
     Fetch, Walk, fetch_entry, host_address, is_leaf, meets_interrupt_range, page_reserved,
 };
-use registers::{Admission, Registers, SourceId, admit, in_interrupt_range};
+use registers::{Admission, Refusal, Registers, SourceId, admit, in_interrupt_range};
 use translation::translate;
-pub use translation::{Translation, overflows, translate_in, without_context};
+pub use translation::{Translation, overflows, translate_in};
 
 #[derive(Clone, Copy)]
 pub struct MemoryRequest {
@@ -40,9 +39,9 @@ pub enum MemoryAnswer {
     // The host address.
     Granted(u64),
     // With the entry concerned.
-    Blocked(Fault, EntryAddress),
-    // By number: 1 bad registers or windows, 2 an address in the interrupt range, 4 a page with a byte in it.
-    Refused(u8),
+    Blocked(Fault, Option<u64>),
+    // For bad registers or windows, an address in the interrupt range, or a page with a byte in it.
+    Refused(Refusal),
 }
 
 // A page that the walk ended with: refusal 4, or the host address.
@@ -52,22 +51,22 @@ fn page_answer(request: MemoryRequest, frame: u64, level: u32) -> MemoryAnswer
     ensures result_value_2 { (place : Place) → entry_of result ≡ concerned (outcome_of result) place }
 {
     if meets_interrupt_range(level, frame) {
-        return MemoryAnswer::Refused(4);
+        return MemoryAnswer::Refused(Refusal::InterruptPage);
     }
     MemoryAnswer::Granted(host_address(level, frame, request.address))
 }
 
-pub fn answer(request: MemoryRequest, translated: Translation) -> MemoryAnswer
+pub fn answer(request: MemoryRequest, translated: Result<Translation, Stop<Reason>>) -> MemoryAnswer
     requires { Reachable (translation_of translated) }
     ensures result_value { outcome_of result ≡ memory_outcome request (translation_of translated) }
     ensures result_value_2 { (place : Place) → Names translated place → entry_of result ≡ concerned (outcome_of result) place }
 {
     match translated {
-        Translation::Through => MemoryAnswer::Granted(request.address),
-        Translation::Leaf(frame, level) => page_answer(request, frame, level),
-        Translation::Fault(reason, fpd, at) => MemoryAnswer::Blocked(
+        Ok(Translation::Through) => MemoryAnswer::Granted(request.address),
+        Ok(Translation::Leaf(frame, level)) => page_answer(request, frame, level),
+        Err(Stop { reason, fpd, at }) => MemoryAnswer::Blocked(
             memory_fault(reason, fpd, request.source, request.address, request.write),
-            EntryAddress::At(at),
+            Some(at),
         ),
     }
 }
@@ -83,16 +82,16 @@ pub fn memory_request(
     ensures result_value_2 { entry_of result ≡ memory_answer_place registers request windows.now image.now }
 {
     if bad_windows(windows, image.len()) {
-        return MemoryAnswer::Refused(1);
+        return MemoryAnswer::Refused(Refusal::BadRegisters);
     }
-    // `admit` tests them too, which the compiler sees: here refusal 1 is told before there is another number to choose.
+    // `admit` tests them too, which the compiler sees: here refusal 1 is told before there is another one to choose.
     if registers.bad() {
-        return MemoryAnswer::Refused(1);
+        return MemoryAnswer::Refused(Refusal::BadRegisters);
     }
     match admit(registers, in_interrupt_range(request.address), registers.te) {
-        Admission::Refused(number) => MemoryAnswer::Refused(number),
-        Admission::Passed => MemoryAnswer::Granted(request.address),
-        Admission::Taken => {
+        Err(refusal) => MemoryAnswer::Refused(refusal),
+        Ok(Admission::Passed) => MemoryAnswer::Granted(request.address),
+        Ok(Admission::Taken) => {
             let first = first_span(windows);
             answer(
                 request,

@@ -5,25 +5,14 @@ ghost use Rattle.image.specs.Rules.{run, answer};
 ghost use Rattle.image.specs.Spans.{Opened};
 ghost use Rattle.image.specs.Windows.{of_windows};
 ghost use Rattle.registers.specs.Source.{devfn_of};
-ghost use Rattle.dma.specs.Answers.{check_of, check_place, lookup_of, lookup_place};
-ghost use Rattle.dma.specs.Lookup.{context, no_context, stopped_lookup, context_rules, lookup_rules};
+ghost use Rattle.dma.specs.Answers.{lookup_of, lookup_place};
+ghost use Rattle.dma.specs.Lookup.{context, no_context, context_rules, lookup_rules};
 
-use crate::context::{Lookup, context_check};
-use crate::root::{RootCheck, root_check};
-use faults::Reason;
-use image::{Found16, Span, page_entry16_by};
+use crate::context::{FoundContext, context_check};
+use crate::root::root_check;
+use faults::{Reason, Stop};
+use image::{Span, page_entry16_by};
 use registers::{Registers, SourceId};
-
-// A root entry's check that stopped, told as a lookup: a root entry has no FPD. The other arm is never taken.
-fn stopped(check: RootCheck) -> Lookup
-    ensures result_value { lookup_of result ≡ stopped_lookup (check_of check) }
-    ensures result_value_2 { lookup_place result ≡ check_place check }
-{
-    match check {
-        RootCheck::Stop(reason, at) => Lookup::Fault(reason, false, at),
-        RootCheck::Go(table) => Lookup::Fault(Reason::RootAccess, false, table),
-    }
-}
 
 fn context_in(
     first: Span,
@@ -32,7 +21,7 @@ fn context_in(
     registers: Registers,
     source: SourceId,
     table: u64,
-) -> Lookup
+) -> Result<FoundContext, Stop<Reason>>
     requires { Opened first windows.now (length image.now) × (table % 4096 ≡ 0) }
     ensures result_value { lookup_of result ≡ run (context_rules registers no_context (λ c. answer (context c)) source.id table) (of_windows windows.now image.now) }
     ensures result_value_2 { lookup_place result ≡ entry_at (table + 16 * devfn_of source.id) }
@@ -40,8 +29,12 @@ fn context_in(
     let devfn = source.devfn();
     let offset = 16 * devfn as u64;
     let at = table + offset;
-    let Found16::Entry(e) = page_entry16_by(first, windows, image, table, offset) else {
-        return Lookup::Fault(Reason::ContextAccess, false, at);
+    let Ok(e) = page_entry16_by(first, windows, image, table, offset) else {
+        return Err(Stop {
+            reason: Reason::ContextAccess,
+            fpd: false,
+            at,
+        });
     };
     context_check(registers, at, e)
 }
@@ -52,7 +45,7 @@ pub fn find_context(
     image: &[u8],
     registers: Registers,
     source: SourceId,
-) -> Lookup
+) -> Result<FoundContext, Stop<Reason>>
     requires { Opened first windows.now (length image.now) × (registers.root_table % 4096 ≡ 0) }
     ensures result_value { lookup_of result ≡ run (lookup_rules registers source.id) (of_windows windows.now image.now) }
     ensures result_value_2 { lookup_place result ≡ stopped_at (lookup_rules registers source.id) (of_windows windows.now image.now) }
@@ -60,13 +53,13 @@ pub fn find_context(
     let bus = source.bus();
     let offset = 16 * bus as u64;
     let at = registers.root_table + offset;
-    let Found16::Entry(e) = page_entry16_by(first, windows, image, registers.root_table, offset)
-    else {
-        return Lookup::Fault(Reason::RootAccess, false, at);
+    let Ok(e) = page_entry16_by(first, windows, image, registers.root_table, offset) else {
+        return Err(Stop {
+            reason: Reason::RootAccess,
+            fpd: false,
+            at,
+        });
     };
-    let check = root_check(registers.haw, at, e);
-    let RootCheck::Go(table) = check else {
-        return stopped(check);
-    };
+    let table = root_check(registers.haw, at, e)?;
     context_in(first, windows, image, registers, source, table)
 }

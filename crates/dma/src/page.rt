@@ -1,5 +1,5 @@
 // A page entry: 8 bytes, at a level from 5 down to 1.
-ghost use Rattle.std.specs.Prelude.{false, ◌≡◌, length, ◌+◌, ◌*◌, ◌-◌, ◌%◌, ◌<◌, ◌≤◌};
+ghost use Rattle.std.specs.Prelude.{false, IfErr, ◌≡◌, length, ◌+◌, ◌*◌, ◌-◌, ◌%◌, ◌<◌, ◌≤◌};
 ghost use Rattle.image.specs.Answers.{fetched8};
 ghost use Rattle.image.specs.Memory.{entry};
 ghost use Rattle.image.specs.Place.{entry_at};
@@ -8,13 +8,13 @@ ghost use Rattle.image.specs.Windows.{of_windows};
 ghost use Rattle.dma.specs.InterruptRange.{meets_interrupt_range, span_at};
 ghost use Rattle.dma.specs.Page.{denied, own_right, leaf_at, page_reserved, page_check, host_address};
 ghost use Rattle.faults.specs.Reason.{number_of};
-ghost use Rattle.dma.specs.Answers.{step_of, StepNames};
-ghost use Rattle.dma.specs.Translation.{leaf, Reachable, checked, page_over};
+ghost use Rattle.dma.specs.Answers.{check_of, CheckNames, step_of, StepNames};
+ghost use Rattle.dma.specs.Translation.{leaf, Reachable, page_over};
 ghost use Rattle.dma.specs.Walk.{place_in};
 
 use crate::entry::entry_offset;
-use faults::Reason;
-use image::{Found8, Span, bit, field, in_place, page_entry8_by};
+use faults::{Reason, Stop};
+use image::{Missing, Span, bit, field, in_place, page_entry8_by};
 use registers::{Page1G, Page4K, Registers, at_or_above_power};
 
 // What is the same at all levels of a walk, but for the registers, which would be kept in memory as a part of it. first: the first window.
@@ -29,18 +29,16 @@ pub struct Walk {
 #[derive(Clone, Copy)]
 pub struct Fetch {
     pub at: u64,
-    pub found: Found8,
+    pub found: Result<u64, Missing>,
 }
 
-// What the walk makes of an entry. No two variants hold fields of different sizes in one place.
+// What the walk makes of an entry.
 #[derive(Clone, Copy)]
 pub(crate) enum Step {
     // The next table.
     Down(u64),
     // The frame of a page, and the entry's level.
     Leaf(u64, u32),
-    // Why the walk ends here, FPD, and the entry's host address.
-    Fault(Reason, bool, u64),
 }
 
 // A page and no table: bit 7 at level 1 is not looked at.
@@ -87,21 +85,42 @@ fn denial(write: bool) -> Reason
     }
 }
 
-// Where nothing stops it, Down carries the next table or a page's frame; page_step tells them apart.
-fn page_check(registers: Registers, write: bool, fpd: bool, level: u32, at: u64, e: u64) -> Step
-    ensures result_value { step_of result ≡ checked fpd (page_check registers write level e) }
-    ensures step_names { StepNames result (entry_at at) }
+// The next table or a page's frame; page_step tells them apart.
+#[tactic(auto, unfolding(crate::specs::Page::page_check))]
+fn page_check(
+    registers: Registers,
+    write: bool,
+    fpd: bool,
+    level: u32,
+    at: u64,
+    e: u64,
+) -> Result<u64, Stop<Reason>>
+    ensures result_value { check_of result ≡ page_check registers write level e }
+    ensures check_names { CheckNames result (entry_at at) }
+    ensures given_fpd { IfErr result (λ s. s.fpd ≡ fpd) }
 {
     if field(e, 1, 0) == 0 {
-        return Step::Fault(denial(write), fpd, at);
+        return Err(Stop {
+            reason: denial(write),
+            fpd,
+            at,
+        });
     }
     if page_reserved(registers, level, e) {
-        return Step::Fault(Reason::PageEntryReserved, fpd, at);
+        return Err(Stop {
+            reason: Reason::PageEntryReserved,
+            fpd,
+            at,
+        });
     }
     if !own_right(write, e) {
-        return Step::Fault(denial(write), fpd, at);
+        return Err(Stop {
+            reason: denial(write),
+            fpd,
+            at,
+        });
     }
-    Step::Down(in_place(e, 51, 12))
+    Ok(in_place(e, 51, 12))
 }
 
 // The entry for an address in a table: below is how many levels come after it.
@@ -132,24 +151,25 @@ pub(crate) fn page_step(
     write: bool,
     below: u32,
     table: u64,
-) -> Step
+) -> Result<Step, Stop<Reason>>
     requires { Opened walk.first windows.now (length image.now) × (below < 5) × (table % 4096 ≡ 0) }
     ensures result_value { step_of result ≡ page_over registers walk.address write walk.fpd (of_windows windows.now image.now) below table }
     ensures step_names { StepNames result (entry_at (place_in walk.address table below)) }
 {
     let Fetch { at, found } = fetch_entry(walk.first, windows, image, walk.address, below, table);
-    let Found8::Entry(e) = found else {
-        return Step::Fault(Reason::PageEntryAccess, walk.fpd, at);
+    let Ok(e) = found else {
+        return Err(Stop {
+            reason: Reason::PageEntryAccess,
+            fpd: walk.fpd,
+            at,
+        });
     };
     let level = below + 1;
-    let check = page_check(registers, write, walk.fpd, level, at, e);
-    let Step::Down(frame) = check else {
-        return check;
-    };
+    let frame = page_check(registers, write, walk.fpd, level, at, e)?;
     if is_leaf(level, e) {
-        return Step::Leaf(frame, level);
+        return Ok(Step::Leaf(frame, level));
     }
-    Step::Down(frame)
+    Ok(Step::Down(frame))
 }
 
 // A page's bytes, by the level of its leaf: a shift by the level, where a choice among the page sizes costs branches.

@@ -1,23 +1,14 @@
 // The root entry: 16 bytes for each bus, in the page of the root table.
-ghost use Rattle.std.specs.Prelude.{◌≡◌};
+ghost use Rattle.std.specs.Prelude.{false, ◌≡◌, IfErr};
 ghost use Rattle.image.specs.Answers.{number16};
 ghost use Rattle.dma.specs.Root.{root_reserved, root_check};
 ghost use Rattle.image.specs.Place.{entry_at};
 ghost use Rattle.dma.specs.Answers.{check_of, CheckNames};
 
 use crate::entry::{present, table_address};
-use faults::Reason;
+use faults::{Reason, Stop};
 use image::{Entry16, any_set16};
 use registers::at_or_above_power;
-
-// What a root entry's check says.
-#[derive(Clone, Copy)]
-pub(crate) enum RootCheck {
-    // Why the request ends here, and the entry's host address.
-    Stop(Reason, u64),
-    // The address of the context table.
-    Go(u64),
-}
 
 // Bits 11:1, 127:64 and 63:HAW.
 fn root_reserved(haw: u8, e: Entry16) -> bool
@@ -26,16 +17,26 @@ fn root_reserved(haw: u8, e: Entry16) -> bool
     any_set16(e, 11, 1) | any_set16(e, 127, 64) | at_or_above_power(e.low, haw as u32)
 }
 
-// The context table's address.
-pub(crate) fn root_check(haw: u8, at: u64, e: Entry16) -> RootCheck
+// The context table's address. A root entry has no FPD.
+#[tactic(auto, unfolding(crate::specs::Root::root_check))]
+pub(crate) fn root_check(haw: u8, at: u64, e: Entry16) -> Result<u64, Stop<Reason>>
     ensures result_value { check_of result ≡ root_check haw (number16 e) }
     ensures check_names { CheckNames result (entry_at at) }
+    ensures no_fpd { IfErr result (λ s. s.fpd ≡ false) }
 {
     if !present(e) {
-        return RootCheck::Stop(Reason::RootNotPresent, at);
+        return Err(Stop {
+            reason: Reason::RootNotPresent,
+            fpd: false,
+            at,
+        });
     }
     if root_reserved(haw, e) {
-        return RootCheck::Stop(Reason::RootReserved, at);
+        return Err(Stop {
+            reason: Reason::RootReserved,
+            fpd: false,
+            at,
+        });
     }
-    RootCheck::Go(table_address(e))
+    Ok(table_address(e))
 }

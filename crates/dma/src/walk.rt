@@ -11,7 +11,7 @@ ghost use Rattle.dma.specs.Translation.{page_rules};
 use crate::context::Context;
 use crate::page::{Step, Walk, page_step};
 use crate::translation::Translation;
-use faults::Reason;
+use faults::{Reason, Stop};
 use image::Span;
 use registers::Registers;
 
@@ -23,7 +23,7 @@ pub(crate) fn walk(
     address: u64,
     write: bool,
     context: Context,
-) -> Translation
+) -> Result<Translation, Stop<Reason>>
     requires { Opened first windows.now (length image.now) × Usable context }
     ensures result_value { translation_of result ≡ run (page_rules registers address write context.fpd context.levels context.top) (of_windows windows.now image.now) }
     ensures names { (before : Place) → Names result (last_tried before (page_rules registers address write context.fpd context.levels context.top) (of_windows windows.now image.now)) }
@@ -33,19 +33,17 @@ pub(crate) fn walk(
         address,
         fpd: context.fpd,
     };
-    let mut level = context.levels;
-    let mut at = context.top;
-    while 0 < level {
-        let step = page_step(windows, image, registers, given, write, level - 1, at);
-        match step {
-            Step::Leaf(frame, of) => return Translation::Leaf(frame, of),
-            Step::Fault(reason, fpd, entry) => return Translation::Fault(reason, fpd, entry),
-            Step::Down(next) => {
-                at = next;
-                level -= 1;
-            }
+    let mut table = context.top;
+    for below in (0..context.levels).rev() {
+        match page_step(windows, image, registers, given, write, below, table)? {
+            Step::Down(next) => table = next,
+            Step::Leaf(frame, level) => return Ok(Translation::Leaf(frame, level)),
         }
     }
     // No step leads below level 1.
-    Translation::Fault(Reason::PageEntryAccess, given.fpd, at)
+    Err(Stop {
+        reason: Reason::PageEntryAccess,
+        fpd: given.fpd,
+        at: table,
+    })
 }

@@ -1,10 +1,8 @@
-use Prim.Native.Nat.{ℕ, ◌+◌, ◌*◌}
+use Prim.Native.Nat.{◌+◌, ◌*◌}
 use mathlib.Core.Bool.{false}
 use mathlib.Core.Path.{◌≡◌, refl, ap, sym, ◌∙◌}
-use native.Mathlib.Omega.{arith}
 use Rattle.image.specs.Answers.{fetched16, number16}
 use Rattle.image.specs.Memory.{entry}
-use Rattle.image.specs.Place.{entry_at}
 use Rattle.image.specs.Rules.{answer}
 use Rattle.image.specs.EntryKind.{context_entry}
 use Rattle.image.specs.Windows.{of_windows}
@@ -15,9 +13,6 @@ use Rattle.dma.specs.Lookup.{context, no_context, context_rules}
 use Rattle.dma.proofs.lookup.context_in.Goals.{After-page_entry16_by}
 use Rattle.dma.proofs.lookup.context_in.Goals as goal
 
-pub page_entry16_by-requires : goal.page_entry16_by-requires
-page_entry16_by-requires c = let p = c.requires in (p.0, p.1, omega arith, omega arith)
-
 place : (c : After-page_entry16_by)
     → fetched16 c.page_entry16_by.result
     ≡ entry 2 (of_windows c.args.windows.now c.args.image.now) (c.args.table + 16 * devfn_of c.args.source.id)
@@ -25,23 +20,17 @@ place c =
     let a = c.args in
     rw (← c.devfn-devfn.ensures) c.page_entry16_by.ensures.result_value
 
-pub returns-in_default : goal.returns-in_default
+pub returns-in_default-clause-result_value : goal.returns-in_default-clause-result_value
 unfolding context_rules
-returns-in_default c =
+returns-in_default-clause-result_value c =
     let a = c.args in
-    record {
-      result_value = unfetched context_entry (a.table + 16 * devfn_of a.source.id) (no_context 0x09 false) (context_check a.registers) (λ e reason. no_context reason (fault_processing_disabled e)) (λ c. answer (context c)) (of_windows a.windows.now a.image.now) (sym (ap fetched16 c.in_default.is) ∙ place (goal.at.returns-in_default c).After-page_entry16_by);
-      result_value_2 = ap (λ (n : ℕ). entry_at (a.table + 16 * n)) c.devfn-devfn.ensures;
-    }
+    unfetched context_entry (a.table + 16 * devfn_of a.source.id) (no_context 0x09 false) (context_check a.registers) (λ e reason. no_context reason (fault_processing_disabled e)) (λ c. answer (context c)) (of_windows a.windows.now a.image.now) (sym (ap fetched16 c.in_default.is) ∙ place (goal.at.returns-in_default-clause-result_value c).After-page_entry16_by)
 
-pub returns : goal.returns
+pub returns-clause-result_value : goal.returns-clause-result_value
 unfolding context_rules
-returns c =
+returns-clause-result_value c =
     let a = c.args in
-    let e = number16 c.in-Entry.e in
-    record {
-      result_value = c.context_check.ensures.result_value
-          ∙ only (of_windows a.windows.now a.image.now) (context_check a.registers e) (λ reason. no_context reason (fault_processing_disabled e)) context
-          ∙ checked context_entry (a.table + 16 * devfn_of a.source.id) (no_context 0x09 false) (context_check a.registers) (λ e reason. no_context reason (fault_processing_disabled e)) (λ c. answer (context c)) (of_windows a.windows.now a.image.now) (sym (ap fetched16 c.in-Entry.is) ∙ place (goal.at.returns c).After-page_entry16_by) refl;
-      result_value_2 = c.context_check.ensures.result_value_2 ∙ ap (λ (n : ℕ). entry_at (a.table + 16 * n)) c.devfn-devfn.ensures;
-    }
+    let e = number16 c.in-Ok.e in
+    c.context_check.ensures.result_value
+    ∙ only (of_windows a.windows.now a.image.now) (context_check a.registers e) (λ reason. no_context reason (fault_processing_disabled e)) context
+    ∙ checked context_entry (a.table + 16 * devfn_of a.source.id) (no_context 0x09 false) (context_check a.registers) (λ e reason. no_context reason (fault_processing_disabled e)) (λ c. answer (context c)) (of_windows a.windows.now a.image.now) (sym (ap fetched16 c.in-Ok.is) ∙ place (goal.at.returns-clause-result_value c).After-page_entry16_by) refl

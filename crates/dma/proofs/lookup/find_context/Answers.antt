@@ -1,7 +1,7 @@
 use Prim.Native.Nat.{ℕ, ◌+◌, ◌*◌}
 use mathlib.Core.Bool.{false}
 use mathlib.Core.Path.{◌≡◌, ap, sym, ◌∙◌}
-use native.Mathlib.Omega.{arith}
+use Rattle.std.proofs.lemmas.Result.{err_from_is_err_and}
 use Rattle.image.specs.Answers.{fetched16, number16}
 use Rattle.image.specs.Memory.{found, entry}
 use Rattle.image.specs.Place.{no_entry, entry_at, last_tried}
@@ -12,16 +12,12 @@ use Rattle.image.specs.Windows.{of_windows}
 use Rattle.image.proofs.Places.{unfetched-at, checked-at}
 use Rattle.image.proofs.Stages.{unfetched, checked}
 use Rattle.registers.specs.Source.{bus_of}
-use Rattle.dma.specs.Answers.{check_of, check_place, stop_place}
-use Rattle.dma.specs.Lookup.{context, no_context, stopped_lookup, context_rules, root_rules}
+use Rattle.dma.specs.Lookup.{context, no_context, context_rules, root_rules}
 use Rattle.dma.specs.Root.{root_check}
 use Rattle.dma.proofs.Lookups.{context-place}
 use Rattle.dma.proofs.Stages.{root-aligned}
-use Rattle.dma.proofs.lookup.find_context.Goals.{After-page_entry16_by, In-Entry}
+use Rattle.dma.proofs.lookup.find_context.Goals.{After-page_entry16_by, In-Ok}
 use Rattle.dma.proofs.lookup.find_context.Goals as goal
-
-pub page_entry16_by-requires : goal.page_entry16_by-requires
-page_entry16_by-requires c = let p = c.requires in (p.0, p.1, omega arith, omega arith)
 
 place : (c : After-page_entry16_by)
     → fetched16 c.page_entry16_by.result
@@ -50,36 +46,30 @@ returns-in_default c =
       result_value_2 = at_place (goal.at.returns-in_default c).After-page_entry16_by ∙ unfetched-at root_entry at (no_context 0x08 false) (root_check a.registers.haw) (λ e reason. no_context reason false) next no_entry (of_windows a.windows.now a.image.now) none;
     }
 
-found_at : (c : In-Entry)
-    → found (number16 c.in-Entry.e)
+found_at : (c : In-Ok)
+    → found (number16 c.in-Ok.e)
     ≡ entry 2 (of_windows c.args.windows.now c.args.image.now) (c.args.registers.root_table + 16 * bus_of c.args.source.id)
-found_at c = let b = c.bus-bus.ensures in sym (ap fetched16 c.in-Entry.is) ∙ rw (← b) c.page_entry16_by.ensures.result_value
+found_at c = let b = c.bus-bus.ensures in sym (ap fetched16 c.in-Ok.is) ∙ rw (← b) c.page_entry16_by.ensures.result_value
 
-pub returns-in_default-check : goal.returns-in_default-check
+pub returns-in_err-table : goal.returns-in_err-table
 unfolding root_rules run last_tried
-returns-in_default-check c =
+returns-in_err-table c =
     let a = c.args in
     let at = a.registers.root_table + 16 * bus_of a.source.id in
     let m = of_windows a.windows.now a.image.now in
     let next = context_rules a.registers no_context (λ c. answer (context c)) a.source.id in
-    let is = c.in_default-check.is in
-    let told = sym (ap check_of is) ∙ c.root_check-check.ensures.result_value in
-    let check = ap (λ k. on_check k (λ reason. answer (no_context reason false)) next) told in
-    let stopped-there = sym (ap (λ k. stop_place k (entry_at (a.registers.root_table + 16 * c.bus-bus.result))) is) ∙ c.root_check-check.ensures.check_names in
+    let told = c.in_err-table.ensures in
+    let p = err_from_is_err_and c.from_residual.result c.from_residual.ensures.1 in
+    let check = ap (λ k. on_check k (λ reason. answer (no_context reason false)) next) told.result_value in
     record {
-      result_value = c.stopped.ensures.result_value
-          ∙ ap (λ k. stopped_lookup (check_of k)) is
-          ∙ checked root_entry at (no_context 0x08 false) (root_check a.registers.haw) (λ e reason. no_context reason false) next m (found_at (goal.at.returns-in_default-check c).In-Entry) check;
-      result_value_2 = c.stopped.ensures.result_value_2
-          ∙ ap check_place is
-          ∙ stopped-there
-          ∙ at_place (goal.at.returns-in_default-check c).After-page_entry16_by
-          ∙ checked-at root_entry at (no_context 0x08 false) (root_check a.registers.haw) (λ e reason. no_context reason false) next no_entry m (found_at (goal.at.returns-in_default-check c).In-Entry) check;
+      result_value = rw (p.1, p.2, told.no_fpd) (checked root_entry at (no_context 0x08 false) (root_check a.registers.haw) (λ e reason. no_context reason false) next m (found_at (goal.at.returns-in_err-table c).In-Ok) check);
+      result_value_2 = rw (p.1, p.2) (told.check_names
+          ∙ at_place (goal.at.returns-in_err-table c).After-page_entry16_by
+          ∙ checked-at root_entry at (no_context 0x08 false) (root_check a.registers.haw) (λ e reason. no_context reason false) next no_entry m (found_at (goal.at.returns-in_err-table c).In-Ok) check);
     }
 
 pub context_in-requires : goal.context_in-requires
-context_in-requires c =
-    (c.requires.0, root-aligned _ _ (sym (sym (ap check_of c.in-Go.is) ∙ c.root_check-check.ensures.result_value)))
+context_in-requires c = (c.requires.0, root-aligned _ _ (sym c.in_ok-table.ensures.result_value))
 
 pub returns : goal.returns
 unfolding root_rules
@@ -88,12 +78,11 @@ returns c =
     let at = a.registers.root_table + 16 * bus_of a.source.id in
     let m = of_windows a.windows.now a.image.now in
     let next = context_rules a.registers no_context (λ c. answer (context c)) a.source.id in
-    let told = sym (ap check_of c.in-Go.is) ∙ c.root_check-check.ensures.result_value in
-    let check = ap (λ k. on_check k (λ reason. answer (no_context reason false)) next) told in
+    let check = ap (λ k. on_check k (λ reason. answer (no_context reason false)) next) c.in_ok-table.ensures.result_value in
     record {
       result_value = c.context_in.ensures.result_value
-          ∙ checked root_entry at (no_context 0x08 false) (root_check a.registers.haw) (λ e reason. no_context reason false) next m (found_at (goal.at.returns c).In-Entry) check;
+          ∙ checked root_entry at (no_context 0x08 false) (root_check a.registers.haw) (λ e reason. no_context reason false) next m (found_at (goal.at.returns c).In-Ok) check;
       result_value_2 = c.context_in.ensures.result_value_2
           ∙ context-place a.registers (entry_at at) m a.source.id _
-          ∙ checked-at root_entry at (no_context 0x08 false) (root_check a.registers.haw) (λ e reason. no_context reason false) next no_entry m (found_at (goal.at.returns c).In-Entry) check;
+          ∙ checked-at root_entry at (no_context 0x08 false) (root_check a.registers.haw) (λ e reason. no_context reason false) next no_entry m (found_at (goal.at.returns c).In-Ok) check;
     }

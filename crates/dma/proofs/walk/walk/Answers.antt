@@ -1,63 +1,66 @@
 use Prim.Native.Nat.{◌-◌}
 use mathlib.Core.Path.{refl, ap, sym, ◌∙◌}
 use native.Mathlib.Omega.{arith}
-use Rattle.image.specs.Place.{entry_at}
+use Rattle.std.specs.Prelude.{Ok}
+use Rattle.std.proofs.lemmas.Result.{err_from_is_err_and}
 use Rattle.image.specs.Windows.{of_windows}
-use Rattle.dma.specs.Answers.{step_of, step_place}
-use Rattle.dma.specs.Walk.{place_in}
+use Rattle.dma.specs.Answers.{step_of}
 use Rattle.dma.proofs.Stepped.{ended, onward, ended_at, onward-at, anew, down_to}
 use Rattle.dma.proofs.walk.walk.Goals as goal
 
-pub loop-level-init : goal.loop-level-init
-loop-level-init c =
+pub loop-below-init : goal.loop-below-init
+loop-below-init c =
     let a = c.args in
     let pre = c.requires in
-    (pre.0, pre.1.0, pre.1.1, pre.1.2, refl, anew a.registers a.address a.write a.context.fpd (of_windows a.windows.now a.image.now) a.context.levels a.context.top pre.1.0)
+    (pre.1.0, pre.1.2, refl, anew a.registers a.address a.write a.context.fpd (of_windows a.windows.now a.image.now) a.context.levels a.context.top pre.1.0)
 
-pub page_step-step-requires : goal.page_step-step-requires
-page_step-step-requires c = let l = c.loop-level in (l.invariant.0, omega (arith, l.invariant.2), l.invariant.3)
+pub page_step-requires : goal.page_step-requires
+page_step-requires c =
+    let l = c.loop-below in
+    (c.requires.0, omega (arith, l.auto.below, c.requires.1.1, l.invariant.0), l.invariant.1)
+
+pub returns-in_err-next : goal.returns-in_err-next
+returns-in_err-next c =
+    let a = c.args in
+    let l = c.loop-below in
+    let m = of_windows a.windows.now a.image.now in
+    let p = err_from_is_err_and c.from_residual.result c.from_residual.ensures.1 in
+    let led = c.in_err-next.ensures.result_value in
+    record {
+      result_value = rw (p.1, p.2) (ended a.registers a.address a.write a.context.fpd m l.below l.table l.invariant.0 led ∙ l.invariant.2);
+      names = λ before.
+          rw (p.1, p.2)
+          (c.in_err-next.ensures.step_names
+          ∙ sym (ended_at a.registers a.address a.write a.context.fpd m l.below l.table l.invariant.0 before led)
+          ∙ l.invariant.3 before before);
+    }
 
 pub returns-in-Leaf : goal.returns-in-Leaf
 returns-in-Leaf c =
     let a = c.args in
-    let l = c.loop-level in
-    let led = sym (ap step_of c.in-Leaf.is) ∙ c.page_step-step.ensures.result_value in
+    let l = c.loop-below in
+    let led = sym (ap (λ s. step_of (Ok s)) c.in-Leaf.is) ∙ c.in_ok-next.ensures.result_value in
     record {
-      result_value = ended a.registers a.address a.write a.context.fpd (of_windows a.windows.now a.image.now) l.level l.at l.invariant.1 led ∙ l.invariant.4;
+      result_value = ended a.registers a.address a.write a.context.fpd (of_windows a.windows.now a.image.now) l.below l.table l.invariant.0 led ∙ l.invariant.2;
       names = λ before. refl;
     }
 
-pub returns-in-Fault : goal.returns-in-Fault
-returns-in-Fault c =
+pub loop-below-preserved : goal.loop-below-preserved
+loop-below-preserved c =
     let a = c.args in
-    let l = c.loop-level in
-    let led = sym (ap step_of c.in-Fault.is) ∙ c.page_step-step.ensures.result_value in
-    let there = sym (ap (λ s. step_place s (entry_at (place_in a.address l.at (l.level - 1)))) c.in-Fault.is) ∙ c.page_step-step.ensures.step_names in
-    record {
-      result_value = ended a.registers a.address a.write a.context.fpd (of_windows a.windows.now a.image.now) l.level l.at l.invariant.1 led ∙ l.invariant.4;
-      names = λ before.
-          there
-          ∙ sym (ended_at a.registers a.address a.write a.context.fpd (of_windows a.windows.now a.image.now) l.level l.at l.invariant.1 before led)
-          ∙ l.invariant.5 before before;
-    }
-
-pub loop-level-preserved : goal.loop-level-preserved
-loop-level-preserved c =
-    let a = c.args in
-    let l = c.loop-level in
-    let led = sym (ap step_of c.in-Down.is) ∙ c.page_step-step.ensures.result_value in
-    let next = down_to a.registers a.address a.write a.context.fpd (of_windows a.windows.now a.image.now) (l.level - 1) l.at led in (
-      l.invariant.0,
+    let l = c.loop-below in
+    let m = of_windows a.windows.now a.image.now in
+    let led = sym (ap (λ s. step_of (Ok s)) c.in-Down.is) ∙ c.in_ok-next.ensures.result_value in
+    let next = down_to a.registers a.address a.write a.context.fpd m (l.below - 1) l.table led in (
       next.1,
-      omega (arith, l.invariant.2),
       next.0,
-      onward a.registers a.address a.write a.context.fpd (of_windows a.windows.now a.image.now) l.level l.at l.invariant.1 led ∙ l.invariant.4,
+      onward a.registers a.address a.write a.context.fpd m l.below l.table l.invariant.0 led ∙ l.invariant.2,
       λ before before'.
-          anew a.registers a.address a.write a.context.fpd (of_windows a.windows.now a.image.now) (l.level - 1) _ next.1 before _
-          ∙ sym (onward-at a.registers a.address a.write a.context.fpd (of_windows a.windows.now a.image.now) l.level l.at l.invariant.1 before led)
-          ∙ l.invariant.5 before before',
+          anew a.registers a.address a.write a.context.fpd m (l.below - 1) _ next.1 before _
+          ∙ sym (onward-at a.registers a.address a.write a.context.fpd m l.below l.table l.invariant.0 before led)
+          ∙ l.invariant.3 before before',
     )
 
 -- no step leads below level 1
 pub returns : goal.returns
-returns c = absurd (omega (arith, c.loop-level.invariant.1, c.loop-level-test.false))
+returns c = absurd (omega (arith, c.loop-below.invariant.0, c.loop-below-test.false))

@@ -1,24 +1,18 @@
-use Prim.Native.Nat.{◌%◌, ◌<◌, ◌≤◌}
+use Prim.Native.Nat.{◌%◌, ◌<◌}
 use mathlib.Core.Path.{◌≡◌}
-use lib.ListN.{length}
 use Rattle.image.specs.Place.{Place, last_tried}
 use Rattle.image.specs.Rules.{run}
-use Rattle.image.specs.Spans.{Opened}
 use Rattle.image.specs.Windows.{of_windows}
 use Rattle.dma.specs.Translation.{page_rules}
 use Rattle.dma.proofs.walk.walk.Given as goal
 
-abbrev pub invariant-loop-level : goal.invariant-loop-level
-invariant-loop-level l =
-    Opened l.given.first l.windows (length l.image)
-    × (0 < l.level)
-    × (l.level ≤ 5)
-    × (l.at % 4096 ≡ 0)
-    × (run (page_rules l.registers l.given.address l.write l.given.fpd l.level l.at) (of_windows l.windows l.image)
-    ≡ run (page_rules l.registers l.given.address l.write l.given.fpd l.initial.level l.initial.at) (of_windows l.windows l.image))
+-- below counts down from how many levels are left: no step leads below level 1
+abbrev pub invariant-loop-below : goal.invariant-loop-below
+invariant-loop-below l =
+    (0 < l.below)
+    × (l.table % 4096 ≡ 0)
+    × (run (page_rules l.registers l.given.address l.write l.given.fpd l.below l.table) (of_windows l.windows l.image)
+    ≡ run (page_rules l.registers l.given.address l.write l.given.fpd l.fn.context.levels l.fn.context.top) (of_windows l.windows l.image))
     × ((before before' : Place)
-    → last_tried before (page_rules l.registers l.given.address l.write l.given.fpd l.level l.at) (of_windows l.windows l.image)
-    ≡ last_tried before' (page_rules l.registers l.given.address l.write l.given.fpd l.initial.level l.initial.at) (of_windows l.windows l.image))
-
-abbrev pub decreases-loop-level : goal.decreases-loop-level
-decreases-loop-level l = l.level
+    → last_tried before (page_rules l.registers l.given.address l.write l.given.fpd l.below l.table) (of_windows l.windows l.image)
+    ≡ last_tried before' (page_rules l.registers l.given.address l.write l.given.fpd l.fn.context.levels l.fn.context.top) (of_windows l.windows l.image))
