@@ -1,10 +1,12 @@
 -- What the code's values say, in document 01's numbers.
-use Rattle.std.specs.Prelude.{◌≡◌}
+use Rattle.std.specs.Prelude.{◌≡◌, Result, Ok, Err}
 use Rattle.image.specs.Place.{Place, entry_at}
 use Rattle.faults.specs.Reason.{number_of}
+use Rattle.faults.specs.declared.reason.Reason.{Reason}
+use Rattle.faults.specs.declared.stop.Stop.{Stop}
 use Rattle.irte.specs.Irte as irte
 use Rattle.irte.specs.declared.Irte.{Irte}
-use Rattle.irte.specs.declared.Irte.TheVariants.{Remaps, Posts, Fault}
+use Rattle.irte.specs.declared.Irte.TheVariants.{Remaps, Posts}
 use Rattle.irte.specs.declared.Remapped.{Remapped}
 
 abbrev pub remapped_of : Remapped → irte.Remapped
@@ -18,17 +20,19 @@ remapped_of r =
       destination = r.destination;
     }
 
-abbrev pub asked_of : Irte → irte.Asked
-asked_of (Remaps r) = irte.asks (irte.remaps (remapped_of r))
-asked_of (Posts descriptor vector urgent fpd) = irte.asks (irte.posts descriptor vector urgent fpd)
-asked_of (Fault reason fpd at) = irte.stops (number_of reason) fpd
+abbrev pub request_of : Irte → irte.Irte
+request_of (Remaps r) = irte.remaps (remapped_of r)
+request_of (Posts descriptor vector urgent fpd) = irte.posts descriptor vector urgent fpd
+
+abbrev pub asked_of : Result Irte (Stop Reason) → irte.Asked
+asked_of (Ok i) = irte.asks (request_of i)
+asked_of (Err s) = irte.stops (number_of s.reason) s.fpd
 
 -- the entry that a fault names; where there is no fault, the place handed in
-abbrev pub irte_place : Irte → Place → Place
-irte_place (Remaps r) place = place
-irte_place (Posts descriptor vector urgent fpd) place = place
-irte_place (Fault reason fpd at) place = entry_at at
+abbrev pub irte_place : Result Irte (Stop Reason) → Place → Place
+irte_place (Ok i) place = place
+irte_place (Err s) place = entry_at s.at
 
 -- a fault names this entry, if it is one: for the code's contracts
-abbrev pub IrteNames : Irte → Place → Type 0
+abbrev pub IrteNames : Result Irte (Stop Reason) → Place → Type 0
 IrteNames r place = irte_place r place ≡ place

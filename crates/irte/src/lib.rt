@@ -3,21 +3,21 @@
 
 ghost use Rattle.std.specs.Prelude.{◌≡◌};
 ghost use Rattle.image.specs.Answers.{number16};
-ghost use Rattle.image.specs.Place.{Place, entry_at};
-ghost use Rattle.irte.specs.Answers.{remapped_of, asked_of, IrteNames};
-ghost use Rattle.irte.specs.Irte.{destination_of, remapped_by, irte_of, asks, asked};
+ghost use Rattle.image.specs.Place.{entry_at};
+ghost use Rattle.irte.specs.Answers.{remapped_of, request_of, asked_of, IrteNames};
+ghost use Rattle.irte.specs.Irte.{destination_of, remapped_by, irte_of, asked};
 
 mod reserved;
 mod source;
 
-use faults::Reason;
+use faults::{Reason, Stop};
 use image::{Entry16, bit16, bits16};
 use registers::{Registers, SourceId};
 pub use reserved::descriptor_address;
 use reserved::reserved_irte;
 use source::source_allowed;
 
-#[derive(Clone, Copy)]
+#[derive(Clone, Copy, Debug, PartialEq, Eq)]
 pub struct Remapped {
     pub destination_mode: bool,
     pub redirection_hint: bool,
@@ -27,8 +27,8 @@ pub struct Remapped {
     pub destination: u32,
 }
 
-// What an entry's check says: what the entry asks for, or why the request ends here.
-#[derive(Clone, Copy)]
+// What an entry asks for.
+#[derive(Clone, Copy, Debug, PartialEq, Eq)]
 pub enum Irte {
     Remaps(Remapped),
     // A post of the vector to the descriptor at the address, urgent where URG says so, with FPD for the faults there.
@@ -38,11 +38,10 @@ pub enum Irte {
         urgent: bool,
         fpd: bool,
     },
-    // With FPD, which is read whether the entry is present or not, and the entry's host address.
-    Fault(Reason, bool, u64),
 }
 
 // All 32 bits only with EIME.
+#[tactic(auto, unfolding(image::specs::Bits::bits))]
 fn destination(eime: bool, e: Entry16) -> u32
     ensures { result ≡ destination_of eime (number16 e) }
 {
@@ -52,6 +51,7 @@ fn destination(eime: bool, e: Entry16) -> u32
     bits16(e, 47, 40) as u32
 }
 
+#[tactic(auto, unfolding(image::specs::Bits::bits))]
 fn remapped_by(eime: bool, e: Entry16) -> Remapped
     ensures { remapped_of result ≡ remapped_by eime (number16 e) }
 {
@@ -68,38 +68,43 @@ fn remapped_by(eime: bool, e: Entry16) -> Remapped
 }
 
 // What an entry that its check lets pass asks for.
+#[tactic(auto, unfolding(image::specs::Bits::bits))]
 fn irte_of(eime: bool, e: Entry16) -> Irte
-    ensures result_value { asked_of result ≡ asks (irte_of eime (number16 e)) }
-    ensures irte_names { (place : Place) → IrteNames result place }
+    ensures { request_of result ≡ irte_of eime (number16 e) }
 {
     if bit16(e, 15) {
         let vector = bits16(e, 23, 16) as u8;
-        let descriptor = descriptor_address(e);
-        let urgent = bit16(e, 14);
-        let fpd = bit16(e, 1);
         return Irte::Posts {
-            descriptor,
+            descriptor: descriptor_address(e),
             vector,
-            urgent,
-            fpd,
+            urgent: bit16(e, 14),
+            fpd: bit16(e, 1),
         };
     }
     Irte::Remaps(remapped_by(eime, e))
 }
 
-pub fn irte_check(registers: Registers, source: SourceId, at: u64, e: Entry16) -> Irte
+// FPD is read whether the entry is present or not. at: the entry's host address.
+#[tactic(auto, unfolding(crate::specs::Irte::irte_check))]
+pub fn irte_check(
+    registers: Registers,
+    source: SourceId,
+    at: u64,
+    e: Entry16,
+) -> Result<Irte, Stop<Reason>>
     ensures result_value { asked_of result ≡ asked registers source.id (number16 e) }
     ensures irte_names { IrteNames result (entry_at at) }
 {
     let fpd = bit16(e, 1);
+    let stop = |reason| Stop { reason, fpd, at };
     if !bit16(e, 0) {
-        return Irte::Fault(Reason::IrteNotPresent, fpd, at);
+        return Err(stop(Reason::IrteNotPresent));
     }
     if reserved_irte(registers, e) {
-        return Irte::Fault(Reason::IrteReserved, fpd, at);
+        return Err(stop(Reason::IrteReserved));
     }
     if !source_allowed(source, e) {
-        return Irte::Fault(Reason::SourceRejected, fpd, at);
+        return Err(stop(Reason::SourceRejected));
     }
-    irte_of(registers.eime, e)
+    Ok(irte_of(registers.eime, e))
 }

@@ -7,6 +7,7 @@ use image::{Entry16, any_set16, bit16, bits16};
 use registers::{Registers, at_or_above_power};
 
 // The host address of the posted descriptor.
+#[tactic(auto, unfolding(image::specs::Bits::bits))]
 pub fn descriptor_address(e: Entry16) -> u64
     ensures { (result ≡ descriptor_address (number16 e)) × (result < 2 ^ 64) }
 {
@@ -41,6 +42,7 @@ fn reserved_in_posted(haw: u8, e: Entry16) -> bool
         | at_or_above_power(descriptor_address(e), haw as u32)
 }
 
+#[tactic(auto, unfolding(crate::specs::Irte::reserved_irte))]
 pub(crate) fn reserved_irte(registers: Registers, e: Entry16) -> bool
     ensures { result ≡ reserved_irte registers (number16 e) }
 {

@@ -6,6 +6,7 @@ ghost use Rattle.irte.specs.Source.{same_source, bus_in_range, source_allowed};
 use image::{Entry16, bits16};
 use registers::SourceId;
 
+#[tactic(auto, unfolding(image::specs::Bits::bits))]
 fn same_source(sq: u64, sid: u16, source: u16) -> bool
     ensures { result ≡ same_source sq sid source }
 {
@@ -17,6 +18,7 @@ fn same_source(sq: u64, sid: u16, source: u16) -> bool
     }
 }
 
+#[tactic(auto, unfolding(image::specs::Bits::bits))]
 fn bus_in_range(sid: u16, source: SourceId) -> bool
     ensures { result ≡ bus_in_range sid source.id }
 {
@@ -24,6 +26,7 @@ fn bus_in_range(sid: u16, source: SourceId) -> bool
     (sid / 256 <= bus) & (bus <= sid % 256)
 }
 
+#[tactic(auto, unfolding(crate::specs::Source::source_allowed, image::specs::Bits::bits))]
 pub(crate) fn source_allowed(source: SourceId, e: Entry16) -> bool
     ensures { result ≡ source_allowed source.id (number16 e) }
 {
