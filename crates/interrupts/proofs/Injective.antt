@@ -2,7 +2,8 @@
 use Prim.Native.Nat.{ℕ, ◌^◌, ◌<◌}
 use mathlib.Core.Path.{◌≡◌, refl, ap, ap₂, sym, ◌∙◌}
 use native.Mathlib.Omega.{arith}
-use Rattle.image.specs.declared.EntryAddress.{EntryAddress}
+use Rattle.std.specs.Prelude.{Option, Some, None}
+use Rattle.registers.proofs.Refusals.{refusal_back, refusal-back}
 use Rattle.image.specs.Answers.{place_of}
 use Rattle.image.proofs.Places.{place_of-injective}
 use Rattle.faults.specs.Answers.{fault_of}
@@ -15,8 +16,7 @@ use Rattle.interrupts.specs.Interrupts as rules
 use Rattle.interrupts.specs.declared.answer.InterruptAnswer.{InterruptAnswer}
 use Rattle.interrupts.specs.declared.answer.InterruptAnswer.TheVariants.{Passed, Remapped, Posted, Blocked, Refused}
 use Rattle.interrupts.specs.declared.answer.Posted as post
-use Rattle.interrupts.specs.declared.descriptor.Notification.{Notification}
-use Rattle.interrupts.specs.declared.descriptor.Notification.TheVariants.{Silent, Due}
+use Rattle.interrupts.specs.declared.descriptor.Notice.{Notice}
 
 -- a fault's words are words
 abbrev pub Sized : InterruptAnswer → Type 0
@@ -26,13 +26,13 @@ Sized (Remapped r) = Unit {0}
 Sized (Posted p) = Unit {0}
 Sized (Refused n) = Unit {0}
 
-abbrev notification_back : descriptor.Notification → Notification
-notification_back descriptor.silent = Silent
-notification_back (descriptor.notification vector destination) = Due vector destination
+abbrev notification_back : descriptor.Notification → Option Notice
+notification_back descriptor.silent = None
+notification_back (descriptor.notification vector destination) = Some (record { vector = vector; destination = destination })
 
-notification-back : (n : Notification) → notification_back (due_of n) ≡ n
-notification-back Silent = refl
-notification-back (Due vector destination) = refl
+notification-back : (n : Option Notice) → notification_back (due_of n) ≡ n
+notification-back None = refl
+notification-back (Some n) = refl
 
 -- the answer of an outcome; for a fault, this one
 abbrev answer_back : InterruptAnswer → rules.InterruptOutcome → InterruptAnswer
@@ -49,20 +49,20 @@ answer_back fault (rules.remapped r) =
     })
 answer_back fault (rules.posted at vector n) = Posted (record { descriptor = at; vector = vector; notification = notification_back n })
 answer_back fault (rules.blocked f) = fault
-answer_back fault (rules.refused number) = Refused number
+answer_back fault (rules.refused number) = Refused (refusal_back number)
 
 post-back : (fault : InterruptAnswer) (p : post.Posted) → answer_back fault (outcome_of (Posted p)) ≡ Posted p
 post-back fault p =
-    ap (λ (n : Notification). Posted (record { descriptor = p.descriptor; vector = p.vector; notification = n })) (notification-back p.notification)
+    ap (λ (n : Option Notice). Posted (record { descriptor = p.descriptor; vector = p.vector; notification = n })) (notification-back p.notification)
 
 back : (r : InterruptAnswer) → answer_back r (outcome_of r) ≡ r
 back Passed = refl
 back (Remapped r) = refl
 back (Posted p) = post-back (Posted p) p
 back (Blocked f at) = refl
-back (Refused n) = refl
+back (Refused r) = ap Refused (refusal-back r)
 
-same-fault : (r : InterruptAnswer) (g : Fault) (at : EntryAddress) → Sized r → g.low < 2 ^ 64 → outcome_of r ≡ rules.blocked (fault_of g)
+same-fault : (r : InterruptAnswer) (g : Fault) (at : Option ℕ) → Sized r → g.low < 2 ^ 64 → outcome_of r ≡ rules.blocked (fault_of g)
     → entry_of r ≡ place_of at → r ≡ Blocked g at
 same-fault (Blocked f at) g at' sf sg e p = ap₂ Blocked (fault_of-injective f g sf sg cc) (place_of-injective at at' p)
 same-fault Passed g at sf sg e p = let z : ◌≡◌ {A = ℕ} 0 1 = cc in absurd (omega arith)
@@ -75,4 +75,4 @@ outcome_of-injective r (Blocked g at) sr ss e p = same-fault r g at sr ss e p
 outcome_of-injective r Passed sr ss e p = sym (back r) ∙ ap (answer_back r) e
 outcome_of-injective r (Remapped x) sr ss e p = sym (back r) ∙ ap (answer_back r) e
 outcome_of-injective r (Posted p) sr ss e q = sym (back r) ∙ ap (answer_back r) e ∙ post-back r p
-outcome_of-injective r (Refused n) sr ss e p = sym (back r) ∙ ap (answer_back r) e
+outcome_of-injective r (Refused n) sr ss e p = sym (back r) ∙ ap (answer_back r) e ∙ ap Refused (refusal-back n)

@@ -1,53 +1,75 @@
 // What an interrupt request is answered.
 ghost use Rattle.std.specs.Prelude.{◌≡◌};
 ghost use Rattle.image.specs.Place.{Place};
-ghost use Rattle.interrupts.specs.Answers.{delivery_of, outcome_of, entry_of, DeliveryNames};
+ghost use Rattle.interrupts.specs.Answers.{blocked_by, delivery_of, outcome_of, entry_of, DeliveryNames};
 ghost use Rattle.interrupts.specs.Interrupts.{delivered, concerned};
 
-use crate::descriptor::Notification;
-use faults::{Fault, Reason, interrupt_fault};
-pub use image::EntryAddress;
+use crate::descriptor::Notice;
+use faults::{Fault, Reason, Stop, interrupt_fault};
 use irte::Remapped;
-use registers::SourceId;
+use registers::{Refusal, SourceId};
 
-// Whether a notification is due, and the vector posted to the descriptor at an address. In this order no word
+// The notification that is due, and the vector posted to the descriptor at an address. In this order no word
 // that is moved with the answer holds parts of two fields.
-#[derive(Clone, Copy)]
+#[derive(Clone, Copy, Debug, PartialEq, Eq)]
 pub struct Posted {
-    pub notification: Notification,
+    pub notification: Option<Notice>,
     pub vector: u8,
     pub descriptor: u64,
 }
 
-// What the table makes of a request. A fault has FPD as it was read by then, and the entry concerned.
-#[derive(Clone, Copy)]
+// What the table makes of a request that it doesn't block.
+#[derive(Clone, Copy, Debug, PartialEq, Eq)]
 pub enum Delivery {
-    Fault(Reason, bool, EntryAddress),
     Remap(Remapped),
     Post(Posted),
 }
 
-#[derive(Clone, Copy)]
+// Why the table blocks a request, with FPD as it was read by then, and the host address of the entry concerned, where there is one.
+#[derive(Clone, Copy, Debug, PartialEq, Eq)]
+pub struct BlockedBy {
+    pub reason: Reason,
+    pub fpd: bool,
+    pub entry: Option<u64>,
+}
+
+impl From<Stop<Reason>> for BlockedBy {
+    ghost from_gives = { λ stop by. by ≡ blocked_by stop };
+
+    fn from(stop: Stop<Reason>) -> Self {
+        Self {
+            reason: stop.reason,
+            fpd: stop.fpd,
+            entry: Some(stop.at),
+        }
+    }
+}
+
+#[derive(Clone, Copy, Debug, PartialEq, Eq)]
 pub enum InterruptAnswer {
     // The request goes on unchanged.
     Passed,
     Remapped(Remapped),
     Posted(Posted),
     // With the entry concerned.
-    Blocked(Fault, EntryAddress),
-    // By number: 1 bad registers or windows, 2 an address outside the interrupt range.
-    Refused(u8),
+    Blocked(Fault, Option<u64>),
+    // Bad registers or windows, or an address outside the interrupt range.
+    Refused(Refusal),
 }
 
-pub(crate) fn answer_of(source: SourceId, index: u32, delivery: Delivery) -> InterruptAnswer
+pub(crate) fn answer_of(
+    source: SourceId,
+    index: u32,
+    delivery: Result<Delivery, BlockedBy>,
+) -> InterruptAnswer
     ensures result_value { outcome_of result ≡ delivered source.id index (delivery_of delivery) }
     ensures result_value_2 { (place : Place) → DeliveryNames delivery place → entry_of result ≡ concerned (outcome_of result) place }
 {
     match delivery {
-        Delivery::Fault(reason, fpd, entry) => {
-            InterruptAnswer::Blocked(interrupt_fault(reason, fpd, source, index), entry)
+        Ok(Delivery::Remap(remapped)) => InterruptAnswer::Remapped(remapped),
+        Ok(Delivery::Post(posted)) => InterruptAnswer::Posted(posted),
+        Err(by) => {
+            InterruptAnswer::Blocked(interrupt_fault(by.reason, by.fpd, source, index), by.entry)
         }
-        Delivery::Remap(remapped) => InterruptAnswer::Remapped(remapped),
-        Delivery::Post(posted) => InterruptAnswer::Posted(posted),
     }
 }

@@ -4,21 +4,16 @@ ghost use Rattle.image.specs.Bits.{any_set};
 ghost use Rattle.image.specs.Answers.{number64};
 ghost use Rattle.interrupts.specs.Descriptor.{reserved_descriptor, notification_destination, notification_due, notification_of, descriptor_check};
 ghost use Rattle.image.specs.Place.{entry_at};
-ghost use Rattle.interrupts.specs.Answers.{due_of, descriptor_checked, descriptor_place};
+ghost use Rattle.interrupts.specs.Answers.{due_of, descriptor_checked, descriptor_place, descriptor_fpd};
 
+use faults::{Reason, Stop};
 use image::{Entry64, any_set64, bit64, bits64};
 
-#[derive(Clone, Copy)]
-pub enum Notification {
-    Silent,
-    Due { vector: u8, destination: u32 },
-}
-
-#[derive(Clone, Copy)]
-pub enum DescriptorCheck {
-    Valid(Notification),
-    // With the descriptor's host address.
-    Reserved(u64),
+// The notification of a post: it is due where ON and SN don't hold it back.
+#[derive(Clone, Copy, Debug, PartialEq, Eq)]
+pub struct Notice {
+    pub vector: u8,
+    pub destination: u32,
 }
 
 // Bits 511:320.
@@ -53,26 +48,38 @@ fn notification_due(urgent: bool, d: Entry64) -> bool
     !bit64(d, 256) & (urgent | !bit64(d, 257))
 }
 
-fn notification_of(eime: bool, urgent: bool, d: Entry64) -> Notification
+fn notification_of(eime: bool, urgent: bool, d: Entry64) -> Option<Notice>
     ensures { due_of result ≡ notification_of eime urgent (number64 d) }
 {
     if !notification_due(urgent, d) {
-        return Notification::Silent;
+        return None;
     }
     let vector = bits64(d, 279, 272) as u8;
     let destination = notification_destination(eime, d);
-    Notification::Due {
+    Some(Notice {
         vector,
         destination,
-    }
+    })
 }
 
-pub(crate) fn descriptor_check(eime: bool, urgent: bool, at: u64, d: Entry64) -> DescriptorCheck
+// A stop names the descriptor, and has FPD of the interrupt entry.
+pub(crate) fn descriptor_check(
+    eime: bool,
+    urgent: bool,
+    fpd: bool,
+    at: u64,
+    d: Entry64,
+) -> Result<Option<Notice>, Stop<Reason>>
     ensures result_value { descriptor_checked result ≡ descriptor_check eime urgent (number64 d) }
     ensures at_value { descriptor_place result (entry_at at) ≡ entry_at at }
+    ensures fpd_value { descriptor_fpd result fpd ≡ fpd }
 {
     if reserved_descriptor(eime, d) {
-        return DescriptorCheck::Reserved(at);
+        return Err(Stop {
+            reason: Reason::DescriptorReserved,
+            fpd,
+            at,
+        });
     }
-    DescriptorCheck::Valid(notification_of(eime, urgent, d))
+    Ok(notification_of(eime, urgent, d))
 }

@@ -16,18 +16,18 @@ mod remapping;
 mod request;
 
 use answer::answer_of;
-pub use answer::{EntryAddress, InterruptAnswer, Posted};
-pub use descriptor::Notification;
+pub use answer::{InterruptAnswer, Posted};
+pub use descriptor::Notice;
 use faults::interrupt_fault;
 use image::bad_windows;
 pub use irte::Remapped;
 use post::write_post;
-use registers::{Admission, Registers, SourceId, admit, in_interrupt_range};
+use registers::{Admission, Refusal, Registers, SourceId, admit, in_interrupt_range};
 use remapping::follow_index;
-use request::{RequestCheck, request_check};
+use request::request_check;
 
 // A message: the address and data that a device wrote.
-#[derive(Clone, Copy)]
+#[derive(Clone, Copy, Debug, PartialEq, Eq)]
 pub struct InterruptRequest {
     pub source: SourceId,
     pub address: u64,
@@ -46,16 +46,13 @@ fn decide_taken(
     ensures result_value_2 { entry_of result ≡ concerned (outcome_of result) (stopped_at (request_rules registers request) (of_windows windows.now image.now)) }
 {
     match request_check(registers, request.address, request.data) {
-        RequestCheck::Compatibility => InterruptAnswer::Passed,
-        RequestCheck::Remappable(index) => {
+        Ok(None) => InterruptAnswer::Passed,
+        Ok(Some(index)) => {
             let delivery = follow_index(windows, image, registers, request.source, index);
             answer_of(request.source, index, delivery)
         }
-        RequestCheck::Fault(reason) => {
-            InterruptAnswer::Blocked(
-                interrupt_fault(reason, false, request.source, 0),
-                EntryAddress::NoEntry,
-            )
+        Err(reason) => {
+            InterruptAnswer::Blocked(interrupt_fault(reason, false, request.source, 0), None)
         }
     }
 }
@@ -71,18 +68,18 @@ fn decide(
     ensures result_value { outcome_of result ≡ run (interrupt_rules registers request) (of_windows windows.now image.now) }
     ensures result_value_2 { entry_of result ≡ interrupt_place registers request (of_windows windows.now image.now) }
 {
-    // As for memory requests: told before `admit` has a number to choose.
+    // As for memory requests: told before `admit` has a refusal to choose.
     if registers.bad() {
-        return InterruptAnswer::Refused(1);
+        return InterruptAnswer::Refused(Refusal::BadRegisters);
     }
     match admit(
         registers,
         !in_interrupt_range(request.address),
         registers.ire,
     ) {
-        Admission::Refused(number) => InterruptAnswer::Refused(number),
-        Admission::Passed => InterruptAnswer::Passed,
-        Admission::Taken => decide_taken(windows, image, registers, request),
+        Err(refusal) => InterruptAnswer::Refused(refusal),
+        Ok(Admission::Passed) => InterruptAnswer::Passed,
+        Ok(Admission::Taken) => decide_taken(windows, image, registers, request),
     }
 }
 
@@ -99,7 +96,7 @@ pub fn interrupt_request(
     ensures image_after { image.new ≡ interrupt_written windows.now (interrupt_answer registers request windows.now image.old) image.old }
 {
     if bad_windows(windows, image.len()) {
-        return InterruptAnswer::Refused(1);
+        return InterruptAnswer::Refused(Refusal::BadRegisters);
     }
     let answer = decide(windows, image, registers, request);
     if let InterruptAnswer::Posted(posted) = answer {

@@ -6,7 +6,6 @@ ghost use Rattle.interrupts.specs.Interrupts as rules;
 ghost use Rattle.interrupts.specs.Post.{set_bit, interrupt_written};
 
 use crate::answer::Posted;
-use crate::descriptor::Notification;
 use image::place64;
 
 // ON's bit number in a descriptor.
@@ -27,10 +26,9 @@ pub(crate) fn write_post(windows: &[u64], image: &mut [u8], posted: Posted)
         × (posted.descriptor % 64 ≡ 0) }
     ensures { image.new ≡ interrupt_written windows.now (rules.posted posted.descriptor posted.vector (due_of posted.notification)) image.old }
 {
-    let notification = posted.notification;
     let at = place64(windows, image.len(), posted.descriptor);
     set_bit(image, at, posted.vector as usize);
-    if let Notification::Due { .. } = notification {
+    if posted.notification.is_some() {
         set_bit(image, at, ON);
     }
 }

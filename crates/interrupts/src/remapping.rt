@@ -3,13 +3,13 @@ ghost use Rattle.std.specs.Prelude.{false, ◌≡◌, ◌%◌, ◌^◌, ◌<◌,
 ghost use Rattle.image.specs.Place.{entry_at, stopped_at};
 ghost use Rattle.image.specs.Rules.{run};
 ghost use Rattle.image.specs.Windows.{of_windows, bad_windows};
-ghost use Rattle.interrupts.specs.Answers.{delivery_of, DeliveryNames};
+ghost use Rattle.interrupts.specs.Answers.{delivery_of, DeliveryNames, post_of, PostNames};
 ghost use Rattle.interrupts.specs.Interrupts.{descriptor_rules, index_rules};
 
-use crate::answer::{Delivery, Posted};
-use crate::descriptor::{DescriptorCheck, descriptor_check};
-use faults::Reason;
-use image::{EntryAddress, Found16, Found64, fetch16, fetch64};
+use crate::answer::{BlockedBy, Delivery, Posted};
+use crate::descriptor::descriptor_check;
+use faults::{Reason, Stop};
+use image::{fetch16, fetch64};
 use irte::{Irte, irte_check};
 use registers::{Registers, SourceId, at_or_above_power};
 
@@ -21,18 +21,20 @@ fn follow_descriptor(
     fpd: bool,
     at: u64,
     vector: u8,
-) -> Delivery
+) -> Result<Posted, Stop<Reason>>
     requires { (bad_windows windows.now (length image.now) ≡ false) × (at % 64 ≡ 0) }
-    ensures result_value { delivery_of result ≡ run (descriptor_rules eime urgent fpd at vector) (of_windows windows.now image.now) }
-    ensures delivery_names { DeliveryNames result (entry_at at) }
+    ensures result_value { post_of result ≡ run (descriptor_rules eime urgent fpd at vector) (of_windows windows.now image.now) }
+    ensures post_names { PostNames result (entry_at at) }
 {
-    let Found64::Entry(d) = fetch64(windows, image, at) else {
-        return Delivery::Fault(Reason::DescriptorAccess, fpd, EntryAddress::At(at));
+    let Ok(d) = fetch64(windows, image, at) else {
+        return Err(Stop {
+            reason: Reason::DescriptorAccess,
+            fpd,
+            at,
+        });
     };
-    let DescriptorCheck::Valid(notification) = descriptor_check(eime, urgent, at, d) else {
-        return Delivery::Fault(Reason::DescriptorReserved, fpd, EntryAddress::At(at));
-    };
-    Delivery::Post(Posted {
+    let notification = descriptor_check(eime, urgent, fpd, at, d)?;
+    Ok(Posted {
         descriptor: at,
         vector,
         notification,
@@ -46,27 +48,36 @@ pub(crate) fn follow_index(
     registers: Registers,
     source: SourceId,
     index: u32,
-) -> Delivery
+) -> Result<Delivery, BlockedBy>
     requires { (bad_windows windows.now (length image.now) ≡ false) × (registers.interrupt_table % 4096 ≡ 0) × (registers.interrupt_table < 2 ^ 52) }
     ensures result_value { delivery_of result ≡ run (index_rules registers source.id index) (of_windows windows.now image.now) }
     ensures delivery_names { DeliveryNames result (stopped_at (index_rules registers source.id index) (of_windows windows.now image.now)) }
 {
     if at_or_above_power(index as u64, registers.s as u32 + 1) {
-        return Delivery::Fault(Reason::IndexOutOfRange, false, EntryAddress::NoEntry);
+        return Err(BlockedBy {
+            reason: Reason::IndexOutOfRange,
+            fpd: false,
+            entry: None,
+        });
     }
     let at = registers.interrupt_table + 16 * index as u64;
-    let Found16::Entry(e) = fetch16(windows, image, at) else {
-        return Delivery::Fault(Reason::IrteAccess, false, EntryAddress::At(at));
+    let Ok(e) = fetch16(windows, image, at) else {
+        return Err(BlockedBy {
+            reason: Reason::IrteAccess,
+            fpd: false,
+            entry: Some(at),
+        });
     };
-    match irte_check(registers, source, at, e) {
-        Irte::Remaps(remapped) => Delivery::Remap(remapped),
+    let irte = irte_check(registers, source, at, e)?;
+    match irte {
+        Irte::Remaps(remapped) => Ok(Delivery::Remap(remapped)),
         Irte::Posts {
             descriptor,
             vector,
             urgent,
             fpd,
         } => {
-            follow_descriptor(
+            let posted = follow_descriptor(
                 windows,
                 image,
                 registers.eime,
@@ -74,8 +85,8 @@ pub(crate) fn follow_index(
                 fpd,
                 descriptor,
                 vector,
-            )
-        },
-        Irte::Fault(reason, fpd, at) => Delivery::Fault(reason, fpd, EntryAddress::At(at)),
+            )?;
+            Ok(Delivery::Post(posted))
+        }
     }
 }

@@ -1,19 +1,10 @@
-use mathlib.Core.Path.{refl}
 use Rattle.interrupts.specs.Descriptor.{descriptor_check}
 use Rattle.interrupts.proofs.descriptor.descriptor_check.Goals as goal
 
-pub returns-then-reserved_descriptor : goal.returns-then-reserved_descriptor
+pub returns-then-reserved_descriptor-clause-result_value : goal.returns-then-reserved_descriptor-clause-result_value
 unfolding descriptor_check
-returns-then-reserved_descriptor c =
-    record {
-      result_value = rw (← c.reserved_descriptor.ensures, c.if-reserved_descriptor.true);
-      at_value = refl;
-    }
+returns-then-reserved_descriptor-clause-result_value c = rw (← c.reserved_descriptor.ensures, c.if-reserved_descriptor.true)
 
-pub returns : goal.returns
+pub returns-clause-result_value : goal.returns-clause-result_value
 unfolding descriptor_check
-returns c =
-    record {
-      result_value = rw (← c.reserved_descriptor.ensures, c.if-reserved_descriptor.false) (cc);
-      at_value = refl;
-    }
+returns-clause-result_value c = rw (← c.reserved_descriptor.ensures, c.if-reserved_descriptor.false) (cc)

@@ -1,104 +1,105 @@
-use Prim.Native.Nat.{◌+◌, ◌*◌}
-use mathlib.Core.Path.{◌≡◌, refl, ap, sym, ◌∙◌, subst}
+use Rattle.std.proofs.Common.{◌≡◌, ◌+◌, ◌*◌, ◌^◌, false, leb, Ok, sym, ap, ◌∙◌}
+use Rattle.std.proofs.lemmas.Result.{err_from_is_err_and}
 use Rattle.image.specs.Windows.{of_windows}
-use Rattle.image.specs.Answers.{fetched16}
-use Rattle.image.specs.Place.{Place, entry_at, last_tried, stopped_at}
+use Rattle.image.specs.Place.{entry_at, last_tried, stopped_at}
 use Rattle.image.specs.Rules.{run}
-use Rattle.irte.specs.Answers.{asked_of, irte_place}
-use Rattle.interrupts.specs.Answers.{DeliveryNames}
+use Rattle.irte.specs.Answers.{asked_of}
+use Rattle.irte.specs.declared.Irte.TheVariants.{Posts}
 use Rattle.interrupts.specs.Interrupts.{Delivery, index_rules}
 use Rattle.interrupts.proofs.Raised.{asked-aligned}
 use Rattle.interrupts.proofs.Stages.{on_asked, out_of_range, out-of-range-at, no-entry, no-entry-at, entry-checked, entry-checked-at, descriptor-place}
-use Rattle.interrupts.proofs.remapping.follow_index.Goals.{After-irte_check}
+use Rattle.interrupts.proofs.remapping.follow_index.Goals.{After-fetch16, After-irte_check, In-Posts}
 use Rattle.interrupts.proofs.remapping.follow_index.Goals as goal
 
-pub returns-then-at_or_above_power : goal.returns-then-at_or_above_power
-returns-then-at_or_above_power c =
+pub returns-then-at_or_above_power-clause-result_value : goal.returns-then-at_or_above_power-clause-result_value
+returns-then-at_or_above_power-clause-result_value c =
     let a = c.args in
-    let beyond = sym c.at_or_above_power.ensures ∙ c.if-at_or_above_power.true in
-    record {
-      result_value = out_of_range (of_windows a.windows.now a.image.now) a.registers a.source.id a.index beyond;
-      delivery_names = out-of-range-at (of_windows a.windows.now a.image.now) a.registers a.source.id a.index beyond;
-    }
+    out_of_range (of_windows a.windows.now a.image.now) a.registers a.source.id a.index (sym c.at_or_above_power.ensures ∙ c.if-at_or_above_power.true)
 
-pub returns-in_default : goal.returns-in_default
-returns-in_default c =
-    let f = c in
-    let i = f in
-    let a = i.args in
-    let inside = sym i.at_or_above_power.ensures ∙ i.if-at_or_above_power.false in
-    let none = sym (ap fetched16 c.in_default.is) ∙ f.fetch16.ensures.result_value in
-    record {
-      result_value = no-entry (of_windows a.windows.now a.image.now) a.registers a.source.id a.index inside none;
-      delivery_names = no-entry-at (of_windows a.windows.now a.image.now) a.registers a.source.id a.index inside none;
-    }
+pub returns-then-at_or_above_power-clause-delivery_names : goal.returns-then-at_or_above_power-clause-delivery_names
+returns-then-at_or_above_power-clause-delivery_names c =
+    let a = c.args in
+    out-of-range-at (of_windows a.windows.now a.image.now) a.registers a.source.id a.index (sym c.at_or_above_power.ensures ∙ c.if-at_or_above_power.true)
+
+-- the index is one of the table's
+inside : (c : After-fetch16) → leb (2 ^ (c.args.registers.s + 1)) c.args.index ≡ false
+inside c = sym c.at_or_above_power.ensures ∙ c.if-at_or_above_power.false
+
+pub returns-in_default-clause-result_value : goal.returns-in_default-clause-result_value
+returns-in_default-clause-result_value c =
+    let a = c.args in
+    no-entry (of_windows a.windows.now a.image.now) a.registers a.source.id a.index
+    (inside (goal.at.returns-in_default-clause-result_value c).After-fetch16) c.in_default.ensures.result_value
+
+pub returns-in_default-clause-delivery_names : goal.returns-in_default-clause-delivery_names
+returns-in_default-clause-delivery_names c =
+    let a = c.args in
+    no-entry-at (of_windows a.windows.now a.image.now) a.registers a.source.id a.index
+    (inside (goal.at.returns-in_default-clause-delivery_names c).After-fetch16) c.in_default.ensures.result_value
 
 -- what follows what the check says is what the rules give
 asks : (c : After-irte_check) {d : Delivery}
     → d ≡ run (on_asked c.args.registers.eime (asked_of c.irte_check.result)) (of_windows c.args.windows.now c.args.image.now)
     → d ≡ run (index_rules c.args.registers c.args.source.id c.args.index) (of_windows c.args.windows.now c.args.image.now)
 asks c =
-    let found = c in
-    let f = found in
-    let i = f in
-    let a = i.args in
+    let a = c.args in
     entry-checked (of_windows a.windows.now a.image.now) a.registers a.source.id a.index
-    (sym i.at_or_above_power.ensures ∙ i.if-at_or_above_power.false)
-    (sym (ap fetched16 found.in-Entry.is) ∙ f.fetch16.ensures.result_value) c.irte_check.ensures.result_value
+    (sym c.at_or_above_power.ensures ∙ c.if-at_or_above_power.false) c.in-Ok.ensures.result_value c.irte_check.ensures.result_value
 
 -- and it stops where the rules stop
 stops : (c : After-irte_check)
     → last_tried (entry_at (c.args.registers.interrupt_table + 16 * c.args.index)) (on_asked c.args.registers.eime (asked_of c.irte_check.result)) (of_windows c.args.windows.now c.args.image.now)
     ≡ stopped_at (index_rules c.args.registers c.args.source.id c.args.index) (of_windows c.args.windows.now c.args.image.now)
 stops c =
-    let found = c in
-    let f = found in
-    let i = f in
-    let a = i.args in
+    let a = c.args in
     entry-checked-at (of_windows a.windows.now a.image.now) a.registers a.source.id a.index
-    (sym i.at_or_above_power.ensures ∙ i.if-at_or_above_power.false)
-    (sym (ap fetched16 found.in-Entry.is) ∙ f.fetch16.ensures.result_value) c.irte_check.ensures.result_value
+    (sym c.at_or_above_power.ensures ∙ c.if-at_or_above_power.false) c.in-Ok.ensures.result_value c.irte_check.ensures.result_value
+
+pub returns-in_err-irte-clause-result_value : goal.returns-in_err-irte-clause-result_value
+unfolding run
+returns-in_err-irte-clause-result_value c =
+    let p = err_from_is_err_and c.from_residual.result c.from_residual.ensures.1 in
+    rw (p.1, p.2) (asks (goal.at.returns-in_err-irte-clause-result_value c).After-irte_check (rw c.in_err-irte.was))
+
+pub returns-in_err-irte-clause-delivery_names : goal.returns-in_err-irte-clause-delivery_names
+unfolding last_tried
+returns-in_err-irte-clause-delivery_names c =
+    let p = err_from_is_err_and c.from_residual.result c.from_residual.ensures.1 in
+    let there = stops (goal.at.returns-in_err-irte-clause-delivery_names c).After-irte_check in
+    rw (p.1, p.2) (c.in_err-irte.ensures.irte_names ∙ (rw c.in_err-irte.was at there))
+
+-- where it asks for a post
+asked-post : (c : In-Posts) → c.irte_check.result ≡ Ok (Posts c.in-Posts.descriptor c.in-Posts.vector c.in-Posts.urgent c.in-Posts.fpd)
+asked-post c = c.in_ok-irte.was ∙ ap Ok c.in-Posts.is
 
 pub follow_descriptor-requires : goal.follow_descriptor-requires
 follow_descriptor-requires c =
-    let v = c in
-    let k = v in
-    let start = k in
-    (start.requires.0, asked-aligned start.args.registers start.args.source.id _ (sym (ap asked_of v.in-Posts.is) ∙ k.irte_check.ensures.result_value))
+    (c.requires.0, asked-aligned c.args.registers c.args.source.id _ (rw c.in-Posts.is at c.in_ok-irte.ensures.result_value))
 
-pub returns-in-Remaps : goal.returns-in-Remaps
+pub returns-in_err-posted-in-Posts-clause-result_value : goal.returns-in_err-posted-in-Posts-clause-result_value
+returns-in_err-posted-in-Posts-clause-result_value c =
+    let here = goal.at.returns-in_err-posted-in-Posts-clause-result_value c in
+    let p = err_from_is_err_and c.from_residual-in_err-posted-in-Posts.result c.from_residual-in_err-posted-in-Posts.ensures.1 in
+    rw (p.1, p.2) (asks here.After-irte_check (rw (asked-post here.In-Posts) c.in_err-posted-in-Posts.ensures.result_value))
+
+pub returns-in_err-posted-in-Posts-clause-delivery_names : goal.returns-in_err-posted-in-Posts-clause-delivery_names
+returns-in_err-posted-in-Posts-clause-delivery_names c =
+    let a = c.args in
+    let here = goal.at.returns-in_err-posted-in-Posts-clause-delivery_names c in
+    let p = err_from_is_err_and c.from_residual-in_err-posted-in-Posts.result c.from_residual-in_err-posted-in-Posts.ensures.1 in
+    let there = stops here.After-irte_check in
+    rw (p.1, p.2)
+    (c.in_err-posted-in-Posts.ensures.post_names
+    ∙ descriptor-place (of_windows a.windows.now a.image.now) a.registers.eime _ _ _ _ (entry_at (a.registers.interrupt_table + 16 * a.index))
+    ∙ (rw (asked-post here.In-Posts) at there))
+
+pub returns-in-Remaps-clause-result_value : goal.returns-in-Remaps-clause-result_value
 unfolding run
-returns-in-Remaps c =
-    let v = c in
-    record {
-      result_value = asks (goal.at.returns-in-Remaps c).After-irte_check (rw v.in-Remaps.is);
-      delivery_names = refl;
-    }
+returns-in-Remaps-clause-result_value c =
+    let told = c.in_ok-irte.was ∙ ap Ok c.in-Remaps.is in
+    asks (goal.at.returns-in-Remaps-clause-result_value c).After-irte_check (rw told)
 
-pub returns-in-Posts : goal.returns-in-Posts
-returns-in-Posts c =
-    let v = c in
-    let k = v in
-    let a = k.args in
-    let there = stops (goal.at.returns-in-Posts c).After-irte_check in
-    record {
-      result_value = asks (goal.at.returns-in-Posts c).After-irte_check (rw v.in-Posts.is c.follow_descriptor.ensures.result_value);
-      delivery_names = subst (λ (p : Place). DeliveryNames c.follow_descriptor.result p)
-          (descriptor-place (of_windows a.windows.now a.image.now) a.registers.eime _ _ _ _ (entry_at (a.registers.interrupt_table + 16 * a.index))
-          ∙ (rw v.in-Posts.is at there))
-          c.follow_descriptor.ensures.delivery_names;
-    }
-
-pub returns-in-Fault : goal.returns-in-Fault
-unfolding run last_tried
-returns-in-Fault c =
-    let v = c in
-    let k = v in
-    let a = k.args in
-    let there = stops (goal.at.returns-in-Fault c).After-irte_check in
-    record {
-      result_value = asks (goal.at.returns-in-Fault c).After-irte_check (rw v.in-Fault.is);
-      delivery_names = sym (ap (λ r. irte_place r (entry_at (a.registers.interrupt_table + 16 * a.index))) v.in-Fault.is)
-          ∙ k.irte_check.ensures.irte_names
-          ∙ (rw v.in-Fault.is at there);
-    }
+pub returns-in_ok-posted-in-Posts-clause-result_value : goal.returns-in_ok-posted-in-Posts-clause-result_value
+returns-in_ok-posted-in-Posts-clause-result_value c =
+    let here = goal.at.returns-in_ok-posted-in-Posts-clause-result_value c in
+    asks here.After-irte_check (rw (asked-post here.In-Posts) c.in_ok-posted-in-Posts.ensures.result_value)
