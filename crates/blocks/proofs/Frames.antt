@@ -1,10 +1,10 @@
--- What a framed block has, and where its test stops.
+-- What a framed block has, and what is left of its test.
 use Prim.Native.Nat.{ℕ, ◌≤◌}
 use mathlib.Core.Path.{◌≡◌, refl}
 use mathlib.Core.List.{List}
 use mathlib.Core.Bool.{Bool, true, false, ◌&&◌}
 use native.Mathlib.Omega.{arith}
-use borrow.Author.Tests.{eqb-true, leb-true, eq-eqb, ne_eqb}
+use borrow.Author.Tests.{eqb-true, leb-true, eq-eqb}
 use lib.Dec.{eqb, leb}
 use lib.ListN.{length, get_or}
 use Rattle.blocks.specs.Block.{count, number, headed, zeros, unused, sum_held, sum_of, framed}
@@ -65,22 +65,8 @@ module _ (block : List ℕ) (place : ℕ) (h : framed block place ≡ true) wher
       and_right (eqb (length block) 512) (headed block place)
       (and_left (eqb (length block) 512 && headed block place) (zeros (unused block)) first_three)
 
--- the test, stage by stage
-module _ (block : List ℕ) (place : ℕ) where
-  pub short : (length block ≡ 512 → ⊥) → framed block place ≡ false
-  unfolding framed
-  short h = rw (ne_eqb (length block) 512 h)
-
-  module _ (whole : length block ≡ 512) where
-    pub unheaded : headed block place ≡ false → framed block place ≡ false
-    unfolding framed
-    unheaded h = rw (eq-eqb (length block) 512 whole, h)
-
-    module _ (head : headed block place ≡ true) where
-      pub stained : zeros (unused block) ≡ false → framed block place ≡ false
-      unfolding framed
-      stained h = rw (eq-eqb (length block) 512 whole, head, h)
-
-      pub all-but-sum : zeros (unused block) ≡ true → framed block place ≡ eqb (sum_held block) (sum_of block)
-      unfolding framed
-      all-but-sum h = rw (eq-eqb (length block) 512 whole, head, h)
+-- all of it but the sum
+pub all-but-sum : (block : List ℕ) (place : ℕ) → length block ≡ 512 → headed block place ≡ true → zeros (unused block) ≡ true
+    → framed block place ≡ eqb (sum_held block) (sum_of block)
+unfolding framed
+all-but-sum block place whole head blank = rw (eq-eqb (length block) 512 whole, head, blank)

@@ -1,31 +1,35 @@
--- Bytes laid into a buffer one by one, and a block finished.
+-- Bytes laid into a buffer, and a block finished.
 use Prim.Native.Nat.{ℕ, ◌+◌, ◌*◌, ◌-◌, ◌≤◌, ◌<◌}
 use mathlib.Core.Path.{◌≡◌, refl, ap, sym, ◌∙◌}
 use mathlib.Core.List.{List, [], ◌∷◌, ◌++◌, append_assoc, append-nil}
-use native.Mathlib.Numerals.{add-one}
+use native.Mathlib.Nat.{div-div-eq-div-mul}
 use native.Mathlib.Omega.{arith}
-use lib.ListN.{length, get_or, take, drop, set, replicate, length-append, length-drop, length-replicate, drop_of_length-le}
-use lib.Seq.{paste, paste-suc, take_all, take-add, take_at, drop_at, drop-set-lt, length-take-le}
+use lib.ListN.{length, take, drop, set, replicate, length-append, length-drop, length-replicate, drop_of_length-le}
+use lib.Seq.{drop-drop, take-add, take_at, drop_at, drop-set-lt, length-take-le}
+use Rattle.std.proofs.Common.{w64}
+use Rattle.std.specs.Int.{to_le_bytes}
 use Rattle.image.specs.Bytes.{bytes_of}
 use Rattle.image.proofs.Bytes.{length-bytes_of}
 use Rattle.blocks.specs.Block.{weighed}
 use Rattle.blocks.specs.Written.{body, block_bytes, held_in}
 use Rattle.blocks.specs.Written as written
-use borrow.Author.Tests.{eq-eqb, ne_eqb, le-leb, lt-leb}
+use borrow.Author.Tests.{eq-eqb, le-leb}
 
--- the next byte of a run laid into a buffer, and the whole run
-pub next-laid : (buffer : List ℕ) (at : ℕ) (s : List ℕ) (i : ℕ) {now : List ℕ} {v : ℕ} → at + length s ≤ length buffer
-    → i < length s → now ≡ paste buffer at s i → v ≡ get_or s i 0 → set now (at + i) v ≡ paste buffer at s (i + 1)
-next-laid buffer at s i fits more so_far byte =
-    rw (so_far, byte, add-one i) (paste-suc buffer at s i 0 (omega arith) more)
+-- a part of a buffer written over
+pub written_over : (buffer : List ℕ) (at n : ℕ) {part s : List ℕ} → part ≡ s
+    → take at buffer ++ (part ++ drop n (drop at buffer)) ≡ take at buffer ++ s ++ drop (at + n) buffer
+written_over buffer at n {part} {s} e = rw (e, drop-drop n at buffer) (sym (append_assoc (take at buffer) s (drop (at + n) buffer)))
 
-pub all_laid : (buffer : List ℕ) (at : ℕ) (s : List ℕ) (n i : ℕ) → i ≡ n → length s ≡ n
-    → paste buffer at s i ≡ take at buffer ++ s ++ drop (at + n) buffer
-all_laid buffer at s n i end sized =
-    let whole : length s ≤ n = omega arith in
-    rw (end, take_all n s whole)
+-- the lowest bytes of a number, of all that it has
+pub lowest-six : (value : ℕ) {bytes : List ℕ} → bytes ≡ to_le_bytes w64 value → take 6 bytes ≡ bytes_of 6 value
+unfolding bytes_of
+lowest-six value e = rw e (simp div-div-eq-div-mul)
 
-pub length-laid : (buffer : List ℕ) (at n : ℕ) (s : List ℕ) → length s ≡ n → at + n ≤ length buffer
+pub lowest-four : (value : ℕ) {bytes : List ℕ} → bytes ≡ to_le_bytes w64 value → take 4 bytes ≡ bytes_of 4 value
+unfolding bytes_of
+lowest-four value e = rw e (simp div-div-eq-div-mul)
+
+length-laid : (buffer : List ℕ) (at n : ℕ) (s : List ℕ) → length s ≡ n → at + n ≤ length buffer
     → length (take at buffer ++ s ++ drop (at + n) buffer) ≡ length buffer
 length-laid buffer at n s sized fits =
     simp (length-append, length-drop, length-take-le at buffer (omega arith), sized) (omega arith)
@@ -41,7 +45,7 @@ module _ (buffer : List ℕ) (number n : ℕ) (whole : length buffer ≡ 512) (f
   module _ {cleared numbered : List ℕ}
       (one : cleared ≡ take (8 + 32 * n) buffer ++ replicate (500 - 32 * n) 0 ++ drop (8 + 32 * n + (500 - 32 * n)) buffer)
       (two : numbered ≡ take 2 (set (set cleared 0 0x56) 1 n) ++ bytes_of 6 number ++ drop (2 + 6) (set (set cleared 0 0x56) 1 n)) where
-    pub cleared-length : length cleared ≡ 512
+    cleared-length : length cleared ≡ 512
     cleared-length =
         ap length one
         ∙ length-laid buffer (8 + 32 * n) (500 - 32 * n) (replicate (500 - 32 * n) 0) (length-replicate (500 - 32 * n) 0) (omega arith)
@@ -54,7 +58,7 @@ module _ (buffer : List ℕ) (number n : ℕ) (whole : length buffer ≡ 512) (f
         rw (one, end, take-add 8 (32 * n) buffer, append_assoc (take 8 buffer) (take (32 * n) (drop 8 buffer)) (replicate (500 - 32 * n) 0), append_assoc (take 8 buffer) (take (32 * n) (drop 8 buffer) ++ replicate (500 - 32 * n) 0) (drop 508 buffer))
         (drop_at (take 8 buffer) (take (32 * n) (drop 8 buffer) ++ replicate (500 - 32 * n) 0 ++ drop 508 buffer) 8 eight)
 
-    pub bodied : numbered ≡ body number n (held_in buffer n) ++ drop 508 buffer
+    bodied : numbered ≡ body number n (held_in buffer n) ++ drop 508 buffer
     unfolding body
     bodied =
         two
@@ -67,7 +71,7 @@ module _ (buffer : List ℕ) (number n : ℕ) (whole : length buffer ≡ 512) (f
         simp (length-append, length-bytes_of, length-replicate, length-take-le (32 * n) (drop 8 buffer) (simp length-drop (omega arith)))
         (omega arith)
 
-    pub numbered-length : length numbered ≡ 512
+    numbered-length : length numbered ≡ 512
     numbered-length = ap length bodied ∙ simp (length-append, length-drop, body-length) (omega arith)
 
     pub finished : {sum : ℕ} {done : List ℕ} → sum ≡ weighed 0 (take 508 numbered)
@@ -95,16 +99,8 @@ appended buffer n entry {after} whole few sized laid =
       ap (λ (l : List ℕ). take (32 * (n + 1)) l) apart ∙ take_at (held_in buffer n ++ entry) rest (32 * (n + 1)) more,
     )
 
--- what is finished, and what is left
-module _ (buffer : List ℕ) (number n : ℕ) where
-  pub made : length buffer ≡ 512 → n ≤ 15 → written.finished buffer number n ≡ block_bytes number n (held_in buffer n)
-  unfolding written.finished
-  made whole few = rw (eq-eqb (length buffer) 512 whole, le-leb n 15 few)
-
-  pub left-short : (length buffer ≡ 512 → ⊥) → written.finished buffer number n ≡ buffer
-  unfolding written.finished
-  left-short h = rw (ne_eqb (length buffer) 512 h)
-
-  pub left-full : length buffer ≡ 512 → 15 < n → written.finished buffer number n ≡ buffer
-  unfolding written.finished
-  left-full whole many = rw (eq-eqb (length buffer) 512 whole, lt-leb n 15 many)
+-- what is finished
+pub made : (buffer : List ℕ) (number n : ℕ) → length buffer ≡ 512 → n ≤ 15
+    → written.finished buffer number n ≡ block_bytes number n (held_in buffer n)
+unfolding written.finished
+made buffer number n whole few = rw (eq-eqb (length buffer) 512 whole, le-leb n 15 few)

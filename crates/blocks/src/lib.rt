@@ -9,22 +9,14 @@ mod writing;
 
 pub use writing::finish;
 
-fn wide(x: u8) -> u64
-    ensures { (result ≡ x) × (result < 256) }
-{
-    x as u64
-}
-
 // The sum over bytes 0 to 507 of byte times (place + 1).
 pub(crate) fn sum(block: &[u8]) -> u64
     requires { 508 ≤ length block.now }
     ensures { result ≡ sum_of block.now }
 {
     let mut sum: u64 = 0;
-    let mut i: usize = 0;
-    while i < 508 {
-        sum += wide(block[i]) * (i as u64 + 1);
-        i += 1;
+    for (i, byte) in block[..508].iter().enumerate() {
+        sum += u64::from(*byte) * (i as u64 + 1);
     }
     sum
 }
@@ -32,14 +24,7 @@ pub(crate) fn sum(block: &[u8]) -> u64
 fn blank(bytes: &[u8]) -> bool
     ensures { result ≡ zeros bytes.now }
 {
-    let mut i: usize = 0;
-    while i < bytes.len() {
-        if bytes[i] != 0 {
-            return false;
-        }
-        i += 1;
-    }
-    true
+    bytes.iter().all(|byte| *byte == 0)
 }
 
 // The number that up to six bytes spell, lowest first.
@@ -47,17 +32,15 @@ fn spelled(bytes: &[u8]) -> u64
     requires { length bytes.now ≤ 6 }
     ensures { result ≡ little_endian bytes.now }
 {
-    let mut i: usize = bytes.len();
     let mut value: u64 = 0;
-    while 0 < i {
-        i -= 1;
-        let low = wide(bytes[i]);
-        value = low + 256 * value;
+    for byte in bytes.iter().rev() {
+        value = u64::from(*byte) + 256 * value;
     }
     value
 }
 
 // Mark, count and number.
+#[tactic(auto, unfolding(crate::specs::Block::headed))]
 fn is_headed(block: &[u8], place: u64) -> bool
     requires { length block.now ≡ 512 }
     ensures { result ≡ headed block.now place }
@@ -69,6 +52,7 @@ fn is_headed(block: &[u8], place: u64) -> bool
 }
 
 // A block's layout but for that of its entries; a short block has none.
+#[tactic(auto, unfolding(crate::specs::Block::framed))]
 pub fn is_framed(block: &[u8], place: u64) -> bool
     ensures { result ≡ framed block.now place }
 {

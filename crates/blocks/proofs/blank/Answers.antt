@@ -1,30 +1,13 @@
-use mathlib.Core.Path.{refl, sym, ◌∙◌}
-use native.Mathlib.Omega.{arith}
-use Rattle.blocks.proofs.Tested.{zero-next, zero-not, zero-end}
+use Rattle.std.proofs.Common.{◌&&◌, eqb, refl, ◌∙◌, rules, tests}
+use Rattle.std.specs.List.{list_all}
+use Rattle.std.proofs.lemmas.Iterator.{YieldsList-from_slice}
+use Rattle.std.proofs.lemmas.Iterator.Search.{all_from_yields_List}
+use Rattle.std.proofs.lemmas.List.Recursion.{same_from_clauses}
+use Rattle.blocks.specs.Block.{zeros}
 use Rattle.blocks.proofs.blank.Goals as goal
 
-pub loop-i-init : goal.loop-i-init
-loop-i-init c = (refl, omega arith)
-
-pub returns-then-bytes-i-ne0 : goal.returns-then-bytes-i-ne0
-returns-then-bytes-i-ne0 c =
-    let l = c.loop-i in
-    let a = c.args in
-    sym (l.invariant.0 ∙ zero-not a.bytes.now l.i (omega arith) c.if-bytes-i-ne0.true)
-
-pub overflow_add-i : goal.overflow_add-i
-overflow_add-i c = omega arith
-
-pub loop-i-smaller : goal.loop-i-smaller
-loop-i-smaller c = omega arith
-
-pub loop-i-preserved : goal.loop-i-preserved
-loop-i-preserved c =
-    let l = c.loop-i in
-    let a = c.args in
-    (l.invariant.0 ∙ zero-next a.bytes.now l.i (omega arith) c.if-bytes-i-ne0.false, omega arith)
-
 pub returns : goal.returns
+unfolding zeros
 returns c =
-    let l = c.loop-i in
-    sym (l.invariant.0 ∙ zero-end c.args.bytes.now l.i (omega arith))
+    all_from_yields_List (λ b. eqb b 0) _ _ c.all.result c.all.ensures.ran (YieldsList-from_slice c.args.bytes.now cc) (λ x b q k. search (rules, tests))
+    ∙ same_from_clauses (list_all (λ b. eqb b 0)) zeros (λ b r. eqb b 0 && r) refl (λ _ _. refl) (λ _ _. refl) c.args.bytes.now
