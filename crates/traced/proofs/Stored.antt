@@ -1,23 +1,24 @@
 -- An entry laid into a buffer, and read from one.
 use Prim.Native.Nat.{ℕ, ◌+◌, ◌-◌, ◌^◌, ◌≤◌, ◌<◌}
 use mathlib.Core.Path.{◌≡◌, ap, ◌∙◌}
-use mathlib.Core.Bool.{true, false}
+use mathlib.Core.Bool.{Bool, true, false}
 use mathlib.Core.List.{List, [], ◌∷◌, ◌++◌, append_assoc}
 use native.Mathlib.Nat.{add_assoc, add-zero}
 use native.Mathlib.Omega.{arith}
-use borrow.Author.Tests.{le-leb, lt-leb, eq-eqb, ne_eqb}
+use borrow.Author.Tests.{le-leb, eq-eqb, ne_eqb}
 use lib.Dec.{leb}
 use lib.ListN.{length, take, drop, length-take, length-drop}
 use lib.Seq.{drop-drop, take-take, length-take-le}
 use Rattle.image.specs.Bits.{bits}
 use Rattle.image.specs.Bytes.{little_endian, bytes_of, spell}
 use Rattle.std.specs.Prelude.{if◌then◌else◌}
+use Rattle.std.specs.Bool.{then_some}
 use Rattle.image.specs.Memory.{word_at, with_word}
 use Rattle.image.proofs.Pages.{drop-take}
 use Rattle.image.proofs.Stores.{with_words, Words, all-stored, words-beside}
 use Rattle.image.proofs.Words.{spell_one, word_or0, whole_word}
+use Rattle.traced.specs.Answers.{decoded_of}
 use Rattle.traced.specs.Decoded.{malformed, entry_well, decoded}
-use Rattle.traced.specs.Decoded as told
 use Rattle.traced.specs.Entry.{head_bytes, entry_bytes, traced_in}
 use Rattle.traced.specs.Well.{well_traced}
 use Rattle.traced.specs.declared.Traced.{Traced}
@@ -44,10 +45,6 @@ module _ (a b c d : ℕ) (ha : a < 2 ^ 64) (hb : b < 2 ^ 64) (hc : c < 2 ^ 64) (
   entry-stored buffer at e fits one two three four =
       rw (le-leb (at + 32) (length buffer) fits, ← one, ← two, ← three, ← four, ← four-words)
       (rw (add_assoc at 8 8, add_assoc at 16 8) at (all-stored (a ∷ b ∷ c ∷ d ∷ []) buffer at (omega arith) (ha, (hb, (hc, (hd, tt))))))
-
-pub not-laid : (buffer : List ℕ) (at : ℕ) (e : Traced) → length buffer < at + 32
-    → buffer ≡ (if leb (at + 32) (length buffer) then take at buffer ++ entry_bytes e ++ drop (at + 32) buffer else buffer)
-not-laid buffer at e past = rw (lt-leb (at + 32) (length buffer) past)
 
 -- a word of an entry is the buffer's
 pub word-within : (b : List ℕ) (at k : ℕ) → k + 8 ≤ 32 → word_at (take 32 (drop at b)) k ≡ word_at b (at + k)
@@ -101,10 +98,8 @@ module _ (b : List ℕ) (at : ℕ) where
     sized : length (take 32 (drop at b)) ≡ 32
     sized = length-take-le 32 (drop at b) (simp length-drop (omega arith))
 
-    pub is-entry : {e : Traced} → e ≡ traced_in (take 32 (drop at b)) → well_traced e ≡ true → told.entry e ≡ decoded (take 32 (drop at b))
+    pub by-test : {e : Traced} (t : Bool) → e ≡ traced_in (take 32 (drop at b)) → t ≡ well_traced e
+        → decoded_of (then_some t e) ≡ decoded (take 32 (drop at b))
     unfolding decoded entry_well
-    is-entry {e} same well = rw (eq-eqb (length (take 32 (drop at b))) 32 sized, ← same, well)
-
-    pub is-malformed : {e : Traced} → e ≡ traced_in (take 32 (drop at b)) → well_traced e ≡ false → malformed ≡ decoded (take 32 (drop at b))
-    unfolding decoded entry_well
-    is-malformed {e} same well = rw (eq-eqb (length (take 32 (drop at b))) 32 sized, ← same, well)
+    by-test true same well = rw (eq-eqb (length (take 32 (drop at b))) 32 sized, ← same, ← well)
+    by-test false same well = rw (eq-eqb (length (take 32 (drop at b))) 32 sized, ← same, ← well)

@@ -1,8 +1,8 @@
--- What the code's enum says.
+-- What the code says that it decoded.
+use Rattle.std.specs.Prelude.{Option, Some, None}
 use Rattle.traced.specs.Decoded.{Decoded, malformed, entry}
-use Rattle.traced.specs.declared.Decoded.{Decoded as DecodedCode}
-use Rattle.traced.specs.declared.Decoded.TheVariants as code
+use Rattle.traced.specs.declared.Traced.{Traced}
 
-abbrev pub decoded_of : DecodedCode → Decoded
-decoded_of (code.Entry e) = entry e
-decoded_of code.Malformed = malformed
+abbrev pub decoded_of : Option Traced → Decoded
+decoded_of (Some e) = entry e
+decoded_of None = malformed

@@ -15,7 +15,7 @@ pub use well::is_well;
 
 // What each number says is told with the test that an entry is laid out well. A field that a kind and an answer
 // don't use is 0.
-#[derive(Clone, Copy)]
+#[derive(Clone, Copy, Debug, PartialEq, Eq)]
 pub struct Traced {
     pub kind: u8,
     pub answer: u8,
@@ -28,12 +28,6 @@ pub struct Traced {
     pub data: u32,
     pub destination: u32,
     pub value: u64,
-}
-
-#[derive(Clone, Copy)]
-pub enum Decoded {
-    Entry(Traced),
-    Malformed,
 }
 
 // Bytes 7:0, from the last field down.
@@ -56,19 +50,6 @@ fn message(e: Traced) -> u64
     e.data as u64 + e.destination as u64 * 0x1_0000_0000
 }
 
-// Bytes 15:8 and 31:24.
-fn address(e: Traced) -> u64
-    ensures { result ≡ e.address }
-{
-    e.address
-}
-
-fn value(e: Traced) -> u64
-    ensures { result ≡ e.value }
-{
-    e.value
-}
-
 // An entry's 32 bytes laid into a buffer; nothing is written where it doesn't hold them all.
 pub fn encode(buffer: &mut [u8], at: u64, e: Traced)
     ensures { buffer.new ≡ (if leb (at + 32) (length buffer.old) then take at buffer.old ++ entry_bytes e ++ drop (at + 32) buffer.old else buffer.old) }
@@ -80,9 +61,9 @@ pub fn encode(buffer: &mut [u8], at: u64, e: Traced)
         return;
     }
     store8(buffer, at, head(e));
-    store8(buffer, at + 8, address(e));
+    store8(buffer, at + 8, e.address);
     store8(buffer, at + 16, message(e));
-    store8(buffer, at + 24, value(e));
+    store8(buffer, at + 24, e.value);
 }
 
 fn fields(bytes: &[u8], at: u64) -> Traced
@@ -108,19 +89,16 @@ fn fields(bytes: &[u8], at: u64) -> Traced
     }
 }
 
-// The entry in the 32 bytes from an index.
-pub fn decode(bytes: &[u8], at: u64) -> Decoded
+// The entry in the 32 bytes from an index, where it is laid out well.
+pub fn decode(bytes: &[u8], at: u64) -> Option<Traced>
     ensures { decoded_of result ≡ decoded (take 32 (drop at bytes.now)) }
 {
     if bytes.len() < 32 {
-        return Decoded::Malformed;
+        return None;
     }
     if ((bytes.len() - 32) as u64) < at {
-        return Decoded::Malformed;
+        return None;
     }
     let e = fields(bytes, at);
-    if is_well(e) {
-        return Decoded::Entry(e);
-    }
-    Decoded::Malformed
+    is_well(e).then_some(e)
 }
