@@ -10,7 +10,9 @@ use lib.Dec.{eqb, leb, ltb}
 use lib.ListN.{length, get_or, drop, length-take, length-drop}
 use lib.Seq.{get_or-take, get_or-drop}
 use Rattle.blocks.specs.Block.{framed, count, entries_well, well_laid}
-use Rattle.blocks.proofs.Frames.{short, no-first}
+use Rattle.blocks.proofs.Frames.{no-first}
+use Rattle.std.specs.Prelude.{Option, Some, None, is_some}
+use Rattle.traced.specs.Answers.{decoded_of}
 use Rattle.traced.specs.Decoded.{entry_well, decoded}
 use Rattle.traced.specs.Decoded as of
 use Rattle.traced.specs.Entry.{traced_in}
@@ -53,7 +55,7 @@ decoded-well bytes false h {e} told =
     let z : ◌≡◌ {A = ℕ} 0 1 = cc in
     absurd (omega arith)
 
-pub well-entry : (bytes : List ℕ) {e : Traced} → of.entry e ≡ decoded bytes → true ≡ entry_well bytes
+well-entry : (bytes : List ℕ) {e : Traced} → of.entry e ≡ decoded bytes → true ≡ entry_well bytes
 well-entry bytes told = decoded-well bytes (entry_well bytes) refl told
 
 decoded-not : (bytes : List ℕ) (t : Bool) → entry_well bytes ≡ t → of.malformed ≡ decoded bytes → false ≡ entry_well bytes
@@ -64,8 +66,12 @@ decoded-not bytes true h told =
     let z : ◌≡◌ {A = ℕ} 0 1 = cc in
     absurd (omega arith)
 
-pub not_entry : (bytes : List ℕ) → of.malformed ≡ decoded bytes → false ≡ entry_well bytes
+not_entry : (bytes : List ℕ) → of.malformed ≡ decoded bytes → false ≡ entry_well bytes
 not_entry bytes told = decoded-not bytes (entry_well bytes) refl told
+
+pub by-decoded : (bytes : List ℕ) (r : Option Traced) → decoded_of r ≡ decoded bytes → is_some r ≡ entry_well bytes
+by-decoded bytes (Some e) told = well-entry bytes told
+by-decoded bytes None told = not_entry bytes told
 
 -- a block's count is the byte behind its first
 pub count_at : (bytes : List ℕ) (place : ℕ) → count (block_at bytes place) ≡ get_or bytes (512 * place + 1) 0
@@ -73,11 +79,11 @@ count_at bytes place = get_or-take 512 (drop (512 * place) bytes) 1 0 (omega ari
 
 -- a short block isn't laid out well
 pub short-laid : (bytes : List ℕ) (place : ℕ) → length bytes / 512 ≤ place → well_laid entry_well (block_at bytes place) place ≡ false
-unfolding well_laid
+unfolding well_laid framed
 short-laid bytes place h =
     let lacks : length (block_at bytes place) ≡ 512 → ⊥ = λ e. let sized = simp (length-take, length-drop) at e in omega arith in
     no-first (framed (block_at bytes place) place) (entries_well entry_well (count (block_at bytes place)) (drop 8 (block_at bytes place)))
-    (short (block_at bytes place) place lacks)
+    (rw (ne_eqb (length (block_at bytes place)) 512 lacks))
 
 -- whether a block is shut, case by case
 module _ (bytes : List ℕ) (place index : ℕ) where

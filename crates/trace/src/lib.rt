@@ -11,31 +11,31 @@ mod writer;
 
 use blocks::is_framed;
 pub use traced::Traced;
-use traced::{Decoded, decode};
-pub use writer::{Writer, Wrote, append, close};
+use traced::decode;
+pub use writer::{Refused, Writer, Wrote, append, close};
 
 // Where a reader stands: a block's place in the trace, and an entry's in the block, both from 0.
-#[derive(Clone, Copy)]
+#[derive(Clone, Copy, Debug, PartialEq, Eq)]
 pub struct Cursor {
     pub place: u64,
     pub index: u8,
 }
 
-// The entry at the reader's place, or that the block there is damaged, each with the reader's next place; or the end.
-#[derive(Clone, Copy)]
-pub enum Step {
-    Entry(Traced, Cursor),
-    Damaged(Cursor),
-    End,
+// A block that isn't laid out well, which hands out no entry.
+#[derive(Clone, Copy, Debug, PartialEq, Eq)]
+pub struct Damaged;
+
+// What stands at the reader's place, and the reader's next place.
+#[derive(Clone, Copy, Debug, PartialEq, Eq)]
+pub struct Step {
+    pub found: Result<Traced, Damaged>,
+    pub next: Cursor,
 }
 
 fn is_entry(bytes: &[u8], at: u64) -> bool
     ensures { result ≡ entry_well (take 32 (drop at bytes.now)) }
 {
-    match decode(bytes, at) {
-        Decoded::Entry(_) => true,
-        Decoded::Malformed => false,
-    }
+    decode(bytes, at).is_some()
 }
 
 // So many entries from byte 8.
@@ -43,14 +43,10 @@ fn entries_well(block: &[u8], count: u8) -> bool
     requires { (8 + 32 * count ≤ length block.now) × (count ≤ 15) }
     ensures { result ≡ entries_well entry_well count (drop 8 block.now) }
 {
-    let mut left = count;
-    let mut at: u64 = 8;
-    while 0 < left {
-        if !is_entry(block, at) {
+    for i in 0..count {
+        if !is_entry(block, 8 + 32 * u64::from(i)) {
             return false;
         }
-        at += 32;
-        left -= 1;
     }
     true
 }
@@ -125,21 +121,28 @@ fn is_past(bytes: &[u8], place: u64) -> bool
     (whole < place) | ((whole == place) & (bytes.len() % 512 == 0))
 }
 
-// The next entry in order, or the next damaged block.
-pub fn next(bytes: &[u8], cursor: Cursor) -> Step
+// The next entry in order, or the next damaged block; nothing at the end of the trace.
+pub fn next(bytes: &[u8], cursor: Cursor) -> Option<Step>
     ensures { reader_step_of result ≡ step_at bytes.now cursor.place cursor.index }
 {
     let place = cursor.place;
     let index = cursor.index;
     if is_past(bytes, place) {
-        return Step::End;
+        return None;
     }
+    let damaged = Step {
+        found: Err(Damaged),
+        next: next_block(place),
+    };
     if is_shut(bytes, place, index) {
-        return Step::Damaged(next_block(place));
+        return Some(damaged);
     }
     let at = 512 * place + 8 + 32 * index as u64;
-    let Decoded::Entry(e) = decode(bytes, at) else {
-        return Step::Damaged(next_block(place));
+    let Some(e) = decode(bytes, at) else {
+        return Some(damaged);
     };
-    Step::Entry(e, behind(bytes, place, index))
+    Some(Step {
+        found: Ok(e),
+        next: behind(bytes, place, index),
+    })
 }

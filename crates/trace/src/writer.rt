@@ -7,20 +7,23 @@ use blocks::finish;
 use traced::{Traced, encode, is_well};
 
 // So many entries stand in the buffer, and the number of their block. A trace begins with 0 and 0.
-#[derive(Clone, Copy)]
+#[derive(Clone, Copy, Debug, PartialEq, Eq)]
 pub struct Writer {
     pub count: u8,
     pub number: u64,
 }
 
-#[derive(Clone, Copy)]
+// A buffer that isn't 512 bytes, an entry that isn't laid out well, or a writer of no trace: nothing was done.
+#[derive(Clone, Copy, Debug, PartialEq, Eq)]
+pub struct Refused;
+
+// The writer to go on with.
+#[derive(Clone, Copy, Debug, PartialEq, Eq)]
 pub enum Wrote {
     // There is nothing to take from the buffer yet.
     Kept(Writer),
     // The buffer holds a block, to be taken before the next call.
     Full(Writer),
-    // A buffer that isn't 512 bytes, an entry that isn't laid out well, or a writer of no trace: nothing was done.
-    Refused,
 }
 
 fn is_unfit(w: Writer, len: usize) -> bool
@@ -30,39 +33,39 @@ fn is_unfit(w: Writer, len: usize) -> bool
 }
 
 // An entry behind those that the buffer holds.
-pub fn append(w: Writer, buffer: &mut [u8], e: Traced) -> Wrote
+pub fn append(w: Writer, buffer: &mut [u8], e: Traced) -> Result<Wrote, Refused>
     ensures { (wrote_of result, buffer.new) ≡ appending w buffer.old e }
 {
     if is_unfit(w, buffer.len()) | !is_well(e) {
-        return Wrote::Refused;
+        return Err(Refused);
     }
     encode(buffer, 8 + 32 * w.count as u64, e);
     if w.count < 14 {
-        return Wrote::Kept(Writer {
+        return Ok(Wrote::Kept(Writer {
             count: w.count + 1,
-            number: w.number,
-        });
+            ..w
+        }));
     }
     finish(buffer, w.number, 15);
-    Wrote::Full(Writer {
+    Ok(Wrote::Full(Writer {
         count: 0,
         number: w.number + 1,
-    })
+    }))
 }
 
 // The last block, which may have fewer than 15 entries; there is none where no entry waits.
-pub fn close(w: Writer, buffer: &mut [u8]) -> Wrote
+pub fn close(w: Writer, buffer: &mut [u8]) -> Result<Wrote, Refused>
     ensures { (wrote_of result, buffer.new) ≡ closing w buffer.old }
 {
     if is_unfit(w, buffer.len()) {
-        return Wrote::Refused;
+        return Err(Refused);
     }
     if w.count == 0 {
-        return Wrote::Kept(w);
+        return Ok(Wrote::Kept(w));
     }
     finish(buffer, w.number, w.count);
-    Wrote::Full(Writer {
+    Ok(Wrote::Full(Writer {
         count: 0,
         number: w.number + 1,
-    })
+    }))
 }

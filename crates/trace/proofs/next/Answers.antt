@@ -59,13 +59,10 @@ overflow_add-at c = omega (arith, whole (goal.at.overflow_add-at c).Else-is_shut
 pub overflow_add-at-2 : goal.overflow_add-at-2
 overflow_add-at-2 c = omega (arith, whole (goal.at.overflow_add-at-2 c).Else-is_shut, few (goal.at.overflow_add-at-2 c).Else-is_shut)
 
-pub next_block-requires-in_default : goal.next_block-requires-in_default
-next_block-requires-in_default c = omega (arith, further (goal.at.next_block-requires-in_default c).Else-is_past)
-
 pub returns-in_default : goal.returns-in_default
 returns-in_default c =
     let a = c.args in
-    ap damaged c.next_block-in_default.ensures
+    ap damaged c.next_block.ensures
     ∙ at-malformed a.bytes.now a.cursor.place a.cursor.index (more (goal.at.returns-in_default c).Else-is_past)
     (unshut (goal.at.returns-in_default c).Else-is_shut)
     (sym (ap decoded_of c.in_default.is) ∙ c.decode.ensures)
@@ -77,6 +74,6 @@ behind-requires c =
 pub returns : goal.returns
 returns c =
     let a = c.args in
-    ap (λ (n : Cursor). entry c.in-Entry.e n) c.behind.ensures
+    ap (λ (n : Cursor). entry c.in-Some.e n) c.behind.ensures
     ∙ at_entry a.bytes.now a.cursor.place a.cursor.index (more (goal.at.returns c).Else-is_past) (unshut (goal.at.returns c).Else-is_shut)
-    (sym (ap decoded_of c.in-Entry.is) ∙ c.decode.ensures)
+    (sym (ap decoded_of c.in-Some.is) ∙ c.decode.ensures)
