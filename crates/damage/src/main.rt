@@ -1,11 +1,10 @@
 // Blocks of a trace, each byte of each changed to every other value: how many of them the reader names as damaged.
 #![tactic(auto)]
 
-ghost use Rattle.std.specs.Prelude.{◌<◌};
+ghost use Rattle.std.specs.Prelude.{◌<◌, ◌≤◌};
 
 use std::io;
-use std::num::wrapping_add_u64;
-use trace::{Traced, Writer, Wrote, append, close, is_damaged};
+use trace::{Refused, Traced, Writer, Wrote, append, close, is_damaged};
 
 // A read that is granted.
 fn granted_read() -> Traced {
@@ -61,73 +60,51 @@ fn entry(i: u8) -> Traced {
     }
 }
 
-fn put(w: Writer, buffer: &mut [u8; 512], e: Traced) -> Wrote {
-    append(w, buffer, e)
-}
-
-fn finish(w: Writer, buffer: &mut [u8; 512]) -> Wrote {
-    close(w, buffer)
-}
-
-fn damaged(block: &[u8; 512]) -> bool {
-    is_damaged(block, 0)
-}
-
 // A block of n entries with a number.
 fn block(n: u8, number: u64) -> [u8; 512] {
     let mut buffer = [0xA5u8; 512];
     let mut w = Writer { count: 0, number };
-    let mut i: u8 = 0;
-    while i < n {
-        let wrote = put(w, &mut buffer, entry(i));
-        match wrote {
-            Wrote::Kept(next) => w = next,
-            Wrote::Full(next) => w = next,
-            Wrote::Refused => return buffer,
+    for i in 0..n {
+        match append(w, &mut buffer, entry(i)) {
+            Ok(Wrote::Kept(next) | Wrote::Full(next)) => w = next,
+            Err(Refused) => return buffer,
         }
-        i += 1;
     }
-    let _ = finish(w, &mut buffer);
+    let _ = close(w, &mut buffer);
     buffer
 }
 
 // How often a block is named where its byte at an index has another value.
 fn named(start: [u8; 512], at: usize) -> u64
     requires { at < 512 }
+    ensures { result ≤ 255 }
 {
     let mut block = start;
-    let mut count: u64 = 0;
+    let mut count = 0;
     let was = block[at];
-    let mut d: u8 = 255;
-    while 0 < d {
+    for d in 1..=255u8 {
         block[at] = was ^ d;
-        if damaged(&block) {
-            count = wrapping_add_u64(count, 1);
+        if is_damaged(&block, 0) {
+            count += 1;
         }
-        d -= 1;
     }
     count
 }
 
-fn try_all(rt: &impl Print, name: &[u8], block: [u8; 512]) -> io::Result<()> {
-    rt.write_all(name)?;
-    if damaged(&block) {
-        return rt.write_all(b": damaged as written\n");
+fn try_all(rt: &impl Print, name: &str, block: [u8; 512]) -> io::Result<()> {
+    if is_damaged(&block, 0) {
+        return println!(rt; "{name}: damaged as written");
     }
-    let mut count: u64 = 0;
-    let mut at: usize = 0;
-    while at < 512 {
-        count = wrapping_add_u64(count, named(block, at));
-        at += 1;
+    let mut count = 0;
+    for at in 0..512usize {
+        count += named(block, at);
     }
-    rt.write_all(b": of 130560 changed by one byte ")?;
-    rt.print(count)?;
-    rt.write_all(b" are named\n")
+    println!(rt; "{name}: of 130560 changed by one byte {count} are named")
 }
 
 fn main(rt: HostRuntime) -> io::Result<()> {
-    try_all(&rt, b"1 entry", block(1, 0))?;
-    try_all(&rt, b"4 entries", block(4, 0))?;
-    try_all(&rt, b"14 entries", block(14, 0))?;
-    try_all(&rt, b"15 entries", block(15, 0))
+    try_all(&rt, "1 entry", block(1, 0))?;
+    try_all(&rt, "4 entries", block(4, 0))?;
+    try_all(&rt, "14 entries", block(14, 0))?;
+    try_all(&rt, "15 entries", block(15, 0))
 }
