@@ -8,19 +8,16 @@ use native.Mathlib.Omega.{arith}
 use borrow.Author.Tests.{eq-eqb, ne_eqb}
 use lib.ListN.{length}
 use Rattle.image.specs.Bits.{bit}
-use Rattle.std.specs.Prelude.{if◌then◌else◌}
+use Rattle.std.specs.Prelude.{if◌then◌else◌, Option, Some, None}
 use Rattle.image.specs.Memory.{missing, found, entry}
 use Rattle.image.specs.Rules.{run}
 use Rattle.image.specs.Windows.{windows_of, here, on_spot, spot_in, of_windows, bad_windows}
 use Rattle.image.proofs.Choices.{neither}
 use Rattle.registers.specs.Registers.{registers_bad}
 use Rattle.registers.specs.declared.Registers.{Registers}
-use Rattle.takes.specs.Answers.{take_outcome_of}
+use Rattle.takes.specs.Answers.{handed_of}
 use Rattle.takes.specs.Take.{TakeOutcome, handed, refused, highest, take_rules, clear_bit, take_written, take_answer}
-use Rattle.takes.specs.declared.TakeAnswer.{TakeAnswer}
-use Rattle.takes.specs.declared.TakeAnswer.TheVariants.{Vector, Nothing, Refused}
 use Rattle.interrupts.proofs.Exact.{at_place}
-use Rattle.takes.proofs.Highest.{finds}
 use Rattle.takes.proofs.Takes.{handed-there, none-there}
 
 either-one : (a b : Bool) → (a || b) ≡ true → (a ≡ true) ⊎ (b ≡ true)
@@ -81,8 +78,6 @@ module _ (windows image : List ℕ) (descriptor : ℕ) {at k left : ℕ} (found_
   handed-at vector = rw (at_place windows image descriptor found_at there) (sym (handed-there windows image descriptor there vector))
 
   -- an answer that is no vector leaves all but ON
-  pub no-vector : (n : ℕ) (test : ℕ → Bool) (r : TakeAnswer) → ((v : ℕ) → r ≡ Vector v → ⊥)
-      → take_outcome_of r ≡ highest n test → clear_bit at 256 image ≡ take_written windows descriptor (take_outcome_of r) image
-  no-vector n test (Vector v) h e = absurd (h v refl)
-  no-vector n test Nothing h e = rw (at_place windows image descriptor found_at there) (sym (none-there windows image descriptor there))
-  no-vector n test (Refused number) h e = absurd (rw (← e) at (finds test n))
+  pub no-vector : (r : Option ℕ) → ((v : ℕ) → r ≡ Some v → ⊥) → clear_bit at 256 image ≡ take_written windows descriptor (handed_of r) image
+  no-vector (Some v) h = absurd (h v refl)
+  no-vector None h = rw (at_place windows image descriptor found_at there) (sym (none-there windows image descriptor there))

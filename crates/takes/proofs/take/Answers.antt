@@ -4,12 +4,12 @@ use mathlib.Core.List.{List}
 use mathlib.Core.Path.{◌≡◌, refl, ap, ap₂, sym, ◌∙◌}
 use native.Mathlib.Omega.{arith}
 use lib.ListN.{length}
-use Rattle.image.specs.Answers.{number64, fetched64}
+use Rattle.image.specs.Answers.{number64}
 use Rattle.image.specs.Windows.{bad_windows}
 use Rattle.image.proofs.WindowEntries.{WholeAt, whole-at}
 use Rattle.registers.specs.declared.Registers.{Registers}
 use Rattle.interrupts.proofs.Exact.{at-inside}
-use Rattle.takes.specs.Answers.{take_outcome_of}
+use Rattle.takes.specs.Answers.{handed_of}
 use Rattle.takes.specs.Take.{TakeOutcome, clear_bit, take_written}
 use Rattle.takes.proofs.Decide.{Answers, bad, refuses-1, good, unaligned, outside, answered, handed-at, no-vector}
 use Rattle.takes.proofs.Stores.{length-clear_bit}
@@ -54,7 +54,7 @@ pub returns-in_default : goal.returns-in_default
 returns-in_default c =
     let a = c.args in
     let told = outside a.registers a.descriptor a.windows.now a.image.now (fine (goal.at.returns-in_default c).After-fetch64) c.if-descriptor-ne0.false
-    (sym c.fetch64.ensures.result_value ∙ ap fetched64 c.in_default.is) in
+    (sym c.in_default.ensures.result_value) in
     record { result_value = told.0; image_after = told.1 }
 
 pub place64-at-requires : goal.place64-at-requires
@@ -82,46 +82,46 @@ module _ (c : After-place64-at) where
   fits : bad_windows windows (length image) ≡ false
   fits = good registers descriptor windows image no-refusal
 
-  stands : WholeAt windows image 64 descriptor (number64 c.in-Entry.d)
+  stands : WholeAt windows image 64 descriptor (number64 c.in-Ok.d)
   stands =
       let aligned : descriptor % 64 ≡ 0 = c.if-descriptor-ne0.false in
       whole-at windows image fits 7 descriptor (omega arith)
-      (sym c.fetch64.ensures.result_value ∙ ap fetched64 c.in-Entry.is)
+      (sym c.in-Ok.ensures.result_value)
 
   whole : c.place64-at.result + 64 ≤ length image
   whole = at-inside windows image descriptor c.place64-at.ensures stands.spot fits
 
   -- what the highest bit makes of the answer
-  by-highest : {o : TakeOutcome} {after : List ℕ} → o ≡ take_outcome_of c.highest_request-answer.result
+  by-highest : {o : TakeOutcome} {after : List ℕ} → o ≡ handed_of c.highest_request-handed.result
       → after ≡ take_written windows descriptor o image → Answers registers descriptor windows image o after
   by-highest said left =
       answered registers descriptor windows image no-refusal c.if-descriptor-ne0.false
-      (sym c.fetch64.ensures.result_value ∙ ap fetched64 c.in-Entry.is) (said ∙ c.highest_request-answer.ensures) left
+      (sym c.in-Ok.ensures.result_value) (said ∙ c.highest_request-handed.ensures) left
 
 pub clear_bit-requires : goal.clear_bit-requires
 clear_bit-requires c = let w = whole (goal.at.clear_bit-requires c).After-place64-at in omega (arith, w)
 
-pub clear_bit-requires-in-Vector : goal.clear_bit-requires-in-Vector
-clear_bit-requires-in-Vector c =
+pub clear_bit-requires-in-Some : goal.clear_bit-requires-in-Some
+clear_bit-requires-in-Some c =
     let kept = ap length c.clear_bit.ensures ∙ length-clear_bit c.args.image.now c.place64-at.result 256 in
-    let w = whole (goal.at.clear_bit-requires-in-Vector c).After-place64-at in
+    let w = whole (goal.at.clear_bit-requires-in-Some c).After-place64-at in
     omega (arith, kept, w)
 
-pub returns-in-Vector : goal.returns-in-Vector
-returns-in-Vector c =
+pub returns-in-Some : goal.returns-in-Some
+returns-in-Some c =
     let a = c.args in
-    let p = (goal.at.returns-in-Vector c).After-place64-at in
-    let vector = c.in-Vector.vector in
-    let told = by-highest p (ap take_outcome_of (sym c.in-Vector.is))
-    (c.clear_bit-in-Vector.ensures ∙ ap (clear_bit c.place64-at.result vector) c.clear_bit.ensures
+    let p = (goal.at.returns-in-Some c).After-place64-at in
+    let vector = c.in-Some.vector in
+    let told = by-highest p (ap handed_of (sym c.in-Some.is))
+    (c.clear_bit-in-Some.ensures ∙ ap (clear_bit c.place64-at.result vector) c.clear_bit.ensures
     ∙ handed-at a.windows.now a.image.now a.descriptor c.place64-at.ensures (stands p).spot vector) in
     record { result_value = told.0; image_after = told.1 }
 
-pub returns-in_default-answer : goal.returns-in_default-answer
-returns-in_default-answer c =
+pub returns-in_default-handed : goal.returns-in_default-handed
+returns-in_default-handed c =
     let a = c.args in
-    let p = (goal.at.returns-in_default-answer c).After-place64-at in
+    let p = (goal.at.returns-in_default-handed c).After-place64-at in
     let told = by-highest p refl
     (c.clear_bit.ensures
-    ∙ no-vector a.windows.now a.image.now a.descriptor c.place64-at.ensures (stands p).spot 256 _ c.highest_request-answer.result c.in_default-answer.not-Vector c.highest_request-answer.ensures) in
+    ∙ no-vector a.windows.now a.image.now a.descriptor c.place64-at.ensures (stands p).spot c.highest_request-handed.result c.in_default-handed.not-Some) in
     record { result_value = told.0; image_after = told.1 }
