@@ -4,7 +4,7 @@ use mathlib.Core.Bool.{Bool, true, false}
 use mathlib.Core.List.{List}
 use mathlib.Core.Path.{◌≡◌, refl}
 use native.Mathlib.Omega.{arith}
-use borrow.Author.Tests.{eqb-true, ltb-true}
+use borrow.Author.Tests.{eqb-true}
 use lib.Dec.{eqb, ltb}
 use lib.ListN.{length}
 use Rattle.dma.specs.declared.MemoryRequest.{MemoryRequest}
@@ -15,9 +15,6 @@ use Rattle.cache.specs.Numbers.{caches, newest}
 
 pub cache-long : (state : List ℕ) (request : MemoryRequest) → caches state request ≡ true → length state ≡ words
 cache-long state request h = eqb-true (length state) words (both (eqb (length state) words) (ltb request.address (2 ^ 57)) h).0
-
-pub cache-near : (state : List ℕ) (request : MemoryRequest) → caches state request ≡ true → request.address < 2 ^ 57
-cache-near state request h = ltb-true request.address (2 ^ 57) (both (eqb (length state) words) (ltb request.address (2 ^ 57)) h).1
 
 -- where something answers, the state caches the request
 pub newest-caches : (state : List ℕ) (request : MemoryRequest) → newest state request < 64 → caches state request ≡ true

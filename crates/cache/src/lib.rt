@@ -14,13 +14,11 @@ ghost use Rattle.cache.specs.Numbers.{state_kept, cached_answer, cached_place, c
 mod keys;
 mod state;
 
-use dma::{
-    Lookup, MemoryAnswer, MemoryRequest, Translation, answer, find_context, translate_in,
-    without_context,
-};
+use dma::{MemoryAnswer, MemoryRequest, Translation, answer, find_context, translate_in};
+use faults::{Reason, Stop};
 use image::{Span, bad_windows, first_span};
 use places::{WORDS, clear, sift};
-use registers::{Admission, Registers, admit, in_interrupt_range};
+use registers::{Admission, Refusal, Registers, admit, in_interrupt_range};
 use state::{held_address, keep, newest};
 
 // The translation, where nothing that is held answers; a page that is granted is held.
@@ -31,19 +29,17 @@ fn translate_and_keep(
     registers: Registers,
     request: MemoryRequest,
     state: &mut [u64],
-) -> Translation
+) -> Result<Translation, Stop<Reason>>
     requires { Opened first windows.now (length image.now) × (registers.root_table % 4096 ≡ 0) }
     ensures result_value { translation_of result ≡ run (translation_rules registers request.address request.write request.source.id) (of_windows windows.now image.now) }
     ensures names { Names result (stopped_at (translation_rules registers request.address request.write request.source.id) (of_windows windows.now image.now)) }
     ensures state_after { state.new ≡ state_kept state.old request (run (translation_rules registers request.address request.write request.source.id) (of_windows windows.now image.now)) (domain_over registers request.source.id (of_windows windows.now image.now)) }
 {
-    let found = find_context(first, windows, image, registers, request.source);
-    let Lookup::Found(context, at) = found else {
-        return without_context(found);
-    };
-    let translated = translate_in(first, windows, image, registers, request, context, at);
+    let found = find_context(first, windows, image, registers, request.source)?;
+    let context = found.context;
+    let translated = translate_in(first, windows, image, registers, request, context, found.at)?;
     keep(state, request, translated, context.domain);
-    translated
+    Ok(translated)
 }
 
 // Where a read or a write of a device may go, from what is held or by the walk.
@@ -59,14 +55,13 @@ pub fn cached_request(
     ensures state_after { state.new ≡ cached_state registers state.old request windows.now image.now }
 {
     if bad_windows(windows, image.len()) {
-        return MemoryAnswer::Refused(1);
+        return MemoryAnswer::Refused(Refusal::BadRegisters);
     }
     match admit(registers, in_interrupt_range(request.address), registers.te) {
-        Admission::Refused(number) => MemoryAnswer::Refused(number),
-        Admission::Passed => MemoryAnswer::Granted(request.address),
-        Admission::Taken => {
-            let age = newest(state, request);
-            if age < 64 {
+        Err(refusal) => MemoryAnswer::Refused(refusal),
+        Ok(Admission::Passed) => MemoryAnswer::Granted(request.address),
+        Ok(Admission::Taken) => {
+            if let Some(age) = newest(state, request) {
                 return MemoryAnswer::Granted(held_address(state, age, request.address));
             }
             let first = first_span(windows);
@@ -86,6 +81,7 @@ pub fn invalidate_all(state: &mut [u64])
 }
 
 // Nothing of a domain is held any more. A state of another length stays as it is.
+#[tactic(auto, unfolding(crate::specs::Numbers::state_without))]
 pub fn invalidate_domain(state: &mut [u64], domain: u16)
     ensures { state.new ≡ state_without state.old domain }
 {

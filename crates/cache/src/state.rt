@@ -1,5 +1,5 @@
 // What a lent state answers and takes in.
-ghost use Rattle.std.specs.Prelude.{◌<◌, min, ◌≡◌, length};
+ghost use Rattle.std.specs.Prelude.{◌<◌, ◌≤◌, ◌≡◌, length, MatchOption, Ok};
 ghost use Rattle.dma.specs.Answers.{translation_of};
 ghost use Rattle.dma.specs.Translation.{leaf, Reachable};
 ghost use Rattle.places.specs.Layout.{words};
@@ -9,32 +9,26 @@ use crate::keys::{key, large_key, medium_key, small_key};
 use dma::{MemoryRequest, Translation, meets_interrupt_range};
 use places::{WORDS, age_of_key, hold};
 
-fn smaller(a: u64, b: u64) -> u64
-    ensures { result ≡ min a b }
-{
-    if a < b { a } else { b }
-}
-
 fn caches(state: &[u64], request: MemoryRequest) -> bool
     ensures { result ≡ caches state.now request }
 {
     (state.len() == WORDS) & (request.address < 0x200_0000_0000_0000)
 }
 
-// The age of the newest place that fits, 64 where there is none.
-pub(crate) fn newest(state: &[u64], request: MemoryRequest) -> u64
-    ensures { result ≡ newest state.now request }
+// The age of the newest place that fits. The 64 that stands for no place is older than any, so the least of three ages needs no other test.
+pub(crate) fn newest(state: &[u64], request: MemoryRequest) -> Option<u64>
+    ensures { MatchOption result (64 ≤ newest state.now request) (λ age. (age ≡ newest state.now request) × (age < 64)) }
 {
     if !caches(state, request) {
-        return 64;
+        return None;
     }
     let small = small_key(request);
     let medium = medium_key(request, small);
     let large = large_key(request, small);
-    smaller(
-        age_of_key(state, small),
-        smaller(age_of_key(state, medium), age_of_key(state, large)),
-    )
+    let age = age_of_key(state, small)
+        .min(age_of_key(state, medium))
+        .min(age_of_key(state, large));
+    (age < 64).then_some(age)
 }
 
 // A frame, and the address's low bits by the level of a key.
@@ -68,12 +62,10 @@ fn keep_page(state: &mut [u64], request: MemoryRequest, frame: u64, level: u32, 
 }
 
 pub(crate) fn keep(state: &mut [u64], request: MemoryRequest, translated: Translation, domain: u16)
-    requires { Reachable (translation_of translated) }
-    ensures { state.new ≡ state_kept state.old request (translation_of translated) domain }
+    requires { Reachable (translation_of (Ok translated)) }
+    ensures { state.new ≡ state_kept state.old request (translation_of (Ok translated)) domain }
 {
-    match translated {
-        Translation::Leaf(frame, level) => keep_page(state, request, frame, level, domain),
-        Translation::Through => {}
-        Translation::Fault(_, _, _) => {}
+    if let Translation::Leaf(frame, level) = translated {
+        keep_page(state, request, frame, level, domain);
     }
 }

@@ -1,51 +1,42 @@
-use mathlib.Core.Path.{◌≡◌, ap, ap₂, sym, ◌∙◌}
-use mathlib.Core.Bool.{true}
-use Prim.Native.Nat.{◌^◌, ◌<◌, min}
-use lib.ListN.{length}
-use Rattle.places.specs.Layout.{words}
+use Prim.Native.Nat.{ℕ, ◌<◌, ◌≤◌}
+use mathlib.Core.Bool.{Bool, true, false}
+use mathlib.Core.Path.{◌≡◌, refl, ap, sym, ◌∙◌}
+use native.Mathlib.Omega.{arith}
+use borrow.Author.Tests.{ltb-true, ltb-false}
+use lib.Dec.{ltb}
+use Rattle.std.specs.Prelude.{Option, MatchOption}
+use Rattle.std.specs.Bool.{then_some}
 use Rattle.places.specs.Chain.{age_of_key}
-use Rattle.cache.specs.Numbers.{caches, newest}
-use Rattle.cache.proofs.Caches.{cache-long, cache-near}
-use Rattle.cache.proofs.state.newest.Goals.{Else-not-caches}
+use Rattle.cache.specs.Numbers.{newest}
+use Rattle.cache.proofs.state.newest.Goals.{After-then_some}
 use Rattle.cache.proofs.state.newest.Goals as goal
 
--- the state caches the request
-held : (c : Else-not-caches) → caches c.args.state.now c.args.request ≡ true
-held c = sym c.caches.ensures ∙ c.if-not-caches.false
+-- an age below 64 is that of a place
+abbrev Told : ℕ → Option ℕ → Type 0
+Told n o = MatchOption o (64 ≤ n) (λ age. (age ≡ n) × (age < 64))
 
-long : (c : Else-not-caches) → length c.args.state.now ≡ words
-long c = cache-long c.args.state.now c.args.request (held c)
-
-near : (c : Else-not-caches) → c.args.request.address < 2 ^ 57
-near c = cache-near c.args.state.now c.args.request (held c)
+told : (n : ℕ) → Told n (then_some (ltb n 64) n)
+told n = by (ltb n 64) refl
+  where
+    by : (few : Bool) → ltb n 64 ≡ few → Told n (then_some few n)
+    by true few = (refl, ltb-true _ _ few)
+    by false many = ltb-false _ _ many
 
 pub returns-then-not-caches : goal.returns-then-not-caches
 unfolding newest
-returns-then-not-caches c = let none = sym c.caches.ensures ∙ c.if-not-caches.true in rw none
+returns-then-not-caches c = rw (sym c.caches.ensures ∙ c.if-not-caches.true) (omega arith)
 
-pub small_key-small-requires : goal.small_key-small-requires
-small_key-small-requires c = near (goal.at.small_key-small-requires c).Else-not-caches
-
-pub medium_key-medium-requires : goal.medium_key-medium-requires
-medium_key-medium-requires c = (near (goal.at.medium_key-medium-requires c).Else-not-caches, c.small_key-small.ensures)
-
-pub large_key-large-requires : goal.large_key-large-requires
-large_key-large-requires c = (near (goal.at.large_key-large-requires c).Else-not-caches, c.small_key-small.ensures)
-
-pub age_of_key-requires : goal.age_of_key-requires
-age_of_key-requires c = long (goal.at.age_of_key-requires c).Else-not-caches
-
-pub age_of_key-requires-2 : goal.age_of_key-requires-2
-age_of_key-requires-2 c = long (goal.at.age_of_key-requires-2 c).Else-not-caches
-
-pub age_of_key-requires-3 : goal.age_of_key-requires-3
-age_of_key-requires-3 c = long (goal.at.age_of_key-requires-3 c).Else-not-caches
-
-pub returns : goal.returns
+-- the least of the three ages
+least : (c : After-then_some) → c.min-age.result ≡ newest c.args.state.now c.args.request
 unfolding newest
-returns c =
+least c =
     let st = c.args.state.now in
     let first = c.age_of_key.ensures ∙ ap (age_of_key st) c.small_key-small.ensures in
     let second = c.age_of_key-2.ensures ∙ ap (age_of_key st) c.medium_key-medium.ensures in
     let third = c.age_of_key-3.ensures ∙ ap (age_of_key st) c.large_key-large.ensures in
-    rw (held (goal.at.returns c).Else-not-caches) (c.smaller-2.ensures ∙ ap₂ min first (c.smaller.ensures ∙ ap₂ min second third))
+    rw (sym c.caches.ensures ∙ c.if-not-caches.false) (omega (arith, first, second, third))
+
+pub returns : goal.returns
+returns c =
+    let is = least (goal.at.returns c).After-then_some in
+    rw (c.then_some.ensures, ← is) (told c.min-age.result)
