@@ -7,12 +7,16 @@ use native.Mathlib.Omega.{arith}
 use lib.Dec.{T, eqb, eqb→eq}
 use lib.ListN.{length, get_or, set, drop}
 use lib.Ieee.{Float}
+use Rattle.std.specs.List.{zip, list_all, list_any, range_with_len}
+use Rattle.std.proofs.lemmas.List.Folds.{list_all-map}
+use Rattle.std.proofs.lemmas.List.FromFn.{fill_by_all}
+use Rattle.std.proofs.lemmas.Slice.Zip.{length-zip, get_or-zip}
 use Rattle.meter.specs.declared.Meter.{Meter}
 use Rattle.meter.specs.Meter.{nought, ticked, meter_byte}
 use Rattle.meter.specs.Refused.{some, bad_count, bad_meter}
 use Rattle.meter.specs.Row.{ticked_all, tick_row}
 use Rattle.meter.proofs.Rows as rows
-use Rattle.meter.proofs.Rows.{fit, all_fit, steps, marks, steps-length, steps_next, marks-next, all_fit-next, fits_all, steps_all, marks-all, both_true, even}
+use Rattle.meter.proofs.Rows.{fit, steps, marks, steps-length, steps_next, marks-next, fits_all, steps_all, marks-all, both_true, even}
 use Rattle.packing.specs.Status.{ok, bad_meters, meters_refused}
 use Rattle.meter.specs.declared.Gate.TheVariants.{Off}
 use Rattle.galitzaf.specs.Meters.{meter_of, row_of, loads_of, malformed_meters, tick_status, tick_meters_call}
@@ -29,54 +33,11 @@ pub record Matched (ks : List ℕ) (ls hs xs : List Float) (cs bs : List ℕ) : 
 abbrev none : Meter
 none = record { load = nought; gate = Off }
 
--- ---- the first i of a list
--- one of them passes a test
-unfoldable pub among : {A : Type 0} → (A → Bool) → ℕ → List A → Bool
-among test zero xs = false
-among test (suc i) [] = false
-among test (suc i) (x ∷ xs) = test x || among test i xs
-
-or-more : (a b c : Bool) → (a || b || c) ≡ (a || (b || c))
-or-more true b c = refl
-or-more false b c = refl
-
-pub among_next : {A : Type 0} (test : A → Bool) (i : ℕ) (xs : List A) (d : A) → i < length xs → (among test i xs || test (get_or xs i d)) ≡ among test (suc i) xs
-unfolding among
-among_next test i [] d l = absurd (omega arith)
-among_next test zero (x ∷ xs) d l = right (test x)
-  where
-    right : (a : Bool) → (false || a) ≡ (a || false)
-    right true = refl
-    right false = refl
-among_next test (suc i) (x ∷ xs) d l = or-more (test x) (among test i xs) (test (get_or xs i d)) ∙ ap (λ (t : Bool). test x || t) (among_next test i xs d (omega arith))
-
-pub among-all : {A : Type 0} (test : A → Bool) (xs : List A) → among test (length xs) xs ≡ some test xs
-unfolding among some
-among-all test [] = refl
-among-all test (x ∷ xs) = ap (λ (t : Bool). test x || t) (among-all test xs)
-
--- they are 0
-unfoldable pub zeros : ℕ → List Float → List Float
-zeros zero xs = xs
-zeros (suc i) [] = []
-zeros (suc i) (x ∷ xs) = nought ∷ zeros i xs
-
-pub zeros-length : (i : ℕ) (xs : List Float) → length (zeros i xs) ≡ length xs
-unfolding zeros
-zeros-length zero xs = refl
-zeros-length (suc i) [] = refl
-zeros-length (suc i) (x ∷ xs) = ap suc (zeros-length i xs)
-
-pub zeros-next : (i : ℕ) (xs : List Float) → i < length xs → set (zeros i xs) i nought ≡ zeros (suc i) xs
-unfolding zeros
-zeros-next i [] l = absurd (omega arith)
-zeros-next zero (x ∷ xs) l = refl
-zeros-next (suc i) (x ∷ xs) l = ap (λ (t : List Float). nought ∷ t) (zeros-next i xs (omega arith))
-
-pub zeros-all : (xs : List Float) → zeros (length xs) xs ≡ map (λ _. nought) xs
-unfolding zeros
-zeros-all [] = refl
-zeros-all (x ∷ xs) = ap (λ (t : List Float). nought ∷ t) (zeros-all xs)
+-- a test that some of a list pass, as the library has it
+pub some_is_any : {A : Type 0} (test : A → Bool) (xs : List A) → list_any test xs ≡ some test xs
+unfolding some
+some_is_any test [] = refl
+some_is_any test (x ∷ xs) = ap (λ (t : Bool). test x || t) (some_is_any test xs)
 
 -- ---- the row
 pub row-length : (ks : List ℕ) (ls hs xs : List Float) → length (row_of ks ls hs xs) ≡ length xs
@@ -147,12 +108,6 @@ module _ (ks : List ℕ) (ls hs xs : List Float) (cs bs : List ℕ) (a : length 
   in-counts : i < length cs
   in-counts = subst (λ (n : ℕ). i < n) (sym e) l
 
-  pub looked : {good r : Bool} {m : Meter} → good ≡ all_fit i (row_of ks ls hs xs) cs → m ≡ here → r ≡ fit m (get_or cs i 0) → (good && r) ≡ all_fit (i + 1) (row_of ks ls hs xs) cs
-  looked g is f =
-      ap₂ (λ (s t : Bool). s && t) g (f ∙ ap (λ (m : Meter). fit m (get_or cs i 0)) (is ∙ row_at ks ls hs xs i d none a b c l))
-      ∙ all_fit-next i (row_of ks ls hs xs) cs none in_row in-counts
-      ∙ ap (λ (j : ℕ). all_fit j (row_of ks ls hs xs) cs) (one_more i)
-
   module _ {ys : List Float} (at : ys ≡ loads_of (steps i (row_of ks ls hs xs) cs)) {m n : Meter} (is : m ≡ meter_of (get_or ks i 0) (get_or ls i d) (get_or hs i d) (get_or ys i d)) (f : n ≡ ticked m (get_or cs i 0)) where
     same : m ≡ get_or (steps i (row_of ks ls hs xs) cs) i none
     same =
@@ -220,10 +175,21 @@ module _ (ks : List ℕ) (ls hs xs : List Float) (cs bs : List ℕ) where
       answer : List Float → List ℕ → ℕ × List Float × List ℕ
       answer us vs = (ok, us, vs)
 
-  -- after all turns of the two loops
-  pub all-looked : length cs ≡ length xs → all_fit (length xs) row cs ≡ not (some bad_count cs || some bad_meter row)
-  all-looked e = ap (λ (n : ℕ). all_fit n row cs) (sym (row-length ks ls hs xs)) ∙ fits_all row cs (e ∙ sym (row-length ks ls hs xs))
+  -- the row with its counts, place by place, and whether all fit
+  pub all-looked : length ks ≡ length xs → length ls ≡ length xs → length hs ≡ length xs → length cs ≡ length xs → (d : Float)
+      → list_all (λ i. fit (meter_of (get_or ks i 0) (get_or ls i d) (get_or hs i d) (get_or xs i d)) (get_or cs i 0)) (range_with_len 0 (length xs))
+      ≡ not (some bad_count cs || some bad_meter row)
+  all-looked a b c e d =
+      let place : ℕ → Meter × ℕ = λ i. (meter_of (get_or ks i 0) (get_or ls i d) (get_or hs i d) (get_or xs i d), get_or cs i 0) in
+      let fits : Meter × ℕ → Bool = λ p. fit p.0 p.1 in
+      let rows = row-length ks ls hs xs in
+      let long : length (zip row cs) ≡ length xs = omega (arith, length-zip row cs) in
+      let pairs : zip row cs ≡ map place (range_with_len 0 (length xs)) =
+      fill_by_all place (zip row cs) (length xs) (none, 0) long
+      (λ i l. get_or-zip row cs i (none, 0) (omega arith) (omega arith) ∙ ap (λ (m : Meter). (m, get_or cs i 0)) (sym (row_at ks ls hs xs i d none a b c l))) in
+      sym (list_all-map fits place (range_with_len 0 (length xs))) ∙ ap (list_all fits) (sym pairs) ∙ fits_all row cs (e ∙ sym rows)
 
+  -- after all turns of the loop
   pub loads-all : loads_of (steps (length xs) row cs) ≡ loads_of (ticked_all row cs)
   loads-all = ap loads_of (ap (λ (n : ℕ). steps n row cs) (sym (row-length ks ls hs xs)) ∙ steps_all row cs)
 

@@ -9,32 +9,26 @@ use packing::{BAD_METERS, METERS_REFUSED, OK};
 fn gate(kind: u8, low: f64, high: f64) -> Gate
     ensures { result ≡ gate_of kind low high }
 {
-    if kind == 0 {
-        return Gate::Off;
+    match kind {
+        0 => Gate::Off,
+        1 => Gate::Above(high),
+        _ => Gate::Outside(low, high),
     }
-    if kind == 1 {
-        return Gate::Above(high);
-    }
-    Gate::Outside(low, high)
 }
 
 fn meter(kind: u8, low: f64, high: f64, load: f64) -> Meter
     ensures { result ≡ meter_of kind low high load }
 {
-    let gate = gate(kind, low, high);
-    Meter { load, gate }
+    Meter {
+        load,
+        gate: gate(kind, low, high),
+    }
 }
 
 fn unknown_kind(kinds: &[u8]) -> bool
     ensures { result ≡ some (λ kind. ltb 2 kind) kinds.now }
 {
-    let mut unknown = false;
-    let mut i = 0usize;
-    while i < kinds.len() {
-        unknown = unknown | (2 < kinds[i]);
-        i += 1;
-    }
-    unknown
+    kinds.iter().any(|kind| 2 < *kind)
 }
 
 fn malformed_row(kinds: &[u8], lows: &[f64], highs: &[f64], loads: &[f64]) -> bool
@@ -49,13 +43,7 @@ fn all_fit(kinds: &[u8], lows: &[f64], highs: &[f64], loads: &[f64], counts: &[u
     requires { (length kinds.now ≡ length loads.now) × (length lows.now ≡ length loads.now) × (length highs.now ≡ length loads.now) × (length counts.now ≡ length loads.now) }
     ensures { result ≡ not (some bad_count counts.now || some bad_meter (row_of kinds.now lows.now highs.now loads.now)) }
 {
-    let mut good = true;
-    let mut i = 0usize;
-    while i < loads.len() {
-        good = good & fits(meter(kinds[i], lows[i], highs[i], loads[i]), counts[i]);
-        i += 1;
-    }
-    good
+    (0..loads.len()).all(|i| fits(meter(kinds[i], lows[i], highs[i], loads[i]), counts[i]))
 }
 
 #[unsafe(no_mangle)]
@@ -78,12 +66,10 @@ pub extern "C" fn galitzaf_tick_meters(
     if !all_fit(kinds, lows, highs, loads, counts) {
         return METERS_REFUSED;
     }
-    let mut i = 0usize;
-    while i < loads.len() {
-        let ticked = tick(meter(kinds[i], lows[i], highs[i], loads[i]), counts[i]);
-        loads[i] = ticked.load;
+    for (i, load) in loads.iter_mut().enumerate() {
+        let ticked = tick(meter(kinds[i], lows[i], highs[i], *load), counts[i]);
+        *load = ticked.load;
         bytes[i] = byte(ticked);
-        i += 1;
     }
     OK
 }
@@ -92,10 +78,6 @@ pub extern "C" fn galitzaf_tick_meters(
 pub extern "C" fn galitzaf_reset_meters(loads: &mut [f64]) -> u32
     ensures { (result, loads.new) ≡ reset_meters_call loads.old }
 {
-    let mut i = 0usize;
-    while i < loads.len() {
-        loads[i] = 0.0;
-        i += 1;
-    }
+    loads.fill(0.0);
     OK
 }

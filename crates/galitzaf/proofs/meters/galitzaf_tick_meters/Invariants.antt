@@ -1,6 +1,4 @@
-use Prim.Native.Nat.{◌≤◌, ◌-◌}
-use mathlib.Core.Path.{◌≡◌}
-use lib.ListN.{length}
+use Rattle.std.proofs.Common.{◌≡◌}
 use Rattle.meter.proofs.Rows.{steps, marks}
 use Rattle.galitzaf.specs.Meters.{row_of, loads_of}
 use Rattle.galitzaf.proofs.Arrays.{Matched}
@@ -8,8 +6,8 @@ use Rattle.galitzaf.proofs.meters.galitzaf_tick_meters.Given as goal
 
 -- every array has a place for each meter, and the first i of loads and bytes are ticked
 abbrev pub invariant-loop-i : goal.invariant-loop-i
-invariant-loop-i l =
-    Matched l.kinds l.lows l.highs l.initial.loads l.counts l.initial.bytes × (l.i ≤ length l.initial.loads) × (length l.loads ≡ length l.initial.loads) × (length l.bytes ≡ length l.initial.bytes) × (l.loads ≡ loads_of (steps l.i (row_of l.kinds l.lows l.highs l.initial.loads) l.counts)) × (l.bytes ≡ marks l.i (row_of l.kinds l.lows l.highs l.initial.loads) l.counts l.initial.bytes)
-
-abbrev pub decreases-loop-i : goal.decreases-loop-i
-decreases-loop-i l = length l.initial.loads - l.i
+invariant-loop-i l = record {
+  matched : Matched l.kinds l.lows l.highs l.initial.loads l.counts l.initial.bytes;
+  ticked : l.loads ≡ loads_of (steps l.i (row_of l.kinds l.lows l.highs l.initial.loads) l.counts);
+  marked : l.bytes ≡ marks l.i (row_of l.kinds l.lows l.highs l.initial.loads) l.counts l.initial.bytes;
+}
