@@ -1,4 +1,5 @@
 -- A translation request by what becomes of it at admission.
+use Rattle.std.specs.Prelude.{Option, Result}
 use Prim.Native.Nat.{ℕ}
 use mathlib.Core.Bool.{Bool, true, false}
 use mathlib.Core.List.{List}
@@ -13,12 +14,14 @@ use Rattle.image.proofs.Trees.{run-map}
 use Rattle.registers.specs.Admission.{Admitted, refusal, pass, taken_up, admission, in_interrupt_range}
 use Rattle.registers.specs.Registers.{registers_bad}
 use Rattle.registers.specs.declared.Registers.{Registers}
+use Rattle.faults.specs.declared.reason.Reason.{Reason}
+use Rattle.faults.specs.declared.stop.Stop.{Stop}
 use Rattle.translation.specs.Answers.{outcome_of, entry_of, completion_of, Names}
 use Rattle.translation.specs.Completion.{completion_rules}
 use Rattle.translation.specs.Requests.{TranslationOutcome, passed, refused, translation_outcome, request_rules, concerned, translation_answer, translation_answer_place}
 use Rattle.translation.specs.declared.TranslationAnswer.{TranslationAnswer}
 use Rattle.translation.specs.declared.TranslationRequest.{TranslationRequest}
-use Rattle.translation.specs.declared.completion.Completion.{Completion as CompletionCode}
+use Rattle.translation.specs.declared.step.Page.{Page}
 
 module _ (registers : Registers) (request : TranslationRequest) (m : Memory) where
   -- admission with the address's kind as the code found it
@@ -59,7 +62,7 @@ module _ (registers : Registers) (request : TranslationRequest) (windows bytes :
 
   -- a request taken up, by what its walk answers and what is made of that
   pub translation-taken : {wrong : Bool} → wrong ≡ in_interrupt_range request.address → taken_up ≡ admission registers wrong registers.te
-      → (r : TranslationAnswer) (t : CompletionCode)
+      → (r : TranslationAnswer) (t : Result (Option Page) (Stop Reason))
       → (outcome_of r ≡ translation_outcome request (completion_of t)) × ((place : Place) → Names t place → entry_of r ≡ concerned (outcome_of r) place)
       → (completion_of t ≡ run (completion_rules registers request.address request.source.id) (of_windows windows bytes))
       × Names t (stopped_at (completion_rules registers request.address request.source.id) (of_windows windows bytes))

@@ -1,7 +1,7 @@
 -- What one level of a translation request's walk makes of the entry that the code fetched, and the walk after it.
 use Prim.Native.Nat.{ℕ, suc, ◌-◌, ◌%◌, ◌<◌}
 use mathlib.Core.Bool.{Bool}
-use mathlib.Core.Path.{◌≡◌, subst}
+use mathlib.Core.Path.{◌≡◌}
 use native.Mathlib.Omega.{arith}
 use Rattle.image.specs.Bits.{in_place}
 use Rattle.image.specs.Memory.{Memory, Fetched, missing, found, entry, on_fetch}
@@ -12,15 +12,9 @@ use Rattle.dma.specs.Walk.{done, down, place_in, step_over}
 use Rattle.dma.proofs.Onward as onward
 use Rattle.dma.proofs.Stepped.{more-levels}
 use Rattle.dma.proofs.Walks.{walk-anew}
-use Rattle.translation.specs.Answers.{Names}
 use Rattle.translation.specs.Completion.{Completion, fault, entry_step, entry_over, joined_rules}
 use Rattle.translation.specs.declared.Rights.{Rights}
-use Rattle.translation.specs.declared.completion.Completion.{Completion as CompletionCode}
 use Rattle.translation.proofs.Entries.{step-cases}
-
--- a fault's entry by another name
-pub renamed : (t : CompletionCode) {place place' : Place} → place ≡ place' → Names t place → Names t place'
-renamed t is h = subst (λ (p : Place). Names t p) is h
 
 module _ (registers : Registers) (address : ℕ) (fpd : Bool) (m : Memory) (n table : ℕ) (above : Rights) where
   pub unfetched : missing ≡ entry 1 m (place_in address table n) → done (fault 0x07 fpd) ≡ entry_over registers address fpd m n table above

@@ -6,7 +6,7 @@ use Rattle.std.specs.Prelude.{if◌then◌else◌}
 use Rattle.image.specs.Memory.{Memory}
 use Rattle.image.specs.Rules.{Rules, answer}
 use Rattle.registers.specs.declared.Registers.{Registers}
-use Rattle.dma.specs.Lookup.{Lookup, on_lookup, root_rules}
+use Rattle.dma.specs.Lookup.{root_rules}
 use Rattle.dma.specs.Page.{leaf_at, page_reserved}
 use Rattle.dma.specs.Translation.{overflows}
 use Rattle.dma.specs.Translation as dma
@@ -26,10 +26,6 @@ abbrev pub Reachable : Completion → Type 0
 Reachable (page frame level rights) = dma.Reachable (dma.leaf frame level)
 Reachable empty = Unit {0}
 Reachable (fault reason fpd) = Unit {0}
-
--- a lookup that found no context, told as a completion: for the code's contracts
-abbrev pub without_context : Lookup → Completion
-without_context found = on_lookup found fault (λ c. empty)
 
 -- both rights clear: the empty answer; a reserved bit: 0Ch; no joined right left: the empty answer. Else a page ends the walk, and
 -- any other entry hands the joined rights one level down

@@ -12,30 +12,29 @@ mod completion;
 mod step;
 mod walk;
 
-use completion::{Completion, complete};
+use completion::complete;
 use dma::meets_interrupt_range;
-use faults::{Fault, translation_fault};
-pub use image::EntryAddress;
+use faults::{Fault, Reason, Stop, translation_fault};
 use image::{bad_windows, first_span};
 use registers::{
-    Admission, Page1G, Page2M, Page4K, Registers, SourceId, admit, in_interrupt_range,
+    Admission, Page1G, Page2M, Page4K, Refusal, Registers, SourceId, admit, in_interrupt_range,
 };
-pub use step::{Step, entry_step};
+pub use step::{Page, Step, entry_step};
 
-#[derive(Clone, Copy)]
+#[derive(Clone, Copy, Debug, PartialEq, Eq)]
 pub struct TranslationRequest {
     pub source: SourceId,
     pub address: u64,
 }
 
 // Joined over all levels of the walk.
-#[derive(Clone, Copy)]
+#[derive(Clone, Copy, Debug, PartialEq, Eq)]
 pub struct Rights {
     pub read: bool,
     pub write: bool,
 }
 
-#[derive(Clone, Copy)]
+#[derive(Clone, Copy, Debug, PartialEq, Eq)]
 pub enum PageSize {
     FourKiB,
     TwoMiB,
@@ -54,7 +53,7 @@ impl PageSize {
     }
 }
 
-#[derive(Clone, Copy)]
+#[derive(Clone, Copy, Debug, PartialEq, Eq)]
 pub enum TranslationAnswer {
     // TE is off: the address itself.
     Passed(u64),
@@ -63,9 +62,9 @@ pub enum TranslationAnswer {
     // No right is left, or the address is too wide: both bits off, frame and size 0, no fault and no record.
     Empty,
     // With the entry concerned.
-    Blocked(Fault, EntryAddress),
-    // By number: 1 bad registers or windows, 2 an address in the interrupt range, 4 a page with a byte in it.
-    Refused(u8),
+    Blocked(Fault, Option<u64>),
+    // For bad registers or windows, an address in the interrupt range, or a page with a byte in it.
+    Refused(Refusal),
 }
 
 // By the level of a page's entry.
@@ -73,45 +72,39 @@ fn page_size(level: u32) -> PageSize
     requires { (0 < level) × (level ≤ 3) }
     ensures { size_of result ≡ span_at level }
 {
-    if level == 1 {
-        return PageSize::FourKiB;
+    match level {
+        1 => PageSize::FourKiB,
+        2 => PageSize::TwoMiB,
+        _ => PageSize::OneGiB,
     }
-    if level == 2 {
-        return PageSize::TwoMiB;
-    }
-    PageSize::OneGiB
 }
 
-// A page that the walk ended with: refusal 4, or what it is.
-fn page_answer(
-    request: TranslationRequest,
-    frame: u64,
-    level: u32,
-    rights: Rights,
-) -> TranslationAnswer
-    requires { Reachable (page frame level rights) }
-    ensures result_value { outcome_of result ≡ translation_outcome request (page frame level rights) }
+// A page that the walk ended with: refused for the interrupt range, or what it is.
+fn page_answer(request: TranslationRequest, found: Page) -> TranslationAnswer
+    requires { Reachable (page found.frame found.level found.rights) }
+    ensures result_value { outcome_of result ≡ translation_outcome request (page found.frame found.level found.rights) }
     ensures result_value_2 { (place : Place) → entry_of result ≡ concerned (outcome_of result) place }
 {
-    if meets_interrupt_range(level, frame) {
-        return TranslationAnswer::Refused(4);
+    if meets_interrupt_range(found.level, found.frame) {
+        return TranslationAnswer::Refused(Refusal::InterruptPage);
     }
-    TranslationAnswer::Page(frame, page_size(level), rights)
+    TranslationAnswer::Page(found.frame, page_size(found.level), found.rights)
 }
 
-fn answer(request: TranslationRequest, completion: Completion) -> TranslationAnswer
+fn answer(
+    request: TranslationRequest,
+    completion: Result<Option<Page>, Stop<Reason>>,
+) -> TranslationAnswer
     requires { Reachable (completion_of completion) }
     ensures result_value { outcome_of result ≡ translation_outcome request (completion_of completion) }
     ensures result_value_2 { (place : Place) → Names completion place → entry_of result ≡ concerned (outcome_of result) place }
 {
     match completion {
-        Completion::Page(frame, level, read, write) => {
-            page_answer(request, frame, level, Rights { read, write })
-        }
-        Completion::Empty => TranslationAnswer::Empty,
-        Completion::Fault(reason, fpd, at) => TranslationAnswer::Blocked(
+        Ok(Some(found)) => page_answer(request, found),
+        Ok(None) => TranslationAnswer::Empty,
+        Err(Stop { reason, fpd, at }) => TranslationAnswer::Blocked(
             translation_fault(reason, fpd, request.source, request.address),
-            EntryAddress::At(at),
+            Some(at),
         ),
     }
 }
@@ -127,16 +120,16 @@ pub fn translation_request(
     ensures result_value_2 { entry_of result ≡ translation_answer_place registers request windows.now image.now }
 {
     if bad_windows(windows, image.len()) {
-        return TranslationAnswer::Refused(1);
+        return TranslationAnswer::Refused(Refusal::BadRegisters);
     }
-    // As for memory requests: told before `admit` has a number to choose.
+    // As for memory requests: told before `admit` has a refusal to choose.
     if registers.bad() {
-        return TranslationAnswer::Refused(1);
+        return TranslationAnswer::Refused(Refusal::BadRegisters);
     }
     match admit(registers, in_interrupt_range(request.address), registers.te) {
-        Admission::Refused(number) => TranslationAnswer::Refused(number),
-        Admission::Passed => TranslationAnswer::Passed(request.address),
-        Admission::Taken => {
+        Err(refusal) => TranslationAnswer::Refused(refusal),
+        Ok(Admission::Passed) => TranslationAnswer::Passed(request.address),
+        Ok(Admission::Taken) => {
             let first = first_span(windows);
             answer(request, complete(first, windows, image, registers, request))
         },

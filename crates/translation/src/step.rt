@@ -9,43 +9,64 @@ ghost use Rattle.translation.specs.Completion.{entry_step, entry_over};
 
 use crate::Rights;
 use dma::{Fetch, Walk, fetch_entry, is_leaf, page_reserved};
-use faults::Reason;
-use image::{Found8, field, in_place};
+use faults::{Reason, Stop};
+use image::{field, in_place};
 use registers::Registers;
 
-#[derive(Clone, Copy)]
+// A page that a walk ends with: its frame, the level of its entry, and the joined rights.
+#[derive(Clone, Copy, Debug, PartialEq, Eq)]
+pub struct Page {
+    pub frame: u64,
+    pub level: u32,
+    pub rights: Rights,
+}
+
+#[derive(Clone, Copy, Debug, PartialEq, Eq)]
 pub enum Step {
-    // The next table, and the rights joined so far: read, write.
-    Down(u64, bool, bool),
-    // The frame of a page, the entry's level, and the joined rights.
-    Page(u64, u32, bool, bool),
+    // The next table, and the rights joined so far.
+    Down(u64, Rights),
+    Page(Page),
     // No right is left.
     Empty,
-    // Why the walk ends here, FPD, and the entry's host address.
-    Fault(Reason, bool, u64),
 }
 
 // The entry's rights are joined with those above it once its reserved bits are checked.
-fn joined_step(registers: Registers, above: Rights, fpd: bool, level: u32, at: u64, e: u64) -> Step
+fn joined_step(
+    registers: Registers,
+    above: Rights,
+    fpd: bool,
+    level: u32,
+    at: u64,
+    e: u64,
+) -> Result<Step, Stop<Reason>>
     ensures result_value { step_of result ≡ entry_step registers fpd level at above e }
     ensures step_names { StepNames result (entry_at at) }
 {
     if field(e, 1, 0) == 0 {
-        return Step::Empty;
+        return Ok(Step::Empty);
     }
     if page_reserved(registers, level, e) {
-        return Step::Fault(Reason::PageEntryReserved, fpd, at);
+        return Err(Stop {
+            reason: Reason::PageEntryReserved,
+            fpd,
+            at,
+        });
     }
     let read = above.read & (field(e, 0, 0) == 1);
     let write = above.write & (field(e, 1, 1) == 1);
     if !(read | write) {
-        return Step::Empty;
+        return Ok(Step::Empty);
     }
+    let rights = Rights { read, write };
     let frame = in_place(e, 51, 12);
     if is_leaf(level, e) {
-        return Step::Page(frame, level, read, write);
+        return Ok(Step::Page(Page {
+            frame,
+            level,
+            rights,
+        }));
     }
-    Step::Down(frame, read, write)
+    Ok(Step::Down(frame, rights))
 }
 
 // One level of the walk: below is how many levels come after it.
@@ -57,14 +78,18 @@ pub fn entry_step(
     below: u32,
     table: u64,
     above: Rights,
-) -> Step
+) -> Result<Step, Stop<Reason>>
     requires { Opened walk.first windows.now (length image.now) × (below < 5) × (table % 4096 ≡ 0) }
     ensures result_value { step_of result ≡ entry_over registers walk.address walk.fpd (of_windows windows.now image.now) below table above }
     ensures step_names { StepNames result (entry_at (place_in walk.address table below)) }
 {
     let Fetch { at, found } = fetch_entry(walk.first, windows, image, walk.address, below, table);
-    let Found8::Entry(e) = found else {
-        return Step::Fault(Reason::PageEntryAccess, walk.fpd, at);
+    let Ok(e) = found else {
+        return Err(Stop {
+            reason: Reason::PageEntryAccess,
+            fpd: walk.fpd,
+            at,
+        });
     };
     joined_step(registers, above, walk.fpd, below + 1, at, e)
 }

@@ -10,10 +10,9 @@ ghost use Rattle.translation.specs.Completion.{joined_rules};
 ghost use Rattle.translation.specs.Rights.{both};
 
 use crate::Rights;
-use crate::completion::Completion;
-use crate::step::{Step, entry_step};
+use crate::step::{Page, Step, entry_step};
 use dma::{Context, Walk};
-use faults::Reason;
+use faults::{Reason, Stop};
 use image::Span;
 use registers::Registers;
 
@@ -24,7 +23,7 @@ pub(crate) fn walk(
     registers: Registers,
     address: u64,
     context: Context,
-) -> Completion
+) -> Result<Option<Page>, Stop<Reason>>
     requires { Opened first windows.now (length image.now) × Usable context }
     ensures result_value { completion_of result ≡ run (joined_rules registers address context.fpd context.levels context.top both) (of_windows windows.now image.now) }
     ensures names { (before : Place) → Names result (last_tried before (joined_rules registers address context.fpd context.levels context.top both) (of_windows windows.now image.now)) }
@@ -34,32 +33,25 @@ pub(crate) fn walk(
         address,
         fpd: context.fpd,
     };
-    let mut level = context.levels;
-    let mut at = context.top;
-    let mut read = true;
-    let mut write = true;
-    while 0 < level {
-        let step = entry_step(
-            windows,
-            image,
-            registers,
-            given,
-            level - 1,
-            at,
-            Rights { read, write },
-        );
-        match step {
-            Step::Page(frame, of, r, w) => return Completion::Page(frame, of, r, w),
-            Step::Empty => return Completion::Empty,
-            Step::Fault(reason, fpd, entry) => return Completion::Fault(reason, fpd, entry),
-            Step::Down(next, r, w) => {
-                at = next;
-                read = r;
-                write = w;
-                level -= 1;
+    let mut table = context.top;
+    let mut rights = Rights {
+        read: true,
+        write: true,
+    };
+    for below in (0..context.levels).rev() {
+        match entry_step(windows, image, registers, given, below, table, rights)? {
+            Step::Page(page) => return Ok(Some(page)),
+            Step::Empty => return Ok(None),
+            Step::Down(next, joined) => {
+                table = next;
+                rights = joined;
             }
         }
     }
     // No step leads below level 1.
-    Completion::Fault(Reason::PageEntryAccess, given.fpd, at)
+    Err(Stop {
+        reason: Reason::PageEntryAccess,
+        fpd: given.fpd,
+        at: table,
+    })
 }

@@ -1,6 +1,7 @@
 use mathlib.Core.Bool.{false}
 use mathlib.Core.Path.{◌≡◌, ap, sym, ◌∙◌}
 use lib.ListN.{length}
+use Rattle.std.specs.Prelude.{Ok}
 use Rattle.registers.specs.Admission.{taken_up, admission}
 use Rattle.registers.specs.Answers.{admitted_of}
 use Rattle.image.specs.Windows.{of_windows, bad_windows}
@@ -38,7 +39,7 @@ first_span-first-requires c =
 -- the request is taken up
 taken : (c : After-first_span-first) → let k = c in
     taken_up ≡ admission k.args.registers c.in_interrupt_range.result k.args.registers.te
-taken c = sym (ap admitted_of c.in-Taken.is) ∙ c.admit.ensures
+taken c = sym (ap admitted_of c.in-Ok-Taken.is ∙ ap (λ k. admitted_of (Ok k)) c.in-Ok-Taken.field-0-is) ∙ c.admit.ensures
 
 pub complete-requires : goal.complete-requires
 complete-requires c = ((windows-good (goal.at.complete-requires c).Else-bad_windows, c.first_span-first.ensures), taken-root _ _ _ (taken (goal.at.complete-requires c).After-first_span-first))
@@ -48,26 +49,26 @@ answer-requires c =
     let a = c.args in
     rw c.complete.ensures.result_value (reachable a.registers a.request (of_windows a.windows.now a.image.now) (taken-root _ _ _ (taken (goal.at.answer-requires c).After-first_span-first)))
 
-pub returns-in-Refused : goal.returns-in-Refused
-returns-in-Refused c =
+pub returns-in-Err : goal.returns-in-Err
+returns-in-Err c =
     let a = c.args in
-    let t = translation-told a.registers a.request a.windows.now a.image.now (windows-good (goal.at.returns-in-Refused c).Else-bad_windows)
-    (refuses a.registers a.request _ c.in_interrupt_range.ensures (sym (ap admitted_of c.in-Refused.is) ∙ c.admit.ensures)) in
+    let t = translation-told a.registers a.request a.windows.now a.image.now (windows-good (goal.at.returns-in-Err c).Else-bad_windows)
+    (refuses a.registers a.request _ c.in_interrupt_range.ensures (sym (ap admitted_of c.in-Err.is) ∙ c.admit.ensures)) in
     record { result_value = t.0; result_value_2 = t.1 }
 
-pub returns-in-Passed : goal.returns-in-Passed
-returns-in-Passed c =
+pub returns-in-Ok-Passed : goal.returns-in-Ok-Passed
+returns-in-Ok-Passed c =
     let a = c.args in
-    let t = translation-told a.registers a.request a.windows.now a.image.now (windows-good (goal.at.returns-in-Passed c).Else-bad_windows)
-    (passes a.registers a.request _ c.in_interrupt_range.ensures (sym (ap admitted_of c.in-Passed.is) ∙ c.admit.ensures)) in
+    let t = translation-told a.registers a.request a.windows.now a.image.now (windows-good (goal.at.returns-in-Ok-Passed c).Else-bad_windows)
+    (passes a.registers a.request _ c.in_interrupt_range.ensures (sym (ap admitted_of c.in-Ok-Passed.is ∙ ap (λ k. admitted_of (Ok k)) c.in-Ok-Passed.field-0-is) ∙ c.admit.ensures)) in
     record { result_value = t.0; result_value_2 = t.1 }
 
-pub returns-in-Taken : goal.returns-in-Taken
-returns-in-Taken c =
+pub returns-in-Ok-Taken : goal.returns-in-Ok-Taken
+returns-in-Ok-Taken c =
     let a = c.args in
     let said = c.answer.ensures in
     let walked = c.complete.ensures in
-    let t = translation-taken a.registers a.request a.windows.now a.image.now (windows-good (goal.at.returns-in-Taken c).Else-bad_windows)
-    c.in_interrupt_range.ensures (taken (goal.at.returns-in-Taken c).After-first_span-first)
+    let t = translation-taken a.registers a.request a.windows.now a.image.now (windows-good (goal.at.returns-in-Ok-Taken c).Else-bad_windows)
+    c.in_interrupt_range.ensures (taken (goal.at.returns-in-Ok-Taken c).After-first_span-first)
     c.answer.result c.complete.result (said.result_value, said.result_value_2) (walked.result_value, walked.names) in
     record { result_value = t.0; result_value_2 = t.1 }

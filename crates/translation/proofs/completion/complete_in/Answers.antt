@@ -2,7 +2,6 @@ use mathlib.Core.Path.{refl}
 use Rattle.image.specs.Place.{entry_at}
 use Rattle.image.specs.Windows.{of_windows}
 use Rattle.translation.proofs.Completed.{type-blocked, type-blocked-at, too_wide, walked, walked_at}
-use Rattle.translation.proofs.Stepped.{renamed}
 use Rattle.translation.proofs.completion.complete_in.Goals as goal
 
 pub returns-then-context : goal.returns-then-context
@@ -10,15 +9,15 @@ returns-then-context c =
     let a = c.args in
     let m = of_windows a.windows.now a.image.now in
     record {
-      result_value = type-blocked a.registers a.address a.context m (entry_at a.at) c.if-context.true;
-      names = type-blocked-at a.registers a.address a.context m (entry_at a.at) c.if-context.true;
+      result_value = type-blocked a.registers a.address a.found.context m (entry_at a.found.at) c.if-context.true;
+      names = type-blocked-at a.registers a.address a.found.context m (entry_at a.found.at) c.if-context.true;
     }
 
 pub returns-then-overflows : goal.returns-then-overflows
 returns-then-overflows c =
     let a = c.args in
     record {
-      result_value = too_wide a.registers a.address a.context (of_windows a.windows.now a.image.now) (entry_at a.at)
+      result_value = too_wide a.registers a.address a.found.context (of_windows a.windows.now a.image.now) (entry_at a.found.at)
           c.if-context.false c.overflows.ensures c.if-overflows.true;
       names = refl;
     }
@@ -30,7 +29,7 @@ returns c =
     let type = c.if-context.false in
     let wide = c.overflows.ensures in
     record {
-      result_value = walked a.registers a.address a.context m (entry_at a.at) type wide c.if-overflows.false c.walk.ensures.result_value;
-      names = renamed c.walk.result (walked_at a.registers a.address a.context m (entry_at a.at) type wide c.if-overflows.false)
-          (c.walk.ensures.names (entry_at a.at));
+      result_value = walked a.registers a.address a.found.context m (entry_at a.found.at) type wide c.if-overflows.false c.walk.ensures.result_value;
+      names = rw (← walked_at a.registers a.address a.found.context m (entry_at a.found.at) type wide c.if-overflows.false)
+          (c.walk.ensures.names (entry_at a.found.at));
     }

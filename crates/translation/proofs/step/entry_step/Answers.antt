@@ -7,9 +7,6 @@ use Rattle.translation.specs.Answers.{StepNames}
 use Rattle.translation.proofs.Stepped.{unfetched, fetched}
 use Rattle.translation.proofs.step.entry_step.Goals as goal
 
-pub fetch_entry-at-requires : goal.fetch_entry-at-requires
-fetch_entry-at-requires c = c.requires
-
 pub returns-in_default : goal.returns-in_default
 returns-in_default c =
     let a = c.args in
@@ -22,7 +19,7 @@ returns-in_default c =
 pub returns : goal.returns
 returns c =
     let a = c.args in
-    let found = sym (ap fetched8 c.in-Entry.is) ∙ c.fetch_entry-at.ensures.found_value in
+    let found = sym (ap fetched8 c.in-Ok.is) ∙ c.fetch_entry-at.ensures.found_value in
     let stepped = fetched a.registers a.walk.address a.walk.fpd (of_windows a.windows.now a.image.now) a.below a.table a.above found in
     record {
       result_value = c.joined_step.ensures.result_value ∙ rw (add-one a.below) stepped;
