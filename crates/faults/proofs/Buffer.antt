@@ -15,7 +15,8 @@ use Rattle.image.specs.Bytes.{little_endian, spell}
 use Rattle.faults.specs.Slots.{record_at, with_record, standing, clear127, set127}
 use Rattle.image.specs.Memory.{with_word}
 use Rattle.image.proofs.Fields.{above-digit}
-use Rattle.image.proofs.Stores.{with_words, Words, all-stored}
+use Rattle.image.proofs.Stores.{with_words, all-stored}
+use Rattle.image.specs.Entry.{Words}
 use Rattle.image.proofs.Bytes.{one_byte, bytes-beside, last_byte, bytes_below, bytes_back}
 use Rattle.faults.proofs.Contents.{two-words}
 

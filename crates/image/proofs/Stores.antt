@@ -2,6 +2,7 @@
 use Rattle.std.proofs.Common.{◌≡◌, ℕ, suc, ◌+◌, ◌*◌, ◌^◌, ◌<◌, ◌≤◌, List, [], ◌∷◌, ◌++◌, length, take, drop, set, sym, refl, ◌∙◌, append_assoc, append-nil, add-zero, add_assoc, arith, length-append, length-drop, take-append-drop, length-take-le, drop-drop, take_at, drop_at, le-leb}
 use borrow.Author.Tests.{lt-leb}
 use Rattle.image.specs.Bytes.{bytes_of, spell}
+use Rattle.image.specs.Entry.{Words}
 use Rattle.image.specs.Memory.{with_word}
 use Rattle.image.proofs.Bytes.{length-bytes_of, bytes-beside}
 
@@ -27,10 +28,6 @@ behind buffer at n m xs ys sized fits laid =
 unfoldable pub with_words : List ℕ → ℕ → List ℕ → List ℕ
 with_words image at [] = image
 with_words image at (w ∷ ws) = with_words (with_word image at w) (at + 8) ws
-
-unfoldable pub Words : List ℕ → Type 0
-Words [] = Unit {0}
-Words (w ∷ ws) = (w < 2 ^ 64) × Words ws
 
 length-stored : (image : List ℕ) (at word : ℕ) → at + 8 ≤ length image → length (with_word image at word) ≡ length image
 length-stored image at word h =

@@ -9,6 +9,7 @@ use Rattle.image.specs.Memory.{Memory, Fetched, missing, found, word_at, of_imag
 use Rattle.image.specs.Windows.{Window, windows_of, end_of, holds_all, Spot, nowhere, here, on_spot, spot_in, entry_in, of_windows, page_from, bad_window, bad_windows}
 use Rattle.image.specs.Spans.{window_by, Holds, Stands}
 use Rattle.image.specs.Answers.{HeldBy, PlacedBy}
+use Rattle.image.specs.Entry.{EntryLaws}
 use Rattle.image.specs.declared.Span.{Span}
 use Rattle.image.proofs.GoodWindows.{GoodWithAll, Good, good, good-window, held, holding, before-it, past-it, spot-first, spot-next}
 use Rattle.image.proofs.Pages.{in-page}
@@ -157,6 +158,13 @@ module _ (run : List ℕ) where
       ∙ inside run (suc n) (k + offset) (omega arith)
       ∙ ap (λ (x : ℕ). found (spell (words_in run (suc n) x))) there
 
+  within-of : (w : Window) (n : ℕ) → 0 < n → (table offset : ℕ) → w.place + w.size ≤ length run → w.start ≤ table → table < end_of w
+      → offset + 8 * n ≤ 4096 → table + offset + 8 * n ≤ end_of w
+      → entry n (of_image (take (min 4096 (end_of w - table)) (drop (w.place + (table - w.start)) run))) offset
+      ≡ found (spell (words_in run n (w.place + (table + offset - w.start))))
+  within-of w zero some table offset in-run from held-it page to = absurd (omega (arith, some))
+  within-of w (suc n) some table offset in-run from held-it page to = within w n table offset in-run from held-it page to
+
 -- windows that aren't refused
 module _ (numbers run : List ℕ) (fine : bad_windows numbers (length run) ≡ false) where
   by-words : (n at : ℕ) → told run n (spot_in (windows_of numbers) (8 * n) at) ≡ entry_in numbers run (8 * n) at
@@ -174,6 +182,10 @@ module _ (numbers run : List ℕ) (fine : bad_windows numbers (length run) ≡ f
   pub single : (n at : ℕ) → at % 4096 + 8 * suc n ≤ 4096 → entry (suc n) (of_windows numbers run) at ≡ entry_in numbers run (8 * suc n) at
   unfolding of_windows entry_in
   single n at page = single-words run (length run) (windows_of numbers) n at (good numbers (length run) fine) page ∙ by-words (suc n) at
+
+  pub single-of : (n : ℕ) → 0 < n → (at : ℕ) → at % 4096 + 8 * n ≤ 4096 → entry n (of_windows numbers run) at ≡ entry_in numbers run (8 * n) at
+  single-of zero some at page = absurd (omega (arith, some))
+  single-of (suc n) some at page = single n at page
 
 -- where so many bytes stand that don't leave their page, by where the last of them stands
 by_last : (run : ℕ) (ws : List Window) (at more : ℕ) → Good ws run → at % 4096 + more < 4096
@@ -228,76 +240,97 @@ lacks-spot numbers len fine at more page h = by_last len (windows_of numbers) at
 
 -- an entry whose place in the run was looked for
 pub record Placing (numbers run : List ℕ) (n at : ℕ) (p : Option ℕ) : Type 0 where
+  pub some : 0 < n
   pub fine : bad_windows numbers (length run) ≡ false
-  pub page : at % 4096 + 8 * suc n ≤ 4096
-  pub by : PlacedBy p (windows_of numbers) (length run) (8 * suc n) at
+  pub page : at % 4096 + 8 * n ≤ 4096
+  pub by : PlacedBy p (windows_of numbers) (length run) (8 * n) at
 
 module _ {numbers run : List ℕ} {n at : ℕ} {p : Option ℕ} (h : Placing numbers run n at p) where
-  pub placed-missing : p ≡ None → missing ≡ entry (suc n) (of_windows numbers run) at
+  pub placed-missing : p ≡ None → missing ≡ entry n (of_windows numbers run) at
   unfolding entry_in
-  placed-missing is = sym (single numbers run h.fine n at h.page ∙ rw (rw is at h.by))
+  placed-missing is = sym (single-of numbers run h.fine n h.some at h.page ∙ rw (rw is at h.by))
 
   module _ {from : ℕ} (is : p ≡ Some from) where
-    stands : Stands from (windows_of numbers) (length run) (8 * suc n) at
-    stands = subst (λ (p : Option ℕ). PlacedBy p (windows_of numbers) (length run) (8 * suc n) at) is h.by
+    stands : Stands from (windows_of numbers) (length run) (8 * n) at
+    stands = subst (λ (p : Option ℕ). PlacedBy p (windows_of numbers) (length run) (8 * n) at) is h.by
 
-    pub placed-room : from + 8 * suc n ≤ length run
+    pub placed-room : from + 8 * n ≤ length run
     placed-room = stands.in_run
 
-    pub placed-entry : {e : ℕ} → e ≡ little_endian (take (8 * suc n) (drop from run)) → found e ≡ entry (suc n) (of_windows numbers run) at
+    pub placed-entry : {e : ℕ} → e ≡ little_endian (take (8 * n) (drop from run)) → found e ≡ entry n (of_windows numbers run) at
     unfolding entry_in
-    placed-entry e = ap found e ∙ sym (single numbers run h.fine n at h.page ∙ rw stands.spot)
+    placed-entry e = ap found e ∙ sym (single-of numbers run h.fine n h.some at h.page ∙ rw stands.spot)
 
 -- an entry in its table's page, where the window with its last byte was looked for
 pub record Paging (numbers run : List ℕ) (n table offset : ℕ) (r : Option Span) : Type 0 where
+  pub some : 0 < n
   pub fine : bad_windows numbers (length run) ≡ false
   pub aligned : table % 4096 ≡ 0
-  pub page : offset + 8 * suc n ≤ 4096
-  pub by : HeldBy r (windows_of numbers) (length run) (table + offset + (8 * suc n - 1))
+  pub page : offset + 8 * n ≤ 4096
+  pub by : HeldBy r (windows_of numbers) (length run) (table + offset + (8 * n - 1))
 
 module _ {numbers run : List ℕ} {n table offset : ℕ} {r : Option Span} (h : Paging numbers run n table offset r) where
-  all : (8 * suc n - 1) + 1 ≡ 8 * suc n
-  all = omega arith
+  all : (8 * n - 1) + 1 ≡ 8 * n
+  all = omega (arith, h.some)
 
-  pub page-missing : r ≡ None → missing ≡ entry (suc n) (of_windows numbers run) (table + offset)
+  pub page-missing : r ≡ None → missing ≡ entry n (of_windows numbers run) (table + offset)
   unfolding entry_in
   page-missing is =
-      sym (single numbers run h.fine n (table + offset) (omega arith)
-      ∙ rw (rw all at (lacks-spot numbers (length run) h.fine (table + offset) (8 * suc n - 1) (omega arith) (rw is at h.by))))
+      sym (single-of numbers run h.fine n h.some (table + offset) (omega arith)
+      ∙ rw (rw all at (lacks-spot numbers (length run) h.fine (table + offset) (8 * n - 1) (omega arith) (rw is at h.by))))
 
   module _ {s : Span} (is : r ≡ Some s) where
     abbrev w : Window
     w = window_by s
 
-    holds : Holds w (windows_of numbers) (length run) (table + offset + (8 * suc n - 1))
-    holds = subst (λ (r : Option Span). HeldBy r (windows_of numbers) (length run) (table + offset + (8 * suc n - 1))) is h.by
+    holds : Holds w (windows_of numbers) (length run) (table + offset + (8 * n - 1))
+    holds = subst (λ (r : Option Span). HeldBy r (windows_of numbers) (length run) (table + offset + (8 * n - 1))) is h.by
 
-    lies : (w.start ≤ table) × (table + offset + 8 * suc n ≤ end_of w) × (w.place + w.size ≤ length run)
+    lies : (w.start ≤ table) × (table + offset + 8 * n ≤ end_of w) × (w.place + w.size ≤ length run)
     lies =
         let g = good-window w (length run) holds.good in
-        let last = held w 1 (table + offset + (8 * suc n - 1)) holds.byte in
+        let last = held w 1 (table + offset + (8 * n - 1)) holds.byte in
         (omega (arith, h.aligned, g.aligned, last.0), omega (arith, last.1), g.in_run)
 
     pub page-begins : (bad_window w (length run) ≡ false) × (holds_all w 1 table ≡ true)
     page-begins = (holds.good, holding w 1 table lies.0 (omega (arith, lies.1)))
 
     module _ {part : List ℕ} (is-page : part ≡ page_from w run table) where
-      pub page-room : offset + 8 * suc n ≤ length part
+      pub page-room : offset + 8 * n ≤ length part
       unfolding page_from
       page-room =
           rw (is-page, length-take (min 4096 (end_of w - table)) (drop (w.place + (table - w.start)) run), length-drop (w.place + (table - w.start)) run)
           (omega (arith, h.page, lies.0, lies.1, lies.2))
 
-      pub page-entry : {e : ℕ} → e ≡ little_endian (take (8 * suc n) (drop offset part)) → found e ≡ entry (suc n) (of_windows numbers run) (table + offset)
+      pub page-entry : {e : ℕ} → e ≡ little_endian (take (8 * n) (drop offset part)) → found e ≡ entry n (of_windows numbers run) (table + offset)
       unfolding page_from entry_in
       page-entry e =
           ap found e
-          ∙ whole-image part (suc n) offset page-room
-          ∙ rw is-page (within run w n table offset lies.2 lies.0 (omega (arith, lies.1)) h.page lies.1)
-          ∙ ap found (spell-run run (suc n) (w.place + (table + offset - w.start)) (omega (arith, lies.0, lies.1, lies.2)))
+          ∙ whole-image part n offset page-room
+          ∙ rw is-page (within-of run w n h.some table offset lies.2 lies.0 (omega (arith, lies.1)) h.page lies.1)
+          ∙ ap found (spell-run run n (w.place + (table + offset - w.start)) (omega (arith, lies.0, lies.1, lies.2)))
           ∙ sym
-          (single numbers run h.fine n (table + offset) (omega arith)
-          ∙ rw (rw all at (holds-spot numbers (length run) h.fine (table + offset) (8 * suc n - 1) (omega arith) holds)))
+          (single-of numbers run h.fine n h.some (table + offset) (omega arith)
+          ∙ rw (rw all at (holds-spot numbers (length run) h.fine (table + offset) (8 * n - 1) (omega arith) holds)))
+
+-- the same, by what an entry of the code keeps
+module _ {A : Type 0} {n : ℕ} {words : A → List ℕ} {number : A → ℕ} (laws : EntryLaws n words number) {numbers run : List ℕ}
+    (fine : bad_windows numbers (length run) ≡ false) where
+  pub paged : {table offset : ℕ} {r : Option Span} → table % 4096 ≡ 0 → offset < 4096 → offset % (8 * n) ≡ 0
+      → HeldBy r (windows_of numbers) (length run) (table + offset + (8 * n - 1)) → Paging numbers run n table offset r
+  paged {table} {offset} aligned below whole by =
+      record { some = laws.some; fine = fine; aligned = aligned; page = omega (arith, laws.in_page offset whole, below); by = by }
+
+  pub placed : {at : ℕ} {p : Option ℕ} → at % (8 * n) ≡ 0 → PlacedBy p (windows_of numbers) (length run) (8 * n - 1 + 1) at
+      → Placing numbers run n at p
+  placed {at} {p} whole by =
+      let all : 8 * n - 1 + 1 ≡ 8 * n = omega (arith, laws.some) in
+      record {
+        some = laws.some;
+        fine = fine;
+        page = laws.in_page at whole;
+        by = subst (λ (size : ℕ). PlacedBy p (windows_of numbers) (length run) size at) all by;
+      }
 
 -- what an entry that was fetched tells of its place, and one that couldn't be
 pub record WholeAt (numbers run : List ℕ) (size at e : ℕ) : Type 0 where

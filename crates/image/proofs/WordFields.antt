@@ -7,7 +7,7 @@ use Rattle.std.specs.Prelude.{if◌then◌else◌}
 use Rattle.image.specs.Bytes.{spell}
 use Rattle.image.proofs.Bytes.{no_bits}
 use Rattle.image.proofs.Fields.{in-first, in_rest}
-use Rattle.image.proofs.Stores.{Words}
+use Rattle.image.specs.Entry.{Words}
 
 -- there is no word past the last
 pub no_word : (ws : List ℕ) (n : ℕ) → length ws ≤ n → 0 ≡ get_or ws n 0

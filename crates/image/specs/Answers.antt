@@ -1,13 +1,14 @@
 -- An entry as the words that the code holds, and what the code's fetches and searches say they found.
-use Rattle.std.specs.Prelude.{◌≡◌, ℕ, List, [], ◌∷◌, Option, Some, None, Result, Ok, Err}
+use Rattle.std.specs.Prelude.{◌≡◌, ℕ, true, false, List, [], ◌∷◌, length, Option, Some, None, Result, Ok, Err}
 use Rattle.image.specs.Bytes.{spell}
-use Rattle.image.specs.Memory.{Fetched, missing, found}
+use Rattle.image.specs.Memory.{Memory, Fetched, missing, found}
 use Rattle.image.specs.Place.{Place, no_entry, entry_at}
 use Rattle.image.specs.Spans.{window_by, Holds, Stands}
-use Rattle.image.specs.Windows.{Window, nowhere, spot_in}
+use Rattle.image.specs.Windows.{Window, nowhere, spot_in, of_windows, bad_windows}
 use Rattle.image.specs.declared.Entry16.{Entry16}
 use Rattle.image.specs.declared.Entry64.{Entry64}
 use Rattle.image.specs.declared.Missing.{Missing}
+use Rattle.image.specs.declared.memory.Memory.{Memory as MemoryCode}
 use Rattle.image.specs.declared.Span.{Span}
 
 abbrev pub words16 : Entry16 → List ℕ
@@ -54,6 +55,15 @@ missed64 = missed
 abbrev pub place_of : Option ℕ → Place
 place_of None = no_entry
 place_of (Some at) = entry_at at
+
+-- the memory that the code's memory shows
+abbrev pub memory_of : MemoryCode → Memory
+memory_of m = of_windows m.windows.now m.image.now
+
+-- memory opened, or windows that are refused: for the code's contracts
+abbrev pub OpenedBy : Option MemoryCode → (numbers run : List ℕ) → Type 0
+OpenedBy (Some m) numbers run = (bad_windows numbers (length run) ≡ false) × (m.windows.now ≡ numbers) × (m.image.now ≡ run)
+OpenedBy None numbers run = bad_windows numbers (length run) ≡ true
 
 -- the window that holds the byte at a host address, and the place of so many bytes from there on: for the code's contracts
 abbrev pub HeldBy : Option Span → List Window → (run at : ℕ) → Type 0

@@ -4,6 +4,7 @@ pub mod Bits
 pub mod Bytes
 pub mod Check
 pub mod Choice
+pub mod Entry
 pub mod EntryKind
 pub mod Memory
 pub mod Place

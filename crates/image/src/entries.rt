@@ -74,7 +74,7 @@ fn later_window(windows: &[u64], run: usize, at: u64) -> Option<Span>
     None
 }
 
-fn window_of(first: Span, windows: &[u64], run: usize, at: u64) -> Option<Span>
+pub(crate) fn window_of(first: Span, windows: &[u64], run: usize, at: u64) -> Option<Span>
     requires { Opened first windows.now run }
     ensures { HeldBy result (windows_of windows.now) run at }
 {
@@ -101,7 +101,7 @@ pub fn place_in(span: Span, at: u64) -> usize
 }
 
 // The 4 KiB page of a table, as a part of the run: as much of it as the window in which it begins holds.
-pub fn table_page<'a>(span: Span, image: &'a [u8], table: u64) -> &'a [u8]
+pub(crate) fn table_page<'a>(span: Span, image: &'a [u8], table: u64) -> &'a [u8]
     requires { (bad_window (window_by span) (length image.now) ≡ false) × (holds_all (window_by span) 1 table ≡ true) }
     ensures { result.now ≡ page_from (window_by span) image.now table }
 {
@@ -113,145 +113,19 @@ pub fn table_page<'a>(span: Span, image: &'a [u8], table: u64) -> &'a [u8]
     &image[from..from + left]
 }
 
-// The words of an entry that lies whole in a run of bytes.
-fn load16(image: &[u8], from: usize) -> Entry16
-    requires { from + 16 ≤ length image.now }
-    ensures { number16 result ≡ little_endian (take 16 (drop from image.now)) }
-{
-    Entry16 {
-        low: word(image, from),
-        high: word(image, from + 8),
-    }
-}
-
-fn load64(image: &[u8], from: usize) -> Entry64
-    requires { from + 64 ≤ length image.now }
-    ensures { number64 result ≡ little_endian (take 64 (drop from image.now)) }
-{
-    Entry64 {
-        w0: word(image, from),
-        w1: word(image, from + 8),
-        w2: word(image, from + 16),
-        w3: word(image, from + 24),
-        w4: word(image, from + 32),
-        w5: word(image, from + 40),
-        w6: word(image, from + 48),
-        w7: word(image, from + 56),
-    }
-}
-
-// The entry at an offset of a table's page, which is handed on where a window has the entry's last byte.
-pub fn page_entry8_by(
-    first: Span,
-    windows: &[u64],
-    image: &[u8],
-    table: u64,
-    offset: u64,
-) -> Result<u64, Missing>
-    requires { Opened first windows.now (length image.now) × (table % 4096 ≡ 0) × (offset < 4096) × (offset % 8 ≡ 0) }
-    ensures result_value { fetched8 result ≡ entry 1 (of_windows windows.now image.now) (table + offset) }
-    ensures offset_value { missed8 result (table + offset) ≡ table + offset }
-{
-    match window_of(first, windows, image.len(), table + offset + 7) {
-        Some(span) => Ok(word(table_page(span, image, table), offset as usize)),
-        None => Err(Missing { at: table + offset }),
-    }
-}
-
-pub fn page_entry8(windows: &[u64], image: &[u8], table: u64, offset: u64) -> Result<u64, Missing>
-    requires { (bad_windows windows.now (length image.now) ≡ false) × (table % 4096 ≡ 0) × (offset < 4096) × (offset % 8 ≡ 0) }
-    ensures result_value { fetched8 result ≡ entry 1 (of_windows windows.now image.now) (table + offset) }
-    ensures offset_value { missed8 result (table + offset) ≡ table + offset }
-{
-    page_entry8_by(first_span(windows), windows, image, table, offset)
-}
-
-pub fn page_entry16_by(
-    first: Span,
-    windows: &[u64],
-    image: &[u8],
-    table: u64,
-    offset: u64,
-) -> Result<Entry16, Missing>
-    requires { Opened first windows.now (length image.now) × (table % 4096 ≡ 0) × (offset < 4096) × (offset % 16 ≡ 0) }
-    ensures result_value { fetched16 result ≡ entry 2 (of_windows windows.now image.now) (table + offset) }
-    ensures offset_value { missed16 result (table + offset) ≡ table + offset }
-{
-    match window_of(first, windows, image.len(), table + offset + 15) {
-        Some(span) => Ok(load16(table_page(span, image, table), offset as usize)),
-        None => Err(Missing { at: table + offset }),
-    }
-}
-
-pub fn page_entry16(
-    windows: &[u64],
-    image: &[u8],
-    table: u64,
-    offset: u64,
-) -> Result<Entry16, Missing>
-    requires { (bad_windows windows.now (length image.now) ≡ false) × (table % 4096 ≡ 0) × (offset < 4096) × (offset % 16 ≡ 0) }
-    ensures result_value { fetched16 result ≡ entry 2 (of_windows windows.now image.now) (table + offset) }
-    ensures offset_value { missed16 result (table + offset) ≡ table + offset }
-{
-    page_entry16_by(first_span(windows), windows, image, table, offset)
-}
-
-// An entry of 32 bytes, held as one of 64 whose upper half is 0. Where its second half is missing, it is still the entry that is named.
-pub fn page_entry32(
-    windows: &[u64],
-    image: &[u8],
-    table: u64,
-    offset: u64,
-) -> Result<Entry64, Missing>
-    requires { (bad_windows windows.now (length image.now) ≡ false) × (table % 4096 ≡ 0) × (offset < 4096) × (offset % 32 ≡ 0) }
-    ensures result_value { fetched64 result ≡ entry 4 (of_windows windows.now image.now) (table + offset) }
-    ensures offset_value { missed64 result (table + offset) ≡ table + offset }
-{
-    let low = page_entry16(windows, image, table, offset)?;
-    let Ok(high) = page_entry16(windows, image, table, offset + 16) else {
-        return Err(Missing { at: table + offset });
-    };
-    Ok(Entry64 {
-        w0: low.low,
-        w1: low.high,
-        w2: high.low,
-        w3: high.high,
-        w4: 0,
-        w5: 0,
-        w6: 0,
-        w7: 0,
-    })
-}
-
 // Where in the run the bytes from one up to so many after it stand, where a window has them all.
-fn place_of(windows: &[u64], run: usize, at: u64, more: u64) -> Option<usize>
-    requires { (bad_windows windows.now run ≡ false) × (at % 4096 + more < 4096) }
+pub(crate) fn place_of(
+    first: Span,
+    windows: &[u64],
+    run: usize,
+    at: u64,
+    more: u64,
+) -> Option<usize>
+    requires { Opened first windows.now run × (at % 4096 + more < 4096) × (at + more < 2 ^ 64) }
     ensures { PlacedBy result (windows_of windows.now) run (more + 1) at }
 {
-    let span = window_of(first_span(windows), windows, run, at + more)?;
+    let span = window_of(first, windows, run, at + more)?;
     Some(place_in(span, at))
-}
-
-pub fn fetch16(windows: &[u64], image: &[u8], at: u64) -> Result<Entry16, Missing>
-    requires { (bad_windows windows.now (length image.now) ≡ false) × (at % 16 ≡ 0) }
-    ensures result_value { fetched16 result ≡ entry 2 (of_windows windows.now image.now) at }
-    ensures at_value { missed16 result at ≡ at }
-{
-    match place_of(windows, image.len(), at, 15) {
-        Some(from) => Ok(load16(image, from)),
-        None => Err(Missing { at }),
-    }
-}
-
-pub fn fetch64(windows: &[u64], image: &[u8], at: u64) -> Result<Entry64, Missing>
-    requires { (bad_windows windows.now (length image.now) ≡ false) × (at % 64 ≡ 0) }
-    ensures result_value { fetched64 result ≡ entry 8 (of_windows windows.now image.now) at }
-    ensures at_value { missed64 result at ≡ at }
-{
-    match place_of(windows, image.len(), at, 63) {
-        Some(from) => Ok(load64(image, from)),
-        None => Err(Missing { at }),
-    }
 }
 
 // Where in the run an entry of 64 bytes stands, for a store: 0 where it doesn't lie whole in a window.
@@ -259,5 +133,5 @@ pub fn place64(windows: &[u64], run: usize, at: u64) -> usize
     requires { (bad_windows windows.now run ≡ false) × (at % 64 ≡ 0) }
     ensures { result ≡ on_spot (spot_in (windows_of windows.now) 64 at) 0 (λ place left. place) }
 {
-    place_of(windows, run, at, 63).unwrap_or(0)
+    place_of(first_span(windows), windows, run, at, 63).unwrap_or(0)
 }

@@ -7,15 +7,17 @@ ghost use Rattle.image.specs.Bits.{bits, bit, in_place};
 
 mod buffer;
 mod entries;
+mod entry;
 mod entry_fields;
+mod fetches;
+mod memory;
 mod windows;
 
 pub use buffer::{fetch8, store8, word_or_zero};
-pub use entries::{
-    fetch16, fetch64, find_window, first_span, page_entry8, page_entry8_by, page_entry16,
-    page_entry16_by, page_entry32, place_in, place64, table_page,
-};
-pub use entry_fields::{any_set16, any_set64, bit16, bit64, bits16, bits64};
+pub use entries::{find_window, first_span, place_in, place64};
+pub use entry::Entry;
+pub use entry_fields::{any_set_of, bit_of, bits_of};
+pub use memory::Memory;
 pub use windows::{bad_several, bad_windows};
 
 // An entry of 16 bytes: bits 63:0 and 127:64.

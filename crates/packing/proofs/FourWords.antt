@@ -8,7 +8,8 @@ use lib.ListN.{length, drop_of_length-le}
 use Rattle.image.specs.Bytes.{bytes_of, spell}
 use Rattle.image.specs.Memory.{with_word}
 use Rattle.image.proofs.Bytes.{byte-before}
-use Rattle.image.proofs.Stores.{with_words, Words, all-stored, words-beside}
+use Rattle.image.proofs.Stores.{with_words, all-stored, words-beside}
+use Rattle.image.specs.Entry.{Words}
 use Rattle.image.proofs.Words.{spell_one}
 
 pub head_bytes_lem : (kind one two three four : ℕ) → kind < 256 → one < 256 → two < 256 → three < 256

@@ -15,7 +15,7 @@ use Rattle.image.specs.Bits.{bits, bit}
 use Rattle.std.specs.Prelude.{if◌then◌else◌}
 use Rattle.image.specs.Bytes.{spell}
 use Rattle.image.proofs.Fields.{past_top, to-top}
-use Rattle.image.proofs.Stores.{Words}
+use Rattle.image.specs.Entry.{Words}
 use Rattle.image.proofs.WordFields.{of_word}
 use Rattle.interrupts.proofs.Posts.{one_bit, common}
 use Rattle.takes.specs.Take.{without_bit}

@@ -11,7 +11,7 @@ use Rattle.std.specs.Prelude.{if◌then◌else◌}
 use Rattle.image.specs.Bits.{bits, bit}
 use Rattle.image.specs.Bytes.{spell}
 use Rattle.image.specs.declared.Entry64.{Entry64}
-use Rattle.image.proofs.Stores.{Words}
+use Rattle.image.specs.Entry.{Words}
 use Rattle.takes.specs.Take.{TakeOutcome, handed, none, refused, highest}
 use Rattle.takes.proofs.Bitwise.{in-word, top_set, above-clear}
 

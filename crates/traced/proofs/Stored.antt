@@ -15,7 +15,8 @@ use Rattle.std.specs.Prelude.{if◌then◌else◌}
 use Rattle.std.specs.Bool.{then_some}
 use Rattle.image.specs.Memory.{word_at, with_word}
 use Rattle.image.proofs.Pages.{drop-take}
-use Rattle.image.proofs.Stores.{with_words, Words, all-stored, words-beside}
+use Rattle.image.proofs.Stores.{with_words, all-stored, words-beside}
+use Rattle.image.specs.Entry.{Words}
 use Rattle.image.proofs.Words.{spell_one, word_or0, whole_word}
 use Rattle.traced.specs.Answers.{decoded_of}
 use Rattle.traced.specs.Decoded.{malformed, entry_well, decoded}

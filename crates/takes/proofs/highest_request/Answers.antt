@@ -1,6 +1,6 @@
 use mathlib.Core.Path.{sym}
 use native.Mathlib.Omega.{arith}
-use Rattle.image.proofs.Stores.{Words}
+use Rattle.image.specs.Entry.{Words}
 use Rattle.takes.proofs.Highest.{words_of, top-of-fourth, top-of-third, top-of-second, top-of-first, top-of-none}
 use Rattle.takes.proofs.highest_request.Goals.{After-struct_known-1}
 use Rattle.takes.proofs.highest_request.Goals as goal

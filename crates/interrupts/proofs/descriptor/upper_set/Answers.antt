@@ -5,7 +5,7 @@ use Rattle.image.specs.Bits.{bits}
 use Rattle.image.specs.Answers.{number64, words64}
 use Rattle.image.specs.Bytes.{spell}
 use Rattle.image.proofs.Fields.{whole}
-use Rattle.image.proofs.Stores.{Words}
+use Rattle.image.specs.Entry.{Words}
 use Rattle.image.proofs.WordFields.{from-word, words-below, some_word}
 use Rattle.image.proofs.Words.{spell_one}
 use Rattle.interrupts.proofs.descriptor.upper_set.Goals as goal

@@ -6,7 +6,7 @@ use lib.Dec.{lit<}
 use Rattle.image.specs.Bits.{bits}
 use Rattle.image.specs.Answers.{number64, words64}
 use Rattle.image.proofs.Fields.{in-first}
-use Rattle.image.proofs.Stores.{Words}
+use Rattle.image.specs.Entry.{Words}
 use Rattle.image.proofs.WordFields.{of_word}
 use Rattle.pasid.proofs.table.pasid_entry_of.Goals as goal
 

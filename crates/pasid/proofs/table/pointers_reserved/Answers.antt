@@ -7,7 +7,7 @@ use Rattle.registers.proofs.Powers.{from-bit}
 use Rattle.image.specs.Bits.{bits}
 use Rattle.image.specs.Answers.{number64, words64}
 use Rattle.image.proofs.Fields.{in-first}
-use Rattle.image.proofs.Stores.{Words}
+use Rattle.image.specs.Entry.{Words}
 use Rattle.image.proofs.WordFields.{of_word}
 use Rattle.pasid.specs.Table.{pointers_reserved}
 use Rattle.pasid.proofs.table.pointers_reserved.Goals as goal
