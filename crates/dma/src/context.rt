@@ -9,7 +9,7 @@ ghost use Rattle.dma.specs.Lookup.{checked_context};
 
 use crate::entry::{present, table_address};
 use faults::{Reason, Stop};
-use image::{Entry16, any_set16, bit16, bits16};
+use image::{Entry, Entry16};
 use registers::{Registers, at_or_above_power};
 
 // What a context entry says.
@@ -38,7 +38,7 @@ pub struct FoundContext {
 fn address_width(e: Entry16) -> u64
     ensures { (result ≡ address_width (number16 e)) × (result < 8) }
 {
-    bits16(e, 66, 64)
+    e.bits(66, 64)
 }
 
 // TT, bits 3:2.
@@ -46,7 +46,7 @@ fn address_width(e: Entry16) -> u64
 fn translation_type(e: Entry16) -> u64
     ensures { (result ≡ translation_type (number16 e)) × (result < 4) }
 {
-    bits16(e, 3, 2)
+    e.bits(3, 2)
 }
 
 // Bits 87:72.
@@ -54,7 +54,7 @@ fn translation_type(e: Entry16) -> u64
 fn domain(e: Entry16) -> u64
     ensures { (result ≡ bits (number16 e) 87 72) × (result < 65536) }
 {
-    bits16(e, 87, 72)
+    e.bits(87, 72)
 }
 
 pub fn width_supported(registers: Registers, aw: u64) -> bool
@@ -80,10 +80,7 @@ pub fn width_supported(registers: Registers, aw: u64) -> bool
 fn context_reserved(haw: u8, e: Entry16) -> bool
     ensures { result ≡ context_reserved haw (number16 e) }
 {
-    any_set16(e, 11, 4)
-        | bit16(e, 71)
-        | any_set16(e, 127, 88)
-        | at_or_above_power(e.low, haw as u32)
+    e.any_set(11, 4) | e.bit(71) | e.any_set(127, 88) | at_or_above_power(e.low, haw as u32)
 }
 
 #[tactic(auto, unfolding(crate::specs::Context::context_invalid))]
@@ -97,7 +94,7 @@ fn context_invalid(registers: Registers, e: Entry16) -> bool
 fn fault_processing_disabled(e: Entry16) -> bool
     ensures { result ≡ fault_processing_disabled (number16 e) }
 {
-    bit16(e, 1)
+    e.bit(1)
 }
 
 fn context_of(e: Entry16) -> Context

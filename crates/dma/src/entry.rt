@@ -4,13 +4,13 @@ ghost use Rattle.image.specs.Bits.{bit, in_place};
 ghost use Rattle.image.specs.Answers.{number16};
 ghost use Rattle.dma.specs.Walk.{offset_in};
 
-use image::{Entry16, bit16, in_place};
+use image::{Entry, Entry16, in_place};
 use registers::Page4K;
 
 pub(crate) fn present(e: Entry16) -> bool
     ensures { result ≡ bit (number16 e) 0 }
 {
-    bit16(e, 0)
+    e.bit(0)
 }
 
 // The address of the table that the entry leads to.

@@ -18,7 +18,7 @@ mod walk;
 pub use context::{Context, FoundContext, width_supported};
 pub use entry::{entry_offset, table_address};
 use faults::{Fault, Reason, Stop, memory_fault};
-use image::{bad_windows, first_span};
+use image::Memory;
 pub use lookup::find_context;
 pub use page::{
     Fetch, Walk, fetch_entry, host_address, is_leaf, meets_interrupt_range, page_reserved,
@@ -81,9 +81,9 @@ pub fn memory_request(
     ensures result_value { outcome_of result ≡ memory_answer registers request windows.now image.now }
     ensures result_value_2 { entry_of result ≡ memory_answer_place registers request windows.now image.now }
 {
-    if bad_windows(windows, image.len()) {
+    let Some(memory) = Memory::open(windows, image) else {
         return MemoryAnswer::Refused(Refusal::BadRegisters);
-    }
+    };
     // `admit` tests them too, which the compiler sees: here refusal 1 is told before there is another one to choose.
     if registers.bad() {
         return MemoryAnswer::Refused(Refusal::BadRegisters);
@@ -91,12 +91,6 @@ pub fn memory_request(
     match admit(registers, in_interrupt_range(request.address), registers.te) {
         Err(refusal) => MemoryAnswer::Refused(refusal),
         Ok(Admission::Passed) => MemoryAnswer::Granted(request.address),
-        Ok(Admission::Taken) => {
-            let first = first_span(windows);
-            answer(
-                request,
-                translate(first, windows, image, registers, request),
-            )
-        },
+        Ok(Admission::Taken) => answer(request, translate(&memory, registers, request)),
     }
 }

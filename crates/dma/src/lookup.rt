@@ -2,8 +2,7 @@
 ghost use Rattle.std.specs.Prelude.{false, ◌≡◌, length, ◌+◌, ◌*◌, ◌%◌};
 ghost use Rattle.image.specs.Place.{entry_at, stopped_at};
 ghost use Rattle.image.specs.Rules.{run, answer};
-ghost use Rattle.image.specs.Spans.{Opened};
-ghost use Rattle.image.specs.Windows.{of_windows};
+ghost use Rattle.image.specs.Answers.{memory_of};
 ghost use Rattle.registers.specs.Source.{devfn_of};
 ghost use Rattle.dma.specs.Answers.{lookup_of, lookup_place};
 ghost use Rattle.dma.specs.Lookup.{context, no_context, context_rules, lookup_rules};
@@ -11,25 +10,23 @@ ghost use Rattle.dma.specs.Lookup.{context, no_context, context_rules, lookup_ru
 use crate::context::{FoundContext, context_check};
 use crate::root::root_check;
 use faults::{Reason, Stop};
-use image::{Span, page_entry16_by};
+use image::{Entry16, Memory};
 use registers::{Registers, SourceId};
 
 fn context_in(
-    first: Span,
-    windows: &[u64],
-    image: &[u8],
+    memory: &Memory,
     registers: Registers,
     source: SourceId,
     table: u64,
 ) -> Result<FoundContext, Stop<Reason>>
-    requires { Opened first windows.now (length image.now) × (table % 4096 ≡ 0) }
-    ensures result_value { lookup_of result ≡ run (context_rules registers no_context (λ c. answer (context c)) source.id table) (of_windows windows.now image.now) }
+    requires { table % 4096 ≡ 0 }
+    ensures result_value { lookup_of result ≡ run (context_rules registers no_context (λ c. answer (context c)) source.id table) (memory_of memory.now) }
     ensures result_value_2 { lookup_place result ≡ entry_at (table + 16 * devfn_of source.id) }
 {
     let devfn = source.devfn();
     let offset = 16 * devfn as u64;
     let at = table + offset;
-    let Ok(e) = page_entry16_by(first, windows, image, table, offset) else {
+    let Ok(e) = memory.table_entry::<Entry16>(table, offset) else {
         return Err(Stop {
             reason: Reason::ContextAccess,
             fpd: false,
@@ -40,20 +37,18 @@ fn context_in(
 }
 
 pub fn find_context(
-    first: Span,
-    windows: &[u64],
-    image: &[u8],
+    memory: &Memory,
     registers: Registers,
     source: SourceId,
 ) -> Result<FoundContext, Stop<Reason>>
-    requires { Opened first windows.now (length image.now) × (registers.root_table % 4096 ≡ 0) }
-    ensures result_value { lookup_of result ≡ run (lookup_rules registers source.id) (of_windows windows.now image.now) }
-    ensures result_value_2 { lookup_place result ≡ stopped_at (lookup_rules registers source.id) (of_windows windows.now image.now) }
+    requires { registers.root_table % 4096 ≡ 0 }
+    ensures result_value { lookup_of result ≡ run (lookup_rules registers source.id) (memory_of memory.now) }
+    ensures result_value_2 { lookup_place result ≡ stopped_at (lookup_rules registers source.id) (memory_of memory.now) }
 {
     let bus = source.bus();
     let offset = 16 * bus as u64;
     let at = registers.root_table + offset;
-    let Ok(e) = page_entry16_by(first, windows, image, registers.root_table, offset) else {
+    let Ok(e) = memory.table_entry::<Entry16>(registers.root_table, offset) else {
         return Err(Stop {
             reason: Reason::RootAccess,
             fpd: false,
@@ -61,5 +56,5 @@ pub fn find_context(
         });
     };
     let table = root_check(registers.haw, at, e)?;
-    context_in(first, windows, image, registers, source, table)
+    context_in(memory, registers, source, table)
 }

@@ -3,8 +3,7 @@ ghost use Rattle.std.specs.Prelude.{false, IfErr, ◌≡◌, length, ◌+◌, �
 ghost use Rattle.image.specs.Answers.{fetched8};
 ghost use Rattle.image.specs.Memory.{entry};
 ghost use Rattle.image.specs.Place.{entry_at};
-ghost use Rattle.image.specs.Spans.{Opened};
-ghost use Rattle.image.specs.Windows.{of_windows};
+ghost use Rattle.image.specs.Answers.{memory_of};
 ghost use Rattle.dma.specs.InterruptRange.{meets_interrupt_range, span_at};
 ghost use Rattle.dma.specs.Page.{denied, own_right, leaf_at, page_reserved, page_check, host_address};
 ghost use Rattle.faults.specs.Reason.{number_of};
@@ -14,13 +13,12 @@ ghost use Rattle.dma.specs.Walk.{place_in};
 
 use crate::entry::entry_offset;
 use faults::{Reason, Stop};
-use image::{Missing, Span, bit, field, in_place, page_entry8_by};
+use image::{Memory, Missing, bit, field, in_place};
 use registers::{Page1G, Page4K, Registers, at_or_above_power};
 
-// What is the same at all levels of a walk, but for the registers, which would be kept in memory as a part of it. first: the first window.
+// What is the same at all levels of a walk, but for the registers, which would be kept in memory as a part of it.
 #[derive(Clone, Copy)]
 pub struct Walk {
-    pub first: Span,
     pub address: u64,
     pub fpd: bool,
 }
@@ -124,39 +122,31 @@ fn page_check(
 }
 
 // The entry for an address in a table: below is how many levels come after it.
-pub fn fetch_entry(
-    first: Span,
-    windows: &[u64],
-    image: &[u8],
-    address: u64,
-    below: u32,
-    table: u64,
-) -> Fetch
-    requires { Opened first windows.now (length image.now) × (below < 5) × (table % 4096 ≡ 0) }
+pub fn fetch_entry(memory: &Memory, address: u64, below: u32, table: u64) -> Fetch
+    requires { (below < 5) × (table % 4096 ≡ 0) }
     ensures at_value { result.at ≡ place_in address table below }
-    ensures found_value { fetched8 result.found ≡ entry 1 (of_windows windows.now image.now) (place_in address table below) }
+    ensures found_value { fetched8 result.found ≡ entry 1 (memory_of memory.now) (place_in address table below) }
 {
     let offset = entry_offset(address, below);
     let at = table + offset;
-    let found = page_entry8_by(first, windows, image, table, offset);
+    let found = memory.table_entry(table, offset);
     Fetch { at, found }
 }
 
 // One level of the walk.
 pub(crate) fn page_step(
-    windows: &[u64],
-    image: &[u8],
+    memory: &Memory,
     registers: Registers,
     walk: Walk,
     write: bool,
     below: u32,
     table: u64,
 ) -> Result<Step, Stop<Reason>>
-    requires { Opened walk.first windows.now (length image.now) × (below < 5) × (table % 4096 ≡ 0) }
-    ensures result_value { step_of result ≡ page_over registers walk.address write walk.fpd (of_windows windows.now image.now) below table }
+    requires { (below < 5) × (table % 4096 ≡ 0) }
+    ensures result_value { step_of result ≡ page_over registers walk.address write walk.fpd (memory_of memory.now) below table }
     ensures step_names { StepNames result (entry_at (place_in walk.address table below)) }
 {
-    let Fetch { at, found } = fetch_entry(walk.first, windows, image, walk.address, below, table);
+    let Fetch { at, found } = fetch_entry(memory, walk.address, below, table);
     let Ok(e) = found else {
         return Err(Stop {
             reason: Reason::PageEntryAccess,

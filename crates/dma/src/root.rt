@@ -7,14 +7,14 @@ ghost use Rattle.dma.specs.Answers.{check_of, CheckNames};
 
 use crate::entry::{present, table_address};
 use faults::{Reason, Stop};
-use image::{Entry16, any_set16};
+use image::{Entry, Entry16};
 use registers::at_or_above_power;
 
 // Bits 11:1, 127:64 and 63:HAW.
 fn root_reserved(haw: u8, e: Entry16) -> bool
     ensures { result ≡ root_reserved haw (number16 e) }
 {
-    any_set16(e, 11, 1) | any_set16(e, 127, 64) | at_or_above_power(e.low, haw as u32)
+    e.any_set(11, 1) | e.any_set(127, 64) | at_or_above_power(e.low, haw as u32)
 }
 
 // The context table's address. A root entry has no FPD.

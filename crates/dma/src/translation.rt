@@ -3,8 +3,7 @@ ghost use Rattle.std.specs.Prelude.{◌≡◌, length, ◌%◌, ◌≤◌};
 ghost use Rattle.dma.specs.Context.{Usable};
 ghost use Rattle.image.specs.Place.{entry_at, last_tried, stopped_at};
 ghost use Rattle.image.specs.Rules.{run};
-ghost use Rattle.image.specs.Spans.{Opened};
-ghost use Rattle.image.specs.Windows.{of_windows};
+ghost use Rattle.image.specs.Answers.{memory_of};
 ghost use Rattle.dma.specs.Answers.{translation_of, Names};
 ghost use Rattle.dma.specs.Translation.{overflows as address_overflows, width_rules, translation_rules};
 
@@ -13,7 +12,7 @@ use crate::context::Context;
 use crate::lookup::find_context;
 use crate::walk::walk;
 use faults::{Reason, Stop};
-use image::Span;
+use image::Memory;
 use registers::{Page4K, Registers, at_or_above_power};
 
 #[derive(Clone, Copy)]
@@ -38,17 +37,15 @@ pub fn overflows(registers: Registers, levels: u32, address: u64) -> bool
 // In a context, whose entry is at an address: the width, then pass-through or the walk.
 #[tactic(auto, unfolding(crate::specs::Translation::width_rules, image::specs::Rules::run, image::specs::Place::last_tried))]
 pub fn translate_in(
-    first: Span,
-    windows: &[u64],
-    image: &[u8],
+    memory: &Memory,
     registers: Registers,
     request: MemoryRequest,
     context: Context,
     at: u64,
 ) -> Result<Translation, Stop<Reason>>
-    requires { Opened first windows.now (length image.now) × Usable context }
-    ensures result_value { translation_of result ≡ run (width_rules registers request.address request.write context) (of_windows windows.now image.now) }
-    ensures names { Names result (last_tried (entry_at at) (width_rules registers request.address request.write context) (of_windows windows.now image.now)) }
+    requires { Usable context }
+    ensures result_value { translation_of result ≡ run (width_rules registers request.address request.write context) (memory_of memory.now) }
+    ensures names { Names result (last_tried (entry_at at) (width_rules registers request.address request.write context) (memory_of memory.now)) }
 {
     if overflows(registers, context.levels, request.address) {
         return Err(Stop {
@@ -60,36 +57,18 @@ pub fn translate_in(
     if context.translation_type == 2 {
         return Ok(Translation::Through);
     }
-    walk(
-        first,
-        windows,
-        image,
-        registers,
-        request.address,
-        request.write,
-        context,
-    )
+    walk(memory, registers, request.address, request.write, context)
 }
 
 pub(crate) fn translate(
-    first: Span,
-    windows: &[u64],
-    image: &[u8],
+    memory: &Memory,
     registers: Registers,
     request: MemoryRequest,
 ) -> Result<Translation, Stop<Reason>>
-    requires { Opened first windows.now (length image.now) × (registers.root_table % 4096 ≡ 0) }
-    ensures result_value { translation_of result ≡ run (translation_rules registers request.address request.write request.source.id) (of_windows windows.now image.now) }
-    ensures names { Names result (stopped_at (translation_rules registers request.address request.write request.source.id) (of_windows windows.now image.now)) }
+    requires { registers.root_table % 4096 ≡ 0 }
+    ensures result_value { translation_of result ≡ run (translation_rules registers request.address request.write request.source.id) (memory_of memory.now) }
+    ensures names { Names result (stopped_at (translation_rules registers request.address request.write request.source.id) (memory_of memory.now)) }
 {
-    let found = find_context(first, windows, image, registers, request.source)?;
-    translate_in(
-        first,
-        windows,
-        image,
-        registers,
-        request,
-        found.context,
-        found.at,
-    )
+    let found = find_context(memory, registers, request.source)?;
+    translate_in(memory, registers, request, found.context, found.at)
 }

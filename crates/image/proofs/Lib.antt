@@ -6,6 +6,7 @@ pub mod Forks
 pub mod Halves
 pub mod Local
 pub mod Longer
+pub mod Opened
 pub mod Pages
 pub mod Places
 pub mod Same

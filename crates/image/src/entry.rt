@@ -1,11 +1,23 @@
 // Entries as the words that the code holds.
 ghost use Rattle.std.specs.Prelude.{◌≡◌, ◌+◌, ◌*◌, ◌≤◌, List, [], ◌∷◌, ℕ, length, take, drop, slice_index};
+ghost use Rattle.std.specs.Prelude.{if◌then◌else◌, ◌%◌, false};
+ghost use Rattle.image.specs.Bits.{bits, bit, any_set, in_one_word};
 ghost use Rattle.image.specs.Bytes.{little_endian};
 ghost use Rattle.image.specs.Answers.{words16, words64, number16, number64};
 ghost use Rattle.image.specs.Entry.{EntryLaws, Words, alone, laws8, laws16, laws64};
 
 use crate::buffer::word;
-use crate::{Entry16, Entry64};
+use crate::{Entry16, Entry64, field};
+
+// The field of a word whose lowest bit has this number in an entry.
+fn field_in(word: u64, high: u32, low: u32) -> u64
+    ensures { result ≡ (if in_one_word high low then bits word (high % 64) (low % 64) else 0) }
+{
+    if high / 64 != low / 64 {
+        return 0;
+    }
+    field(word, high % 64, low % 64)
+}
 
 pub trait Entry: Copy {
     ghost WORDS: { ℕ };
@@ -29,6 +41,27 @@ pub trait Entry: Copy {
         ensures fits { Words (words self) };
 
     ghost laws: { EntryLaws WORDS words number };
+
+    // The field from bit high down to bit low, by their numbers in the whole entry, as VT-d writes them: 83:82 of an entry of 16 bytes.
+    // Each field that the rules read lies in one word; one that doesn't is answered 0, or not set.
+    final fn bits(self, high: u32, low: u32) -> u64
+        ensures { result ≡ (if in_one_word high low then bits (number self) high low else 0) }
+    {
+        field_in(self.word(low / 64), high, low)
+    }
+
+    final fn bit(self, place: u32) -> bool
+        ensures { result ≡ bit (number self) place }
+    {
+        self.bits(place, place) == 1
+    }
+
+    // Some bit of the field is set.
+    final fn any_set(self, high: u32, low: u32) -> bool
+        ensures { result ≡ (if in_one_word high low then any_set (number self) high low else false) }
+    {
+        self.bits(high, low) != 0
+    }
 }
 
 impl Entry for u64 {

@@ -8,7 +8,6 @@ ghost use Rattle.image.specs.Bits.{bits, bit, in_place};
 mod buffer;
 mod entries;
 mod entry;
-mod entry_fields;
 mod fetches;
 mod memory;
 mod windows;
@@ -16,7 +15,6 @@ mod windows;
 pub use buffer::{fetch8, store8, word_or_zero};
 pub use entries::{find_window, first_span, place_in, place64};
 pub use entry::Entry;
-pub use entry_fields::{any_set_of, bit_of, bits_of};
 pub use memory::Memory;
 pub use windows::{bad_several, bad_windows};
 

@@ -2,17 +2,17 @@ use Prim.Native.Nat.{ℕ, ◌+◌}
 use mathlib.Core.Path.{ap, ◌∙◌}
 use native.Mathlib.Omega.{arith}
 use Rattle.image.specs.Memory.{entry}
-use Rattle.image.specs.Windows.{of_windows}
+use Rattle.image.specs.Answers.{memory_of}
 use Rattle.dma.proofs.page.fetch_entry.Goals as goal
 
 pub entry_offset-offset-requires : goal.entry_offset-offset-requires
-entry_offset-offset-requires c = c.requires.1
+entry_offset-offset-requires c = c.requires.0
 
 pub overflow_add-at : goal.overflow_add-at
-overflow_add-at c = omega (arith, c.requires.2, c.entry_offset-offset.ensures.1)
+overflow_add-at c = omega (arith, c.requires.1, c.entry_offset-offset.ensures.1)
 
-pub page_entry8_by-found-requires : goal.page_entry8_by-found-requires
-page_entry8_by-found-requires c = let p = c.requires in (p.0, p.2, omega arith, omega arith)
+pub table_entry-found-requires : goal.table_entry-found-requires
+table_entry-found-requires c = let p = c.requires in (p.1, omega arith, omega arith)
 
 pub returns : goal.returns
 returns c =
@@ -20,5 +20,5 @@ returns c =
     let place = ap (λ (i : ℕ). a.table + i) c.entry_offset-offset.ensures.0 in
     record {
       at_value = place;
-      found_value = c.page_entry8_by-found.ensures.result_value ∙ ap (entry 1 (of_windows a.windows.now a.image.now)) place;
+      found_value = c.table_entry-found.ensures.result_value ∙ ap (entry 1 (memory_of a.memory.now)) place;
     }

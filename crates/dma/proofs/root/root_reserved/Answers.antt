@@ -11,4 +11,4 @@ unfolding root_reserved
 returns c =
     let low : c.args.e.low < 2 ^ 64 = omega arith in
     let high : c.args.e.high < 2 ^ 64 = omega arith in
-    rw (low_field low high 63 c.args.haw (lit< tt), from-bit c.args.haw low, c.any_set16.ensures, c.any_set16-2.ensures, c.at_or_above_power.ensures)
+    rw (low_field low high 63 c.args.haw (lit< tt), from-bit c.args.haw low, c.any_set.ensures, c.any_set-2.ensures, c.at_or_above_power.ensures)

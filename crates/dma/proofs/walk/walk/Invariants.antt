@@ -2,7 +2,7 @@ use Prim.Native.Nat.{◌%◌, ◌<◌}
 use mathlib.Core.Path.{◌≡◌}
 use Rattle.image.specs.Place.{Place, last_tried}
 use Rattle.image.specs.Rules.{run}
-use Rattle.image.specs.Windows.{of_windows}
+use Rattle.image.specs.Answers.{memory_of}
 use Rattle.dma.specs.Translation.{page_rules}
 use Rattle.dma.proofs.walk.walk.Given as goal
 
@@ -11,8 +11,8 @@ abbrev pub invariant-loop-below : goal.invariant-loop-below
 invariant-loop-below l =
     (0 < l.below)
     × (l.table % 4096 ≡ 0)
-    × (run (page_rules l.registers l.given.address l.write l.given.fpd l.below l.table) (of_windows l.windows l.image)
-    ≡ run (page_rules l.registers l.given.address l.write l.given.fpd l.fn.context.levels l.fn.context.top) (of_windows l.windows l.image))
+    × (run (page_rules l.registers l.given.address l.write l.given.fpd l.below l.table) (memory_of l.memory)
+    ≡ run (page_rules l.registers l.given.address l.write l.given.fpd l.fn.context.levels l.fn.context.top) (memory_of l.memory))
     × ((before before' : Place)
-    → last_tried before (page_rules l.registers l.given.address l.write l.given.fpd l.below l.table) (of_windows l.windows l.image)
-    ≡ last_tried before' (page_rules l.registers l.given.address l.write l.given.fpd l.fn.context.levels l.fn.context.top) (of_windows l.windows l.image))
+    → last_tried before (page_rules l.registers l.given.address l.write l.given.fpd l.below l.table) (memory_of l.memory)
+    ≡ last_tried before' (page_rules l.registers l.given.address l.write l.given.fpd l.fn.context.levels l.fn.context.top) (memory_of l.memory))
