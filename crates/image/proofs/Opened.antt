@@ -1,5 +1,5 @@
 -- What is known of memory that was opened.
-use Rattle.std.proofs.Common.{◌≡◌, ℕ, false, List, length, Option, Some}
+use Rattle.std.proofs.Common.{◌≡◌, ℕ, false, List, length, Some}
 use Rattle.image.specs.Answers.{memory_of, OpenedBy}
 use Rattle.image.specs.Windows.{of_windows, bad_windows}
 use Rattle.image.specs.declared.memory.Memory.{Memory as MemoryCode}

@@ -11,7 +11,7 @@ mod reserved;
 mod source;
 
 use faults::{Reason, Stop};
-use image::{Entry16, bit16, bits16};
+use image::{Entry, Entry16};
 use registers::{Registers, SourceId};
 pub use reserved::descriptor_address;
 use reserved::reserved_irte;
@@ -46,21 +46,21 @@ fn destination(eime: bool, e: Entry16) -> u32
     ensures { result ≡ destination_of eime (number16 e) }
 {
     if eime {
-        return bits16(e, 63, 32) as u32;
+        return e.bits(63, 32) as u32;
     }
-    bits16(e, 47, 40) as u32
+    e.bits(47, 40) as u32
 }
 
 #[tactic(auto, unfolding(image::specs::Bits::bits))]
 fn remapped_by(eime: bool, e: Entry16) -> Remapped
     ensures { remapped_of result ≡ remapped_by eime (number16 e) }
 {
-    let delivery = bits16(e, 7, 5) as u8;
-    let vector = bits16(e, 23, 16) as u8;
+    let delivery = e.bits(7, 5) as u8;
+    let vector = e.bits(23, 16) as u8;
     Remapped {
-        destination_mode: bit16(e, 2),
-        redirection_hint: bit16(e, 3),
-        trigger: bit16(e, 4),
+        destination_mode: e.bit(2),
+        redirection_hint: e.bit(3),
+        trigger: e.bit(4),
         delivery,
         vector,
         destination: destination(eime, e),
@@ -72,13 +72,13 @@ fn remapped_by(eime: bool, e: Entry16) -> Remapped
 fn irte_of(eime: bool, e: Entry16) -> Irte
     ensures { request_of result ≡ irte_of eime (number16 e) }
 {
-    if bit16(e, 15) {
-        let vector = bits16(e, 23, 16) as u8;
+    if e.bit(15) {
+        let vector = e.bits(23, 16) as u8;
         return Irte::Posts {
             descriptor: descriptor_address(e),
             vector,
-            urgent: bit16(e, 14),
-            fpd: bit16(e, 1),
+            urgent: e.bit(14),
+            fpd: e.bit(1),
         };
     }
     Irte::Remaps(remapped_by(eime, e))
@@ -95,9 +95,9 @@ pub fn irte_check(
     ensures result_value { asked_of result ≡ asked registers source.id (number16 e) }
     ensures irte_names { IrteNames result (entry_at at) }
 {
-    let fpd = bit16(e, 1);
+    let fpd = e.bit(1);
     let stop = |reason| Stop { reason, fpd, at };
-    if !bit16(e, 0) {
+    if !e.bit(0) {
         return Err(stop(Reason::IrteNotPresent));
     }
     if reserved_irte(registers, e) {

@@ -3,7 +3,7 @@ ghost use Rattle.std.specs.Prelude.{◌≡◌, ◌^◌, ◌<◌};
 ghost use Rattle.image.specs.Answers.{number16};
 ghost use Rattle.irte.specs.Irte.{descriptor_address, reserved_in_all, reserved_in_remapped, reserved_in_posted, reserved_irte};
 
-use image::{Entry16, any_set16, bit16, bits16};
+use image::{Entry, Entry16};
 use registers::{Registers, at_or_above_power};
 
 // The host address of the posted descriptor.
@@ -11,34 +11,34 @@ use registers::{Registers, at_or_above_power};
 pub fn descriptor_address(e: Entry16) -> u64
     ensures { (result ≡ descriptor_address (number16 e)) × (result < 2 ^ 64) }
 {
-    bits16(e, 63, 38) * 0x40 + bits16(e, 127, 96) * 0x1_0000_0000
+    e.bits(63, 38) * 0x40 + e.bits(127, 96) * 0x1_0000_0000
 }
 
 fn reserved_in_all(posting: bool, e: Entry16) -> bool
     ensures { result ≡ reserved_in_all posting (number16 e) }
 {
-    (bits16(e, 83, 82) == 3) | (bit16(e, 15) & !posting)
+    (e.bits(83, 82) == 3) | (e.bit(15) & !posting)
 }
 
 fn reserved_in_remapped(eime: bool, e: Entry16) -> bool
     ensures { result ≡ reserved_in_remapped eime (number16 e) }
 {
-    let mode = bits16(e, 7, 5);
-    any_set16(e, 14, 12)
-        | any_set16(e, 31, 24)
-        | any_set16(e, 127, 84)
+    let mode = e.bits(7, 5);
+    e.any_set(14, 12)
+        | e.any_set(31, 24)
+        | e.any_set(127, 84)
         | (mode == 3)
         | (mode == 6)
-        | (!eime & (any_set16(e, 39, 32) | any_set16(e, 63, 48)))
+        | (!eime & (e.any_set(39, 32) | e.any_set(63, 48)))
 }
 
 fn reserved_in_posted(haw: u8, e: Entry16) -> bool
     ensures { result ≡ reserved_in_posted haw (number16 e) }
 {
-    any_set16(e, 7, 2)
-        | any_set16(e, 13, 12)
-        | any_set16(e, 37, 24)
-        | any_set16(e, 95, 84)
+    e.any_set(7, 2)
+        | e.any_set(13, 12)
+        | e.any_set(37, 24)
+        | e.any_set(95, 84)
         | at_or_above_power(descriptor_address(e), haw as u32)
 }
 
@@ -49,7 +49,7 @@ pub(crate) fn reserved_irte(registers: Registers, e: Entry16) -> bool
     if reserved_in_all(registers.posting, e) {
         return true;
     }
-    if bit16(e, 15) {
+    if e.bit(15) {
         return reserved_in_posted(registers.haw, e);
     }
     reserved_in_remapped(registers.eime, e)

@@ -3,7 +3,7 @@ ghost use Rattle.std.specs.Prelude.{◌≡◌};
 ghost use Rattle.image.specs.Answers.{number16};
 ghost use Rattle.irte.specs.Source.{same_source, bus_in_range, source_allowed};
 
-use image::{Entry16, bits16};
+use image::{Entry, Entry16};
 use registers::SourceId;
 
 #[tactic(auto, unfolding(image::specs::Bits::bits))]
@@ -30,10 +30,10 @@ fn bus_in_range(sid: u16, source: SourceId) -> bool
 pub(crate) fn source_allowed(source: SourceId, e: Entry16) -> bool
     ensures { result ≡ source_allowed source.id (number16 e) }
 {
-    let sid = bits16(e, 79, 64) as u16;
-    match bits16(e, 83, 82) {
+    let sid = e.bits(79, 64) as u16;
+    match e.bits(83, 82) {
         0 => true,
-        1 => same_source(bits16(e, 81, 80), sid, source.id),
+        1 => same_source(e.bits(81, 80), sid, source.id),
         _ => bus_in_range(sid, source),
     }
 }

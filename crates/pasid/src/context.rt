@@ -7,7 +7,7 @@ ghost use Rattle.pasid.specs.Context.{context_reserved, beyond as pasid_beyond, 
 
 use crate::Pasid;
 use crate::reason::ScalableReason;
-use image::{Entry64, any_set64, bit64, bits64, in_place};
+use image::{Entry, Entry64, in_place};
 use registers::at_or_above_power;
 
 // What a context entry says of a request.
@@ -26,14 +26,14 @@ pub struct ScalableContext {
 fn upper_set(e: Entry64) -> bool
     ensures { result ≡ any_set (number64 e) 255 85 }
 {
-    any_set64(e, 127, 85) | (any_set64(e, 191, 128) | any_set64(e, 255, 192))
+    e.any_set(127, 85) | (e.any_set(191, 128) | e.any_set(255, 192))
 }
 
 // Bits 8:5, 63:HAW and 255:85.
 fn context_reserved(haw: u8, e: Entry64) -> bool
     ensures { result ≡ context_reserved haw (number64 e) }
 {
-    any_set64(e, 8, 5) | at_or_above_power(e.w0, haw as u32) | upper_set(e)
+    e.any_set(8, 5) | at_or_above_power(e.w0, haw as u32) | upper_set(e)
 }
 
 // PDTS, bits 11:9.
@@ -41,7 +41,7 @@ fn context_reserved(haw: u8, e: Entry64) -> bool
 fn directory_size(e: Entry64) -> u64
     ensures { (result ≡ bits (number64 e) 11 9) × (result < 8) }
 {
-    bits64(e, 11, 9)
+    e.bits(11, 9)
 }
 
 // RID_PASID, bits 83:64.
@@ -49,7 +49,7 @@ fn directory_size(e: Entry64) -> u64
 fn rid_pasid(e: Entry64) -> u64
     ensures { (result ≡ bits (number64 e) 83 64) × (result < 2 ^ 20) }
 {
-    bits64(e, 83, 64)
+    e.bits(83, 64)
 }
 
 // The directory has 2^(PDTS+7) entries of 64 PASIDs each.
@@ -64,7 +64,7 @@ fn beyond(e: Entry64, pasid: u64) -> bool
 fn context_invalid(pasid: Pasid, e: Entry64) -> bool
     ensures { result ≡ context_invalid pasid (number64 e) }
 {
-    (!bit64(e, 2) & bit64(e, 4)) | (!pasid.present & beyond(e, rid_pasid(e)))
+    (!e.bit(2) & e.bit(4)) | (!pasid.present & beyond(e, rid_pasid(e)))
 }
 
 fn pasid_of(pasid: Pasid, e: Entry64) -> u32
@@ -82,8 +82,8 @@ fn context_of(pasid: Pasid, e: Entry64) -> ScalableContext
     ScalableContext {
         directory: in_place(e.w0, 63, 12),
         pasid: pasid_of(pasid, e),
-        privileged: !pasid.present & bit64(e, 84),
-        fpd: bit64(e, 1),
+        privileged: !pasid.present & e.bit(84),
+        fpd: e.bit(1),
     }
 }
 
@@ -92,7 +92,7 @@ fn context_of(pasid: Pasid, e: Entry64) -> ScalableContext
 pub fn context_check(haw: u8, pasid: Pasid, e: Entry64) -> Result<ScalableContext, ScalableReason>
     ensures { context_checked result ≡ context_check haw pasid (number64 e) }
 {
-    if !bit64(e, 0) {
+    if !e.bit(0) {
         return Err(ScalableReason::ContextNotPresent);
     }
     if context_reserved(haw, e) {
@@ -101,7 +101,7 @@ pub fn context_check(haw: u8, pasid: Pasid, e: Entry64) -> Result<ScalableContex
     if context_invalid(pasid, e) {
         return Err(ScalableReason::ContextInvalid);
     }
-    if pasid.present & !bit64(e, 3) {
+    if pasid.present & !e.bit(3) {
         return Err(ScalableReason::PasidDisabled);
     }
     if pasid.present & beyond(e, pasid.value as u64) {

@@ -5,7 +5,7 @@ ghost use Rattle.image.specs.Answers.{number64};
 ghost use Rattle.pasid.specs.Table.{feature_reserved, pointers_reserved, table_reserved, pasid_entry_of};
 
 use crate::ScalableRegisters;
-use image::{Entry64, any_set64, bit64, bits64, in_place};
+use image::{Entry, Entry64, in_place};
 use registers::at_or_above_power;
 
 // What a PASID table entry says of a request.
@@ -42,9 +42,7 @@ fn upper_set(e: Entry64) -> bool
 fn feature_reserved(registers: ScalableRegisters, e: Entry64) -> bool
     ensures { result ≡ feature_reserved registers (number64 e) }
 {
-    (bit64(e, 9) & !registers.slads)
-        | (bit64(e, 128) & !registers.srs)
-        | (bit64(e, 135) & !registers.eafs)
+    (e.bit(9) & !registers.slads) | (e.bit(128) & !registers.srs) | (e.bit(135) & !registers.eafs)
 }
 
 // Of the two tables' addresses, bits 63:HAW and 191:(128+HAW).
@@ -59,9 +57,9 @@ fn pointers_reserved(haw: u8, e: Entry64) -> bool
 pub(crate) fn table_reserved(registers: ScalableRegisters, e: Entry64) -> bool
     ensures { result ≡ table_reserved registers (number64 e) }
 {
-    any_set64(e, 11, 10)
-        | any_set64(e, 86, 80)
-        | any_set64(e, 139, 136)
+    e.any_set(11, 10)
+        | e.any_set(86, 80)
+        | e.any_set(139, 136)
         | upper_set(e)
         | pointers_reserved(registers.base.haw, e)
         | feature_reserved(registers, e)
@@ -72,7 +70,7 @@ pub(crate) fn table_reserved(registers: ScalableRegisters, e: Entry64) -> bool
 pub(crate) fn translation_type(e: Entry64) -> u64
     ensures { (result ≡ bits (number64 e) 8 6) × (result < 8) }
 {
-    bits64(e, 8, 6)
+    e.bits(8, 6)
 }
 
 // AW, bits 4:2.
@@ -80,7 +78,7 @@ pub(crate) fn translation_type(e: Entry64) -> u64
 pub(crate) fn address_width(e: Entry64) -> u64
     ensures { (result ≡ bits (number64 e) 4 2) × (result < 8) }
 {
-    bits64(e, 4, 2)
+    e.bits(4, 2)
 }
 
 // FLPM, bits 131:130.
@@ -88,7 +86,7 @@ pub(crate) fn address_width(e: Entry64) -> u64
 pub(crate) fn paging_mode(e: Entry64) -> u64
     ensures { (result ≡ bits (number64 e) 131 130) × (result < 4) }
 {
-    bits64(e, 131, 130)
+    e.bits(131, 130)
 }
 
 pub(crate) fn pasid_entry_of(privileged: bool, fpd: bool, e: Entry64) -> PasidEntry
@@ -100,12 +98,12 @@ pub(crate) fn pasid_entry_of(privileged: bool, fpd: bool, e: Entry64) -> PasidEn
         second_levels: address_width(e) as u32 + 2,
         first_top: in_place(e.w2, 63, 12),
         first_levels: paging_mode(e) as u32 + 4,
-        slade: bit64(e, 9),
-        pwsnp: bit64(e, 87),
-        wpe: bit64(e, 132),
-        nxe: bit64(e, 133),
-        eafe: bit64(e, 135),
+        slade: e.bit(9),
+        pwsnp: e.bit(87),
+        wpe: e.bit(132),
+        nxe: e.bit(133),
+        eafe: e.bit(135),
         privileged,
-        fpd: fpd | bit64(e, 1),
+        fpd: fpd | e.bit(1),
     }
 }

@@ -10,7 +10,7 @@ use crate::table::{
     PasidEntry, address_width, paging_mode, pasid_entry_of, table_reserved, translation_type,
 };
 use dma::width_supported;
-use image::{Entry64, bit64};
+use image::{Entry, Entry64};
 
 fn type_supported(registers: ScalableRegisters, pgtt: u64) -> bool
     ensures { result ≡ type_supported registers pgtt }
@@ -51,7 +51,7 @@ pub fn table_check(
 ) -> Result<PasidEntry, ScalableReason>
     ensures { table_checked result ≡ table_check registers privileged fpd (number64 e) }
 {
-    if !bit64(e, 0) {
+    if !e.bit(0) {
         return Err(ScalableReason::TableNotPresent);
     }
     if table_reserved(registers, e) {
@@ -60,7 +60,7 @@ pub fn table_check(
     if table_invalid(registers, e) {
         return Err(ScalableReason::TableInvalid);
     }
-    if privileged & !bit64(e, 128) {
+    if privileged & !e.bit(128) {
         return Err(ScalableReason::SupervisorDenied);
     }
     Ok(pasid_entry_of(privileged, fpd, e))

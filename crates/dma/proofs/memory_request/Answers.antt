@@ -1,6 +1,4 @@
-use mathlib.Core.Bool.{false}
 use mathlib.Core.Path.{◌≡◌, ap, sym, ◌∙◌}
-use lib.ListN.{length}
 use Rattle.std.specs.Prelude.{Ok}
 use Rattle.registers.specs.Admission.{taken_up, admission}
 use Rattle.registers.specs.Answers.{admitted_of}

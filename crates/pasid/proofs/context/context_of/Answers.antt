@@ -9,4 +9,4 @@ pub returns : goal.returns
 returns c =
     let e = c.args.e in
     let low : e.w0 < 2 ^ 64 = omega arith in
-    rw (in-first (e.w1 ∷ e.w2 ∷ e.w3 ∷ e.w4 ∷ e.w5 ∷ e.w6 ∷ e.w7 ∷ []) low 63 12 (lit< tt), c.in_place.ensures, c.pasid_of.ensures, c.bit64.ensures, c.bit64-2.ensures)
+    rw (in-first (e.w1 ∷ e.w2 ∷ e.w3 ∷ e.w4 ∷ e.w5 ∷ e.w6 ∷ e.w7 ∷ []) low 63 12 (lit< tt), c.in_place.ensures, c.pasid_of.ensures, c.bit.ensures, c.bit-2.ensures)

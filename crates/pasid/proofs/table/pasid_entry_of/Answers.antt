@@ -18,4 +18,4 @@ returns c =
     let low : e.w0 < 2 ^ 64 = omega arith in
     let words : Words (words64 e) = (omega arith, (omega arith, (omega arith, (omega arith, (omega arith, (omega arith, (omega arith, (omega arith, tt)))))))) in
     let upper : bits (number64 e) 191 140 ≡ bits e.w2 63 12 = of_word 2 (words64 e) words 63 12 (lit< tt) in
-    rw (in-first (e.w1 ∷ e.w2 ∷ e.w3 ∷ e.w4 ∷ e.w5 ∷ e.w6 ∷ e.w7 ∷ []) low 63 12 (lit< tt), upper, c.translation_type.ensures.0, c.in_place.ensures, c.address_width.ensures.0, c.in_place-2.ensures, c.paging_mode.ensures.0, c.bit64.ensures, c.bit64-2.ensures, c.bit64-3.ensures, c.bit64-4.ensures, c.bit64-5.ensures, c.bit64-6.ensures)
+    rw (in-first (e.w1 ∷ e.w2 ∷ e.w3 ∷ e.w4 ∷ e.w5 ∷ e.w6 ∷ e.w7 ∷ []) low 63 12 (lit< tt), upper, c.translation_type.ensures.0, c.in_place.ensures, c.address_width.ensures.0, c.in_place-2.ensures, c.paging_mode.ensures.0, c.bit.ensures, c.bit-2.ensures, c.bit-3.ensures, c.bit-4.ensures, c.bit-5.ensures, c.bit-6.ensures)
