@@ -7,7 +7,7 @@ ghost use Rattle.image.specs.Place.{entry_at};
 ghost use Rattle.interrupts.specs.Answers.{due_of, descriptor_checked, descriptor_place, descriptor_fpd};
 
 use faults::{Reason, Stop};
-use image::{Entry64, any_set64, bit64, bits64};
+use image::{Entry, Entry64};
 
 // The notification of a post: it is due where ON and SN don't hold it back.
 #[derive(Clone, Copy, Debug, PartialEq, Eq)]
@@ -26,26 +26,26 @@ fn upper_set(d: Entry64) -> bool
 fn reserved_descriptor(eime: bool, d: Entry64) -> bool
     ensures { result ≡ reserved_descriptor eime (number64 d) }
 {
-    any_set64(d, 271, 258)
-        | any_set64(d, 287, 280)
+    d.any_set(271, 258)
+        | d.any_set(287, 280)
         | upper_set(d)
-        | (!eime & (any_set64(d, 295, 288) | any_set64(d, 319, 304)))
+        | (!eime & (d.any_set(295, 288) | d.any_set(319, 304)))
 }
 
 fn notification_destination(eime: bool, d: Entry64) -> u32
     ensures { result ≡ notification_destination eime (number64 d) }
 {
     if eime {
-        return bits64(d, 319, 288) as u32;
+        return d.bits(319, 288) as u32;
     }
-    bits64(d, 303, 296) as u32
+    d.bits(303, 296) as u32
 }
 
 // ON holds the notification back, and so does SN, but not that of an urgent post.
 fn notification_due(urgent: bool, d: Entry64) -> bool
     ensures { result ≡ notification_due urgent (number64 d) }
 {
-    !bit64(d, 256) & (urgent | !bit64(d, 257))
+    !d.bit(256) & (urgent | !d.bit(257))
 }
 
 fn notification_of(eime: bool, urgent: bool, d: Entry64) -> Option<Notice>
@@ -54,7 +54,7 @@ fn notification_of(eime: bool, urgent: bool, d: Entry64) -> Option<Notice>
     if !notification_due(urgent, d) {
         return None;
     }
-    let vector = bits64(d, 279, 272) as u8;
+    let vector = d.bits(279, 272) as u8;
     let destination = notification_destination(eime, d);
     Some(Notice {
         vector,

@@ -1,10 +1,10 @@
 // Interrupt requests: from a message to the remapped or posted interrupt or a fault.
 #![tactic(auto)]
 
-ghost use Rattle.std.specs.Prelude.{false, ◌≡◌, ◌%◌, ◌^◌, ◌<◌, length};
+ghost use Rattle.std.specs.Prelude.{◌≡◌, ◌%◌, ◌^◌, ◌<◌};
 ghost use Rattle.image.specs.Place.{stopped_at};
 ghost use Rattle.image.specs.Rules.{run};
-ghost use Rattle.image.specs.Windows.{of_windows, bad_windows};
+ghost use Rattle.image.specs.Answers.{memory_of};
 ghost use Rattle.interrupts.specs.Answers.{outcome_of, entry_of};
 ghost use Rattle.interrupts.specs.Interrupts.{request_rules, interrupt_rules, concerned, interrupt_place, interrupt_answer, interrupt_answer_place};
 ghost use Rattle.interrupts.specs.Post.{interrupt_written};
@@ -19,7 +19,7 @@ use answer::answer_of;
 pub use answer::{InterruptAnswer, Posted};
 pub use descriptor::Notice;
 use faults::interrupt_fault;
-use image::bad_windows;
+use image::Memory;
 pub use irte::Remapped;
 use post::write_post;
 use registers::{Admission, Refusal, Registers, SourceId, admit, in_interrupt_range};
@@ -35,20 +35,15 @@ pub struct InterruptRequest {
 }
 
 // A request past the refusals and the switch.
-fn decide_taken(
-    windows: &[u64],
-    image: &[u8],
-    registers: Registers,
-    request: InterruptRequest,
-) -> InterruptAnswer
-    requires { (bad_windows windows.now (length image.now) ≡ false) × (registers.interrupt_table % 4096 ≡ 0) × (registers.interrupt_table < 2 ^ 52) }
-    ensures result_value { outcome_of result ≡ run (request_rules registers request) (of_windows windows.now image.now) }
-    ensures result_value_2 { entry_of result ≡ concerned (outcome_of result) (stopped_at (request_rules registers request) (of_windows windows.now image.now)) }
+fn decide_taken(memory: &Memory, registers: Registers, request: InterruptRequest) -> InterruptAnswer
+    requires { (registers.interrupt_table % 4096 ≡ 0) × (registers.interrupt_table < 2 ^ 52) }
+    ensures result_value { outcome_of result ≡ run (request_rules registers request) (memory_of memory.now) }
+    ensures result_value_2 { entry_of result ≡ concerned (outcome_of result) (stopped_at (request_rules registers request) (memory_of memory.now)) }
 {
     match request_check(registers, request.address, request.data) {
         Ok(None) => InterruptAnswer::Passed,
         Ok(Some(index)) => {
-            let delivery = follow_index(windows, image, registers, request.source, index);
+            let delivery = follow_index(memory, registers, request.source, index);
             answer_of(request.source, index, delivery)
         }
         Err(reason) => {
@@ -58,15 +53,9 @@ fn decide_taken(
 }
 
 // The answer over windows that aren't refused, with nothing written.
-fn decide(
-    windows: &[u64],
-    image: &[u8],
-    registers: Registers,
-    request: InterruptRequest,
-) -> InterruptAnswer
-    requires { bad_windows windows.now (length image.now) ≡ false }
-    ensures result_value { outcome_of result ≡ run (interrupt_rules registers request) (of_windows windows.now image.now) }
-    ensures result_value_2 { entry_of result ≡ interrupt_place registers request (of_windows windows.now image.now) }
+fn decide(memory: &Memory, registers: Registers, request: InterruptRequest) -> InterruptAnswer
+    ensures result_value { outcome_of result ≡ run (interrupt_rules registers request) (memory_of memory.now) }
+    ensures result_value_2 { entry_of result ≡ interrupt_place registers request (memory_of memory.now) }
 {
     // As for memory requests: told before `admit` has a refusal to choose.
     if registers.bad() {
@@ -79,7 +68,7 @@ fn decide(
     ) {
         Err(refusal) => InterruptAnswer::Refused(refusal),
         Ok(Admission::Passed) => InterruptAnswer::Passed,
-        Ok(Admission::Taken) => decide_taken(windows, image, registers, request),
+        Ok(Admission::Taken) => decide_taken(memory, registers, request),
     }
 }
 
@@ -95,10 +84,10 @@ pub fn interrupt_request(
     ensures result_value_2 { entry_of result ≡ interrupt_answer_place registers request windows.now image.old }
     ensures image_after { image.new ≡ interrupt_written windows.now (interrupt_answer registers request windows.now image.old) image.old }
 {
-    if bad_windows(windows, image.len()) {
+    let Some(memory) = Memory::open(windows, image) else {
         return InterruptAnswer::Refused(Refusal::BadRegisters);
-    }
-    let answer = decide(windows, image, registers, request);
+    };
+    let answer = decide(&memory, registers, request);
     if let InterruptAnswer::Posted(posted) = answer {
         write_post(windows, image, posted);
     }

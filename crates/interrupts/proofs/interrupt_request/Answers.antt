@@ -3,7 +3,9 @@ use mathlib.Core.Bool.{false}
 use mathlib.Core.List.{List}
 use mathlib.Core.Path.{◌≡◌, refl, ap, sym, subst, ◌∙◌}
 use lib.ListN.{length}
-use Rattle.image.specs.Windows.{bad_windows}
+use Rattle.image.specs.Answers.{memory_of}
+use Rattle.image.specs.Windows.{of_windows, bad_windows}
+use Rattle.image.proofs.Opened.{fine, shown}
 use Rattle.registers.specs.declared.Registers.{Registers}
 use Rattle.interrupts.specs.Answers.{outcome_of, entry_of}
 use Rattle.interrupts.specs.Interrupts.{InterruptOutcome, interrupt_answer, interrupt_answer_place}
@@ -16,14 +18,9 @@ use Rattle.interrupts.proofs.Posts.{unposted}
 use Rattle.interrupts.proofs.interrupt_request.Goals.{After-decide-answer}
 use Rattle.interrupts.proofs.interrupt_request.Goals as goal
 
-pub returns-then-bad_windows : goal.returns-then-bad_windows
-returns-then-bad_windows c =
-    let b = c in
-    let bad = sym c.bad_windows.ensures ∙ c.if-bad_windows.true in
-    rw bad (record { result_value = refl; result_value_2 = refl; image_after = refl })
-
-pub decide-answer-requires : goal.decide-answer-requires
-decide-answer-requires c = let e = c in sym e.bad_windows.ensures ∙ e.if-bad_windows.false
+-- windows that are refused
+pub returns-in_default : goal.returns-in_default
+returns-in_default c = let bad = c.in_default.ensures in rw bad (record { result_value = refl; result_value_2 = refl; image_after = refl })
 
 module _ (c : After-decide-answer) where
   abbrev registers : Registers
@@ -39,13 +36,16 @@ module _ (c : After-decide-answer) where
   bytes = c.args.image.now
 
   good : bad_windows windows (length bytes) ≡ false
-  good = sym c.bad_windows.ensures ∙ c.if-bad_windows.false
+  good = fine c.in-Some.memory c.in-Some.ensures
+
+  there : memory_of c.in-Some.memory ≡ of_windows windows bytes
+  there = shown c.in-Some.memory c.in-Some.ensures
 
   decided : outcome_of c.decide-answer.result ≡ interrupt_answer registers request windows bytes
-  decided = rw good c.decide-answer.ensures.result_value
+  decided = rw good (rw there at c.decide-answer.ensures.result_value)
 
   concerned : entry_of c.decide-answer.result ≡ interrupt_answer_place registers request windows bytes
-  concerned = rw good c.decide-answer.ensures.result_value_2
+  concerned = rw good (rw there at c.decide-answer.ensures.result_value_2)
 
   -- a post's descriptor stands in a window
   stands : {p : posted.Posted} → c.decide-answer.result ≡ answer.Posted p → Stands windows bytes p.descriptor p.vector
@@ -69,10 +69,10 @@ returns-in-Posted c =
       image_after = c.write_post.ensures ∙ ap (λ (o : InterruptOutcome). interrupt_written (windows k) o (bytes k)) same;
     }
 
-pub returns-in_default : goal.returns-in_default
-returns-in_default c =
-    let k = (goal.at.returns-in_default c).After-decide-answer in
-    let left = unposted c.decide-answer.result (windows k) (bytes k) c.in_default.not-Posted in
+pub returns-in_default-answer : goal.returns-in_default-answer
+returns-in_default-answer c =
+    let k = (goal.at.returns-in_default-answer c).After-decide-answer in
+    let left = unposted c.decide-answer.result (windows k) (bytes k) c.in_default-answer.not-Posted in
     record {
       result_value = decided k;
       result_value_2 = concerned k;

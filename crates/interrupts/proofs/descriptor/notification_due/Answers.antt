@@ -1,4 +1,4 @@
 use Rattle.interrupts.proofs.descriptor.notification_due.Goals as goal
 
 pub returns : goal.returns
-returns c = rw (c.bit64.ensures, c.bit64-2.ensures)
+returns c = rw (c.bit.ensures, c.bit-2.ensures)
