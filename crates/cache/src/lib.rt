@@ -2,10 +2,9 @@
 #![tactic(auto)]
 
 ghost use Rattle.std.specs.Prelude.{◌≡◌, ◌%◌, length, replicate};
+ghost use Rattle.image.specs.Answers.{memory_of};
 ghost use Rattle.image.specs.Place.{stopped_at};
 ghost use Rattle.image.specs.Rules.{run};
-ghost use Rattle.image.specs.Spans.{Opened};
-ghost use Rattle.image.specs.Windows.{of_windows};
 ghost use Rattle.dma.specs.Answers.{translation_of, Names, outcome_of, entry_of};
 ghost use Rattle.dma.specs.Translation.{translation_rules};
 ghost use Rattle.cache.specs.Engine.{domain_over};
@@ -16,28 +15,26 @@ mod state;
 
 use dma::{MemoryAnswer, MemoryRequest, Translation, answer, find_context, translate_in};
 use faults::{Reason, Stop};
-use image::{Span, bad_windows, first_span};
+use image::Memory;
 use places::{WORDS, clear, sift};
 use registers::{Admission, Refusal, Registers, admit, in_interrupt_range};
 use state::{held_address, keep, newest};
 
 // The translation, where nothing that is held answers; a page that is granted is held.
 fn translate_and_keep(
-    first: Span,
-    windows: &[u64],
-    image: &[u8],
+    memory: &Memory,
     registers: Registers,
     request: MemoryRequest,
     state: &mut [u64],
 ) -> Result<Translation, Stop<Reason>>
-    requires { Opened first windows.now (length image.now) × (registers.root_table % 4096 ≡ 0) }
-    ensures result_value { translation_of result ≡ run (translation_rules registers request.address request.write request.source.id) (of_windows windows.now image.now) }
-    ensures names { Names result (stopped_at (translation_rules registers request.address request.write request.source.id) (of_windows windows.now image.now)) }
-    ensures state_after { state.new ≡ state_kept state.old request (run (translation_rules registers request.address request.write request.source.id) (of_windows windows.now image.now)) (domain_over registers request.source.id (of_windows windows.now image.now)) }
+    requires { registers.root_table % 4096 ≡ 0 }
+    ensures result_value { translation_of result ≡ run (translation_rules registers request.address request.write request.source.id) (memory_of memory.now) }
+    ensures names { Names result (stopped_at (translation_rules registers request.address request.write request.source.id) (memory_of memory.now)) }
+    ensures state_after { state.new ≡ state_kept state.old request (run (translation_rules registers request.address request.write request.source.id) (memory_of memory.now)) (domain_over registers request.source.id (memory_of memory.now)) }
 {
-    let found = find_context(first, windows, image, registers, request.source)?;
+    let found = find_context(memory, registers, request.source)?;
     let context = found.context;
-    let translated = translate_in(first, windows, image, registers, request, context, found.at)?;
+    let translated = translate_in(memory, registers, request, context, found.at)?;
     keep(state, request, translated, context.domain);
     Ok(translated)
 }
@@ -54,9 +51,9 @@ pub fn cached_request(
     ensures result_value_2 { entry_of result ≡ cached_place registers state.old request windows.now image.now }
     ensures state_after { state.new ≡ cached_state registers state.old request windows.now image.now }
 {
-    if bad_windows(windows, image.len()) {
+    let Some(memory) = Memory::open(windows, image) else {
         return MemoryAnswer::Refused(Refusal::BadRegisters);
-    }
+    };
     match admit(registers, in_interrupt_range(request.address), registers.te) {
         Err(refusal) => MemoryAnswer::Refused(refusal),
         Ok(Admission::Passed) => MemoryAnswer::Granted(request.address),
@@ -64,11 +61,8 @@ pub fn cached_request(
             if let Some(age) = newest(state, request) {
                 return MemoryAnswer::Granted(held_address(state, age, request.address));
             }
-            let first = first_span(windows);
-            answer(
-                request,
-                translate_and_keep(first, windows, image, registers, request, state),
-            )
+            let translated = translate_and_keep(&memory, registers, request, state);
+            answer(request, translated)
         }
     }
 }
