@@ -91,7 +91,7 @@ fn with_bit_127(high: u64) -> u64
 // The recorder's calls, its state and the records' buffer changed in place.
 impl Recorder {
     // Hands it a fault's record.
-    #[tactic(auto, unfolding(crate::specs::Recorder::recording), using(crate::proofs::Recording::in_reach))]
+    #[tactic(auto, unfolding(crate::specs::Recorder::recording), using(crate::proofs::Buffer::marked))]
     pub fn record(&mut self, buffer: &mut [u8], fault: FaultRecord) -> RecorderAnswer
         ensures { left_by result self.new buffer.new ≡ recording (slots_in buffer.old) buffer.old self.old.next self.old.overflow fault.recordable (spell (fault.low ∷ fault.high ∷ [])) }
     {

@@ -1,7 +1,5 @@
 use Rattle.std.proofs.Common.{◌+◌, ◌*◌, ◌≤◌, length, rules}
 use borrow.Author.Tests.{lt-leb}
-use Rattle.faults.specs.Recorder.{recording}
-use Rattle.faults.proofs.Buffer.{marked}
 use Rattle.faults.proofs.Recording.{in_reach, counted}
 use Rattle.faults.proofs.recorder.Recorder.record.Goals.{Else-slots-slot}
 use Rattle.faults.proofs.recorder.Recorder.record.Goals as goal
@@ -21,18 +19,3 @@ write_record-requires c = reached (goal.at.write_record-requires c).Else-slots-s
 pub slot_after-self-requires : goal.slot_after-self-requires
 slot_after-self-requires c = (c.if-slots-slot.false, rw c.slot_count-slots.ensures (counted _).0)
 
-pub returns : goal.returns
-unfolding recording
-returns c =
-    rw (
-      ← c.slot_count-slots.ensures,
-      lt-leb _ _ c.if-slots-slot.false,
-      c.if-not-fault.false,
-      c.if-self.false,
-      ← c.is_standing.ensures,
-      c.if-is_standing.false,
-      ← marked c.args.fault.low c.args.fault.high (search rules),
-      ← c.with_bit_127.ensures,
-      c.write_record.ensures,
-      c.slot_after-self.ensures,
-    )
