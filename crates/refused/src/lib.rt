@@ -1,37 +1,69 @@
-// Which register or window refusal 1 is for, by number. No request asks for it: it is for a caller that was refused.
+// Which register or window a request is refused for. No request asks for it: it is for a caller that was refused.
 #![tactic(auto)]
 
-ghost use Rattle.std.specs.Prelude.{◌≡◌, take};
+ghost use Rattle.std.specs.Prelude.{◌≡◌, ◌<◌, take};
 ghost use Rattle.image.specs.Windows.{bad_windows};
+ghost use Rattle.refused.specs.Answers.{bad_number, first_named, register_named, window_named};
 ghost use Rattle.refused.specs.FirstBad.{first_bad, first_bad_register, first_bad_window};
 
 use image::bad_windows;
 use registers::{Registers, bad_table};
 
-// The first register outside its list: HAW 1, MGAW 2, page table levels 3, root table 4, interrupt remapping table 5, S 6; 0 where all
-// are in theirs.
-pub fn first_bad_register(registers: Registers) -> u8
-    ensures { result ≡ first_bad_register registers }
+// A register outside its list, by the C interface's numbers.
+#[derive(Clone, Copy, Debug, PartialEq, Eq)]
+pub enum BadRegister {
+    Haw = 1,
+    Mgaw = 2,
+    // None of the page tables' depths is supported.
+    Levels = 3,
+    RootTable = 4,
+    InterruptTable = 5,
+    S = 6,
+}
+
+#[derive(Clone, Copy, Debug, PartialEq, Eq)]
+pub enum FirstBad {
+    Register(BadRegister),
+    // By its number, which counts from 0.
+    Window(u8),
+}
+
+impl FirstBad {
+    // The C interface's: a window's is 8 and its own.
+    pub fn number(self) -> u32
+        ensures { (result ≡ bad_number self) × (result < 264) }
+    {
+        match self {
+            FirstBad::Register(register) => register as u32,
+            FirstBad::Window(window) => 8 + window as u32,
+        }
+    }
+}
+
+// The first register outside its list.
+#[tactic(auto, unfolding(crate::specs::FirstBad::first_bad_register))]
+pub fn first_bad_register(registers: Registers) -> Option<BadRegister>
+    ensures { register_named result ≡ first_bad_register registers }
 {
     if (registers.haw < 36) | (52 < registers.haw) {
-        return 1;
+        return Some(BadRegister::Haw);
     }
     if (registers.mgaw < 39) | (57 < registers.mgaw) {
-        return 2;
+        return Some(BadRegister::Mgaw);
     }
     if !(registers.levels3 | registers.levels4 | registers.levels5) {
-        return 3;
+        return Some(BadRegister::Levels);
     }
     if bad_table(registers.haw, registers.root_table) {
-        return 4;
+        return Some(BadRegister::RootTable);
     }
     if bad_table(registers.haw, registers.interrupt_table) {
-        return 5;
+        return Some(BadRegister::InterruptTable);
     }
     if 15 < registers.s {
-        return 6;
+        return Some(BadRegister::S);
     }
-    0
+    None
 }
 
 // The windows whose numbers are the first so many are refused.
@@ -44,35 +76,28 @@ fn bad_first(windows: &[u64], count: usize, run: usize) -> bool
     bad_windows(&windows[..count], run)
 }
 
-// The first window with which those up to it are refused: 8 and its number, which counts from 0; 0 where no window is.
-pub fn first_bad_window(windows: &[u64], run: usize) -> u8
-    ensures { result ≡ first_bad_window windows.now run }
+// The first window with which those up to it are refused, by its number. A window has three numbers.
+pub fn first_bad_window(windows: &[u64], run: usize) -> Option<u8>
+    ensures { window_named result ≡ first_bad_window windows.now run }
 {
-    if bad_first(windows, 3, run) {
-        return 8;
-    }
-    if bad_first(windows, 6, run) {
-        return 9;
-    }
-    if bad_first(windows, 9, run) {
-        return 10;
-    }
-    if bad_first(windows, 12, run) {
-        return 11;
+    for window in 0..4 {
+        if bad_first(windows, 3 * window as usize + 3, run) {
+            return Some(window);
+        }
     }
     if bad_windows(windows, run) {
-        return 12;
+        return Some(4);
     }
-    0
+    None
 }
 
-// Registers come before windows. 0 exactly where refusal 1 isn't answered.
-pub fn first_bad(registers: Registers, windows: &[u64], run: usize) -> u8
-    ensures { result ≡ first_bad registers windows.now run }
+// Registers come before windows. None exactly where registers and windows are taken.
+#[tactic(auto, unfolding(crate::specs::FirstBad::first_bad))]
+pub fn first_bad(registers: Registers, windows: &[u64], run: usize) -> Option<FirstBad>
+    ensures { first_named result ≡ first_bad registers windows.now run }
 {
-    let register = first_bad_register(registers);
-    if register != 0 {
-        return register;
+    if let Some(register) = first_bad_register(registers) {
+        return Some(FirstBad::Register(register));
     }
-    first_bad_window(windows, run)
+    first_bad_window(windows, run).map(|window| FirstBad::Window(window))
 }

@@ -1,4 +1,4 @@
-use Rattle.std.proofs.Common.{◌+◌, ◌*◌, ◌≤◌, length, rules}
+use Rattle.std.proofs.Common.{◌+◌, ◌*◌, ◌≤◌, length}
 use borrow.Author.Tests.{lt-leb}
 use Rattle.faults.proofs.Recording.{in_reach, counted}
 use Rattle.faults.proofs.recorder.Recorder.record.Goals.{Else-slots-slot}
@@ -18,4 +18,3 @@ write_record-requires c = reached (goal.at.write_record-requires c).Else-slots-s
 
 pub slot_after-self-requires : goal.slot_after-self-requires
 slot_after-self-requires c = (c.if-slots-slot.false, rw c.slot_count-slots.ensures (counted _).0)
-
