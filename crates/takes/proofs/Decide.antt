@@ -1,28 +1,21 @@
 -- A take by what its tests and its fetch tell.
 use Prim.Native.Nat.{ℕ, ◌%◌}
-use mathlib.Core.Bool.{Bool, true, false, ◌||◌}
+use mathlib.Core.Bool.{true, false}
 use mathlib.Core.List.{List}
-use mathlib.Core.Logic.{◌⊎◌, inl, inr}
 use mathlib.Core.Path.{◌≡◌, refl, ap, sym, ◌∙◌}
-use native.Mathlib.Omega.{arith}
 use borrow.Author.Tests.{eq-eqb, ne_eqb}
 use lib.ListN.{length}
 use Rattle.image.specs.Bits.{bit}
-use Rattle.std.specs.Prelude.{if◌then◌else◌, Option, Some, None}
+use Rattle.std.specs.Prelude.{Option, Some, None}
 use Rattle.image.specs.Memory.{missing, found, entry}
 use Rattle.image.specs.Rules.{run}
 use Rattle.image.specs.Windows.{windows_of, here, on_spot, spot_in, of_windows, bad_windows}
-use Rattle.image.proofs.Choices.{neither}
 use Rattle.registers.specs.Registers.{registers_bad}
 use Rattle.registers.specs.declared.Registers.{Registers}
 use Rattle.takes.specs.Answers.{handed_of}
 use Rattle.takes.specs.Take.{TakeOutcome, handed, refused, highest, take_rules, clear_bit, take_written, take_answer}
 use Rattle.interrupts.proofs.Exact.{at_place}
 use Rattle.takes.proofs.Takes.{handed-there, none-there}
-
-either-one : (a b : Bool) → (a || b) ≡ true → (a ≡ true) ⊎ (b ≡ true)
-either-one true b h = inl refl
-either-one false b h = inr h
 
 module _ (registers : Registers) (descriptor : ℕ) (windows image : List ℕ) where
   -- the answer, and the run that it leaves
@@ -34,26 +27,14 @@ module _ (registers : Registers) (descriptor : ℕ) (windows image : List ℕ) w
   both same left = (same, left ∙ ap (λ (o : TakeOutcome). take_written windows descriptor o image) same)
 
   -- refusal 1's two tests
-  abbrev pub bad : Bool
-  bad = registers_bad registers || bad_windows windows (length image)
+  pub refuses-windows : bad_windows windows (length image) ≡ true → Answers (refused 1) image
+  refuses-windows h = both (rw h) refl
 
-  pub refuses-1 : bad ≡ true → Answers (refused 1) image
+  pub refuses-registers : bad_windows windows (length image) ≡ false → registers_bad registers ≡ true → Answers (refused 1) image
   unfolding take_rules run
-  refuses-1 h = both (by (bad_windows windows (length image)) refl (either-one (registers_bad registers) (bad_windows windows (length image)) h)) refl
-    where
-      by : (t : Bool) → bad_windows windows (length image) ≡ t → (registers_bad registers ≡ true) ⊎ (bad_windows windows (length image) ≡ true)
-          → refused 1 ≡ (if t then refused 1 else run (take_rules registers descriptor) (of_windows windows image))
-      by true e h = refl
-      by false e (inl worse) = rw worse
-      by false e (inr worse) = let z : ◌≡◌ {A = ℕ} 0 1 = cc in absurd (omega arith)
+  refuses-registers good h = both (rw (good, h)) refl
 
-  module _ (fine : bad ≡ false) where
-    pub good : bad_windows windows (length image) ≡ false
-    good = (neither (registers_bad registers) (bad_windows windows (length image)) fine).1
-
-    fit : registers_bad registers ≡ false
-    fit = (neither (registers_bad registers) (bad_windows windows (length image)) fine).0
-
+  module _ (good : bad_windows windows (length image) ≡ false) (fit : registers_bad registers ≡ false) where
     pub unaligned : (descriptor % 64 ≡ 0 → ⊥) → Answers (refused 5) image
     unfolding take_rules run
     unaligned h = both (rw (good, fit, ne_eqb (descriptor % 64) 0 h)) refl
