@@ -7,6 +7,7 @@ ghost use Rattle.first.specs.First.{first_step, unfetchable_reason, Reachable};
 
 use crate::entry::{first_reserved, flag_clear, user_denied, write_denied};
 use dma::is_leaf;
+use faults::Stop;
 use image::{field, in_place};
 use pasid::{PasidEntry, ScalableReason, ScalableRegisters};
 use registers::Page4K;
@@ -17,8 +18,6 @@ pub enum FirstStep {
     Down(u64),
     // The frame of a page, and the entry's level.
     Page(u64, u32),
-    // Why the walk ends here, FPD, and the entry's host address.
-    Fault(ScalableReason, bool, u64),
 }
 
 // An entry that can't be fetched.
@@ -31,7 +30,8 @@ pub fn unfetchable(top: bool) -> ScalableReason
     ScalableReason::FirstLevelAccess
 }
 
-// way_writable: the second level lets the entry itself be written; true where the entry isn't found through it.
+// What the entry leads to, or why the walk ends here. way_writable: the second level lets the entry itself be written; true where the entry isn't found through it.
+#[tactic(auto, unfolding(crate::specs::First::first_step))]
 pub fn first_step(
     registers: ScalableRegisters,
     entry: PasidEntry,
@@ -40,31 +40,32 @@ pub fn first_step(
     level: u32,
     at: u64,
     e: u64,
-) -> FirstStep
+) -> Result<FirstStep, Stop<ScalableReason>>
     requires { 0 < level }
     ensures result_value { first_step_of result ≡ first_step registers entry write way_writable level e }
     ensures first_names { FirstNames result (entry_at at) }
     ensures reachable { Reachable (first_step_of result) }
 {
     if field(e, 0, 0) != 1 {
-        return FirstStep::Fault(ScalableReason::FirstLevelNotPresent, entry.fpd, at);
+        return Err(entry.stop(ScalableReason::FirstLevelNotPresent, at));
     }
     if first_reserved(registers, entry.nxe, level, e) {
-        return FirstStep::Fault(ScalableReason::FirstLevelReserved, entry.fpd, at);
+        return Err(entry.stop(ScalableReason::FirstLevelReserved, at));
     }
     let leaf = is_leaf(level, e);
     let clear = flag_clear(entry, write, leaf, e);
     if clear & !(registers.smpwc & entry.pwsnp) {
-        return FirstStep::Fault(ScalableReason::FlagsNotSnooped, entry.fpd, at);
+        return Err(entry.stop(ScalableReason::FlagsNotSnooped, at));
     }
     if user_denied(entry, e) {
-        return FirstStep::Fault(ScalableReason::UserDenied, entry.fpd, at);
+        return Err(entry.stop(ScalableReason::UserDenied, at));
     }
     if write_denied(entry, write, way_writable, clear, e) {
-        return FirstStep::Fault(ScalableReason::WriteDenied, entry.fpd, at);
+        return Err(entry.stop(ScalableReason::WriteDenied, at));
     }
     if leaf {
-        return FirstStep::Page(in_place(e, 51, Page4K::SHIFT + 9 * (level - 1)), level);
+        let frame = in_place(e, 51, Page4K::SHIFT + 9 * (level - 1));
+        return Ok(FirstStep::Page(frame, level));
     }
-    FirstStep::Down(in_place(e, 51, 12))
+    Ok(FirstStep::Down(in_place(e, 51, 12)))
 }

@@ -1,5 +1,5 @@
 -- The setting of flags by its turns, and what a spot tells: for the code.
-use Rattle.std.proofs.Common.{◌≡◌, ℕ, suc, ◌*◌, ◌/◌, ◌%◌, ◌^◌, ◌<◌, ◌≤◌, List, length, get_or, take, drop, set, sym, refl, ap, ◌∙◌, arith, length-set, drop_of_length-le, length-take-le, drop-cons, get_or-take}
+use Rattle.std.proofs.Common.{◌≡◌, ℕ, suc, ◌+◌, ◌*◌, ◌/◌, ◌%◌, ◌^◌, ◌<◌, ◌≤◌, List, length, get_or, drop, set, sym, refl, ap, arith, add-one, length-set, drop_of_length-le, drop-cons}
 use lib.Bits.{bit_or}
 use Rattle.image.specs.Windows.{windows_of, Spot, nowhere, here, on_spot, spot_in}
 use Rattle.interrupts.specs.Post.{with_bit}
@@ -25,17 +25,12 @@ module _ (windows bytes : List ℕ) (n : ℕ) where
       by nowhere = refl
       by (here place left) = length-set bytes place _
 
-module _ (windows flags : List ℕ) (count i : ℕ) (fits : count ≤ length flags) (bytes : List ℕ) where
-  pub turn : i < count → {after : List ℕ} → after ≡ set_flag windows (get_or flags i 0) bytes
-      → set_flags windows (drop (suc i) (take count flags)) after ≡ set_flags windows (drop i (take count flags)) bytes
+module _ (windows flags : List ℕ) (i : ℕ) (bytes : List ℕ) where
+  pub turn : i < length flags → {after : List ℕ} → after ≡ set_flag windows (get_or flags i 0) bytes
+      → set_flags windows (drop (i + 1) flags) after ≡ set_flags windows (drop i flags) bytes
   unfolding set_flags
-  turn more is =
-      let room : i < length (take count flags) = rw (length-take-le count flags fits) more in
-      ap (set_flags windows (drop (suc i) (take count flags))) (is ∙ ap (λ (n : ℕ). set_flag windows n bytes) (sym (get_or-take count flags i 0 more)))
-      ∙ ap (λ (l : List ℕ). set_flags windows l bytes) (sym (drop-cons (take count flags) i 0 room))
+  turn more is = rw (add-one, drop-cons flags i 0 more) (ap (set_flags windows (drop (suc i) flags)) is)
 
-  pub done : count ≤ i → bytes ≡ set_flags windows (drop i (take count flags)) bytes
+  pub done : length flags ≤ i → bytes ≡ set_flags windows (drop i flags) bytes
   unfolding set_flags
-  done none =
-      let all : length (take count flags) ≤ i = rw (length-take-le count flags fits) none in
-      sym (ap (λ (l : List ℕ). set_flags windows l bytes) (drop_of_length-le (take count flags) all))
+  done none = sym (ap (λ (l : List ℕ). set_flags windows l bytes) (drop_of_length-le flags none))

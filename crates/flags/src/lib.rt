@@ -8,8 +8,7 @@ ghost use Rattle.image.specs.Answers.{HeldBy};
 ghost use Rattle.image.specs.Windows.{windows_of, bad_windows};
 ghost use Rattle.flags.specs.Flags.{flag, set_flag, set_flags};
 
-use image::{Held, Span, find_window, first_span, place_in};
-use std::num::wrapping_sub_u64;
+use image::{Span, find_window, first_span, place_in};
 
 // One more: a bit of the entry at a host address. Back comes how many there are then.
 pub fn push(flags: &mut [u64], count: usize, entry: u64, bit: u32) -> usize
@@ -23,12 +22,12 @@ pub fn push(flags: &mut [u64], count: usize, entry: u64, bit: u32) -> usize
 
 // Most flags lie in the first window, which is read once. The tests of the others stay a function: put in here, a nested read takes 3 % more
 // instructions.
-fn window_of(first: Span, windows: &[u64], run: usize, at: u64) -> Held
+fn window_of(first: Span, windows: &[u64], run: usize, at: u64) -> Option<Span>
     requires { Opened first windows.now run }
     ensures { HeldBy result (windows_of windows.now) run at }
 {
-    if wrapping_sub_u64(at, first.start) < first.size {
-        return Held::In(first);
+    if at.wrapping_sub(first.start) < first.size {
+        return Some(first);
     }
     find_window(windows, run, at)
 }
@@ -39,21 +38,18 @@ fn set_flag(first: Span, windows: &[u64], image: &mut [u8], flag: u64)
     ensures { image.new ≡ set_flag windows.now flag image.old }
 {
     let at = flag / 8;
-    if let Held::In(span) = window_of(first, windows, image.len(), at) {
+    if let Some(span) = window_of(first, windows, image.len(), at) {
         let place = place_in(span, at);
-        image[place] = image[place] | 1u8 << (flag % 8);
+        image[place] |= 1u8 << (flag % 8);
     }
 }
 
-// The first so many of the buffer.
-pub fn set_flags(windows: &[u64], image: &mut [u8], flags: &[u64], count: usize)
-    requires { (bad_windows windows.now (length image.old) ≡ false) × (count ≤ length flags.now) }
-    ensures { image.new ≡ set_flags windows.now (take count flags.now) image.old }
+pub fn set_flags(windows: &[u64], image: &mut [u8], flags: &[u64])
+    requires { bad_windows windows.now (length image.old) ≡ false }
+    ensures { image.new ≡ set_flags windows.now flags.now image.old }
 {
     let first = first_span(windows);
-    let mut i: usize = 0;
-    while i < count {
-        set_flag(first, windows, image, flags[i]);
-        i += 1;
+    for flag in flags {
+        set_flag(first, windows, image, *flag);
     }
 }

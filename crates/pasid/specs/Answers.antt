@@ -2,7 +2,9 @@
 use Rattle.std.specs.Prelude.{ℕ, [], ◌∷◌, Result, Ok, Err}
 use Rattle.image.specs.Check.{Check, stop, go}
 use Rattle.image.specs.Bytes.{spell}
+use Rattle.image.specs.Place.{Place, entry_at}
 use Rattle.faults.specs.Record.{FaultAnswer}
+use Rattle.faults.specs.declared.stop.Stop.{Stop}
 use Rattle.pasid.specs.Reason.{number_of}
 use Rattle.pasid.specs.declared.reason.ScalableReason.{ScalableReason}
 use Rattle.pasid.specs.declared.context.ScalableContext.{ScalableContext}
@@ -25,6 +27,11 @@ directory_checked (Ok table) = go table
 abbrev pub table_checked : Result PasidEntry ScalableReason → Check PasidEntry
 table_checked (Err reason) = stop (number_of reason)
 table_checked (Ok entry) = go entry
+
+-- the entry that a stop names; where there is none, the place handed in
+abbrev pub stop_place : {A : Type 0} → Result A (Stop ScalableReason) → Place → Place
+stop_place (Ok x) place = place
+stop_place (Err s) place = entry_at s.at
 
 abbrev pub fault_of : ScalableFault → FaultAnswer
 fault_of f =

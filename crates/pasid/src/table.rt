@@ -5,6 +5,8 @@ ghost use Rattle.image.specs.Answers.{number64};
 ghost use Rattle.pasid.specs.Table.{feature_reserved, pointers_reserved, table_reserved, pasid_entry_of};
 
 use crate::ScalableRegisters;
+use crate::reason::ScalableReason;
+use faults::Stop;
 use image::{Entry, Entry64, in_place};
 use registers::at_or_above_power;
 
@@ -28,6 +30,19 @@ pub struct PasidEntry {
     pub privileged: bool,
     // Of the context, directory or table entry.
     pub fpd: bool,
+}
+
+impl PasidEntry {
+    // A walk that goes by this entry ends at the one at a host address.
+    pub fn stop(self, reason: ScalableReason, at: u64) -> Stop<ScalableReason>
+        ensures { result ≡ record { reason = reason; fpd = self.fpd; at = at } }
+    {
+        Stop {
+            reason,
+            fpd: self.fpd,
+            at,
+        }
+    }
 }
 
 // Bits 511:192.

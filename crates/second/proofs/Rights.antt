@@ -1,18 +1,15 @@
 -- Two rights as a number's two low bits: R is bit 0, W bit 1.
 use Prim.Native.Nat.{ℕ, zero, suc, ◌+◌, ◌-◌, ◌*◌, ◌/◌, ◌%◌, ◌^◌, ◌<◌, min}
 use mathlib.Core.Bool.{Bool, true, false, not, ◌&&◌, ◌||◌, or-false}
-use mathlib.Core.List.{List}
 use mathlib.Core.Path.{◌≡◌, refl, ap, sym, ◌∙◌}
 use native.Mathlib.Omega.{arith}
 use native.Mathlib.Nat.{div-one, zero-min}
-use borrow.Author.Tests.{eq-eqb, ne_eqb}
+use borrow.Author.Tests.{ne_eqb}
 use lib.Arith.{mod-mul}
 use lib.Bits.{bit_and, and_shr, and_mod, and_step}
 use lib.Dec.{eqb, lit≤}
 use mir.Val.{bool_byte}
 use Rattle.image.specs.Bits.{bits, bit}
-use Rattle.second.specs.Answers.{second_handed}
-use Rattle.second.specs.Second.{at_top}
 
 -- of two digits
 digit : (x y : ℕ) → x < 2 → y < 2 → eqb (bit_and x y) 1 ≡ (eqb x 1 && eqb y 1)
@@ -94,11 +91,3 @@ one-lacks true true e =
     ∙ ap not (both (e % 2) (e / 2 % 2) (omega arith) (omega arith))
     ∙ not-both (eqb (e / 2 % 2) 1) (eqb (e % 2) 1)
     ∙ ap (λ (n : ℕ). not (eqb (e / 2 % 2) 1) || not (eqb (n % 2) 1)) (sym (div-one e))
-
--- what the top entry is handed, and one below it
-pub from-top : (n : ℕ) (flags : List ℕ) → second_handed (eqb n n) 3 flags ≡ at_top flags
-unfolding bits
-from-top n flags = rw (eq-eqb n n refl)
-
-pub under_top : (n top rights : ℕ) (flags : List ℕ) → n < top → second_handed (eqb n top) rights flags ≡ second_handed false rights flags
-under_top n top rights flags low = rw (ne_eqb n top (λ z. omega arith))

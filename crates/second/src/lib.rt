@@ -4,5 +4,5 @@
 mod step;
 mod walk;
 
-pub use step::{Space, Wanted};
-pub use walk::{Walked, second_walk};
+pub use step::{Page, Space, Wanted};
+pub use walk::second_walk;

@@ -3,16 +3,16 @@ ghost use Rattle.std.specs.Prelude.{not, ◌&&◌, ◌||◌, ◌≡◌, ◌++◌
 ghost use Rattle.image.specs.Bits.{bit};
 ghost use Rattle.std.specs.Prelude.{if◌then◌else◌};
 ghost use Rattle.image.specs.Place.{entry_at};
-ghost use Rattle.image.specs.Spans.{Opened};
-ghost use Rattle.image.specs.Windows.{of_windows};
+ghost use Rattle.image.specs.Answers.{memory_of};
 ghost use Rattle.dma.specs.Walk.{place_in};
 ghost use Rattle.pasid.specs.Reason.{number_of};
 ghost use Rattle.second.specs.Answers.{handed_by, step_of, StepNames, StepReachable, StepGrown};
 ghost use Rattle.second.specs.Second.{flag_clear, flags_not_snooped, second_flags, second_step, second_over};
 
 use dma::{Fetch, fetch_entry, is_leaf, page_reserved};
+use faults::Stop;
 use flags::push;
-use image::{Found8, Span, bit, field, in_place};
+use image::{Memory, bit, field, in_place};
 use pasid::{PasidEntry, ScalableReason, ScalableRegisters};
 
 // What an entry is handed by those above it: whether there are none, their joined rights, R bit 0 and W bit 1, and how many flags are collected.
@@ -30,23 +30,31 @@ pub struct Wanted {
     pub write: bool,
 }
 
-// The address space of a PASID table entry, with what every walk in it goes by: the first window and the registers. A request makes it
-// once: made for each walk it costs instructions.
+// The address space of a PASID table entry, with the registers, by which every walk in it goes. A request makes it once: made for each walk
+// it costs instructions.
 #[derive(Clone, Copy)]
 pub struct Space {
-    pub first: Span,
     pub registers: ScalableRegisters,
     pub entry: PasidEntry,
 }
 
+// The page that a walk ends with.
+#[derive(Clone, Copy)]
+pub struct Page {
+    pub frame: u64,
+    // Of its entry.
+    pub level: u32,
+    // All entries had W.
+    pub writable: bool,
+    // How many flags are collected.
+    pub count: usize,
+}
+
 #[derive(Clone, Copy)]
 pub enum SecondStep {
-    // The next table, the joined rights, and how many flags are collected then.
-    Down(u64, u64, usize),
-    // The frame of a page, the entry's level, the joined right to write, and how many flags.
-    Page(u64, u32, bool, usize),
-    // Why the walk ends here, FPD, and the entry's host address.
-    Fault(ScalableReason, bool, u64),
+    // The next table, and what is handed on to its entry.
+    Down(u64, Above),
+    Page(Page),
 }
 
 // A flag that a granted request sets is still clear: A, D in the entry of a page that is written.
@@ -140,7 +148,7 @@ fn second_step(
     at: u64,
     e: u64,
     flags: &mut [u64],
-) -> SecondStep
+) -> Result<SecondStep, Stop<ScalableReason>>
     requires { (0 < level) × (at < 2 ^ 60) × (above.count + 2 ≤ length flags.old) }
     ensures flags_after { step_of result flags.new ≡ second_step space.registers space.entry wanted level at (handed_by above flags.old) e }
     ensures step_names { StepNames result (entry_at at) }
@@ -148,31 +156,39 @@ fn second_step(
 {
     let rights = join(above.rights, e);
     if field(rights, 1, 0) == 0 {
-        return SecondStep::Fault(ScalableReason::SecondLevelNotPresent, space.entry.fpd, at);
+        return Err(space.entry.stop(ScalableReason::SecondLevelNotPresent, at));
     }
     if page_reserved(space.registers.base, level, e) {
-        return SecondStep::Fault(ScalableReason::SecondLevelReserved, space.entry.fpd, at);
+        return Err(space.entry.stop(ScalableReason::SecondLevelReserved, at));
     }
     if flags_not_snooped(space.registers, space.entry, wanted.write, level, e) {
-        return SecondStep::Fault(ScalableReason::FlagsNotSnooped, space.entry.fpd, at);
+        return Err(space.entry.stop(ScalableReason::FlagsNotSnooped, at));
     }
     if lacks(wanted, e) {
-        return SecondStep::Fault(denied(wanted, e), space.entry.fpd, at);
+        return Err(space.entry.stop(denied(wanted, e), at));
     }
     // The frame last: so the next table stays in a register of the machine code.
     if is_leaf(level, e) {
-        let n = collect(space.entry, wanted.write, at, e, flags, above.count);
-        let writable = field(rights, 1, 1) == 1;
-        return SecondStep::Page(in_place(e, 51, 12), level, writable, n);
+        let count = collect(space.entry, wanted.write, at, e, flags, above.count);
+        return Ok(SecondStep::Page(Page {
+            frame: in_place(e, 51, 12),
+            level,
+            writable: field(rights, 1, 1) == 1,
+            count,
+        }));
     }
-    let n = collect(space.entry, false, at, e, flags, above.count);
-    SecondStep::Down(in_place(e, 51, 12), rights, n)
+    let count = collect(space.entry, false, at, e, flags, above.count);
+    let below = Above {
+        top: false,
+        rights,
+        count,
+    };
+    Ok(SecondStep::Down(in_place(e, 51, 12), below))
 }
 
 // One level of the walk: below is how many levels come after it.
 pub(crate) fn second_entry(
-    windows: &[u64],
-    image: &[u8],
+    memory: &Memory,
     space: Space,
     wanted: Wanted,
     address: u64,
@@ -180,15 +196,15 @@ pub(crate) fn second_entry(
     table: u64,
     above: Above,
     flags: &mut [u64],
-) -> SecondStep
-    requires { Opened space.first windows.now (length image.now) × (below < 5) × (table % 4096 ≡ 0) × (table < 2 ^ 52) × (above.count + 2 ≤ length flags.old) }
-    ensures flags_after { step_of result flags.new ≡ second_over space.registers space.entry wanted address (of_windows windows.now image.now) below table (handed_by above flags.old) }
+) -> Result<SecondStep, Stop<ScalableReason>>
+    requires { (below < 5) × (table % 4096 ≡ 0) × (table < 2 ^ 52) × (above.count + 2 ≤ length flags.old) }
+    ensures flags_after { step_of result flags.new ≡ second_over space.registers space.entry wanted address (memory_of memory.now) below table (handed_by above flags.old) }
     ensures step_names { StepNames result (entry_at (place_in address table below)) }
     ensures step_reachable { StepReachable result × StepGrown result above.count }
 {
-    let Fetch { at, found } = fetch_entry(space.first, windows, image, address, below, table);
-    let Found8::Entry(e) = found else {
-        return SecondStep::Fault(unfetchable(above.top), space.entry.fpd, at);
+    let Fetch { at, found } = fetch_entry(memory, address, below, table);
+    let Ok(e) = found else {
+        return Err(space.entry.stop(unfetchable(above.top), at));
     };
     second_step(space, wanted, above, below + 1, at, e, flags)
 }

@@ -1,18 +1,11 @@
-use Prim.Native.Nat.{◌+◌, ◌*◌, ◌-◌, ◌%◌, ◌^◌, ◌≤◌}
+use Prim.Native.Nat.{◌-◌}
 use mathlib.Core.Path.{◌≡◌, sym, ◌∙◌}
 use native.Mathlib.Omega.{arith}
 use borrow.Author.Tests.{eq-eqb, ne_eqb}
-use lib.Pow.{pow_pos}
 use Rattle.image.proofs.Fields.{shifted_one}
 use Rattle.image.specs.Bits.{bits}
 use Rattle.first.specs.First.{input_width, not_canonical}
 use Rattle.first.proofs.canonical.not_canonical.Goals as goal
-
-pub overflow_sub-result-then-field-eq1 : goal.overflow_sub-result-then-field-eq1
-overflow_sub-result-then-field-eq1 c =
-    let k = 64 - (12 + 9 * c.args.levels) in
-    let one : 1 ≤ 1 * 2 ^ k % 2 ^ 64 = rw (shifted_one k (omega arith)) (pow_pos k) in
-    one
 
 pub returns-then-field-eq1 : goal.returns-then-field-eq1
 unfolding not_canonical

@@ -13,29 +13,24 @@ beyond : (c : After-at_or_above_power-beyond)
     → c.at_or_above_power-beyond.result
     ≡ any_set c.args.e 51 c.args.registers.base.haw
 beyond c =
-    let s = c in
-    c.at_or_above_power-beyond.ensures ∙ ap (leb (2 ^ s.args.registers.base.haw)) c.field.ensures ∙ sym (above s.args.e 51 s.args.registers.base.haw)
+    c.at_or_above_power-beyond.ensures ∙ ap (leb (2 ^ c.args.registers.base.haw)) c.field.ensures ∙ sym (above c.args.e 51 c.args.registers.base.haw)
 
 large : (c : Else-field-ne1) → bit c.args.e 7 ≡ true
 large c = rw (← c.field-3.ensures) (eq-eqb _ _ c.if-field-ne1.false)
 
 pub returns-then-field-ne1 : goal.returns-then-field-ne1
 returns-then-field-ne1 c =
-    let s = c in
-    let clear : bit s.args.e 7 ≡ false = rw (← c.field-3.ensures) (ne_eqb _ _ c.if-field-ne1.true) in
-    rw (beyond (goal.at.returns-then-field-ne1 c).After-at_or_above_power-beyond, c.field-2.ensures) (sym (small s.args.registers s.args.nxe s.args.e s.args.level clear))
+    let clear : bit c.args.e 7 ≡ false = rw (← c.field-3.ensures) (ne_eqb _ _ c.if-field-ne1.true) in
+    rw (beyond (goal.at.returns-then-field-ne1 c).After-at_or_above_power-beyond, c.field-2.ensures) (sym (small c.args.registers c.args.nxe c.args.e c.args.level clear))
 
 pub returns-then-level-eq2 : goal.returns-then-level-eq2
 returns-then-level-eq2 c =
-    let s = c in
-    rw (beyond (goal.at.returns-then-level-eq2 c).After-at_or_above_power-beyond, c.field-2.ensures, c.field-then-level-eq2.ensures, c.if-level-eq2.true) (sym (at-2 s.args.registers s.args.nxe s.args.e (large (goal.at.returns-then-level-eq2 c).Else-field-ne1)))
+    rw (beyond (goal.at.returns-then-level-eq2 c).After-at_or_above_power-beyond, c.field-2.ensures, c.field-then-level-eq2.ensures, c.if-level-eq2.true) (sym (at-2 c.args.registers c.args.nxe c.args.e (large (goal.at.returns-then-level-eq2 c).Else-field-ne1)))
 
 pub returns-then-level-eq3 : goal.returns-then-level-eq3
 returns-then-level-eq3 c =
-    let s = c in
-    rw (beyond (goal.at.returns-then-level-eq3 c).After-at_or_above_power-beyond, c.field-2.ensures, c.field-then-level-eq3.ensures, c.if-level-eq3.true) (sym (at-3 s.args.registers s.args.nxe s.args.e (large (goal.at.returns-then-level-eq3 c).Else-field-ne1)))
+    rw (beyond (goal.at.returns-then-level-eq3 c).After-at_or_above_power-beyond, c.field-2.ensures, c.field-then-level-eq3.ensures, c.if-level-eq3.true) (sym (at-3 c.args.registers c.args.nxe c.args.e (large (goal.at.returns-then-level-eq3 c).Else-field-ne1)))
 
 pub returns : goal.returns
 returns c =
-    let s = c in
-    rw (beyond (goal.at.returns c).After-at_or_above_power-beyond, c.field-2.ensures) (sym (elsewhere s.args.registers s.args.nxe s.args.e (large (goal.at.returns c).Else-field-ne1) s.args.level c.if-level-eq2.false c.if-level-eq3.false))
+    rw (beyond (goal.at.returns c).After-at_or_above_power-beyond, c.field-2.ensures) (sym (elsewhere c.args.registers c.args.nxe c.args.e (large (goal.at.returns c).Else-field-ne1) c.args.level c.if-level-eq2.false c.if-level-eq3.false))

@@ -1,5 +1,5 @@
 use mathlib.Core.Bool.{true, false, not, ◌||◌}
-use mathlib.Core.Path.{◌≡◌, refl, sym, ◌∙◌}
+use mathlib.Core.Path.{◌≡◌, sym, ◌∙◌}
 use native.Mathlib.Omega.{arith}
 use lib.Dec.{lit≤}
 use Rattle.image.proofs.Fields.{in-place-lt}
@@ -40,62 +40,51 @@ passed c = (
   sym c.lacks.ensures ∙ c.if-lacks.false,
 )
 
-pub returns-then-field-eq0 : goal.returns-then-field-eq0
-returns-then-field-eq0 c =
-    let a = c.args in record {
-      flags_after = step.none_left a.space.registers a.space.entry a.wanted a.level a.at (handed_by a.above a.flags.now) a.e (none (goal.at.returns-then-field-eq0 c).Then-field-eq0);
-      step_names = refl;
-      step_reachable = (tt, tt);
-    }
+pub returns-then-field-eq0-clause-flags_after : goal.returns-then-field-eq0-clause-flags_after
+returns-then-field-eq0-clause-flags_after c =
+    let a = c.args in
+    rw c.stop.ensures
+    (step.none_left a.space.registers a.space.entry a.wanted a.level a.at (handed_by a.above a.flags.now) a.e (none (goal.at.returns-then-field-eq0-clause-flags_after c).Then-field-eq0))
 
-pub returns-then-page_reserved : goal.returns-then-page_reserved
-returns-then-page_reserved c =
-    let a = c.args in record {
-      flags_after = step.reserved a.space.registers a.space.entry a.wanted a.level a.at (handed_by a.above a.flags.now) a.e (some (goal.at.returns-then-page_reserved c).Else-field-eq0) (sym c.page_reserved.ensures ∙ c.if-page_reserved.true);
-      step_names = refl;
-      step_reachable = (tt, tt);
-    }
+pub returns-then-page_reserved-clause-flags_after : goal.returns-then-page_reserved-clause-flags_after
+returns-then-page_reserved-clause-flags_after c =
+    let a = c.args in
+    rw c.stop-then-page_reserved.ensures
+    (step.reserved a.space.registers a.space.entry a.wanted a.level a.at (handed_by a.above a.flags.now) a.e (some (goal.at.returns-then-page_reserved-clause-flags_after c).Else-field-eq0) (sym c.page_reserved.ensures ∙ c.if-page_reserved.true))
 
-pub returns-then-flags_not_snooped : goal.returns-then-flags_not_snooped
-returns-then-flags_not_snooped c =
-    let a = c.args in record {
-      flags_after = step.not-snooped a.space.registers a.space.entry a.wanted a.level a.at (handed_by a.above a.flags.now) a.e (some (goal.at.returns-then-flags_not_snooped c).Else-field-eq0) (clear (goal.at.returns-then-flags_not_snooped c).Else-page_reserved) (sym c.flags_not_snooped.ensures ∙ c.if-flags_not_snooped.true);
-      step_names = refl;
-      step_reachable = (tt, tt);
-    }
+pub returns-then-flags_not_snooped-clause-flags_after : goal.returns-then-flags_not_snooped-clause-flags_after
+returns-then-flags_not_snooped-clause-flags_after c =
+    let a = c.args in
+    let g = goal.at.returns-then-flags_not_snooped-clause-flags_after c in
+    rw c.stop-then-flags_not_snooped.ensures
+    (step.not-snooped a.space.registers a.space.entry a.wanted a.level a.at (handed_by a.above a.flags.now) a.e (some g.Else-field-eq0) (clear g.Else-page_reserved) (sym c.flags_not_snooped.ensures ∙ c.if-flags_not_snooped.true))
 
-pub returns-then-lacks : goal.returns-then-lacks
-returns-then-lacks c =
-    let a = c.args in record {
-      flags_after = rw c.denied.ensures
-          (step.lacking a.space.registers a.space.entry a.wanted a.level a.at (handed_by a.above a.flags.now) a.e (some (goal.at.returns-then-lacks c).Else-field-eq0) (clear (goal.at.returns-then-lacks c).Else-page_reserved) (snooped (goal.at.returns-then-lacks c).Else-flags_not_snooped)
-          (sym c.lacks.ensures ∙ c.if-lacks.true));
-      step_names = refl;
-      step_reachable = (tt, tt);
-    }
+pub returns-then-lacks-clause-flags_after : goal.returns-then-lacks-clause-flags_after
+returns-then-lacks-clause-flags_after c =
+    let a = c.args in
+    let g = goal.at.returns-then-lacks-clause-flags_after c in
+    rw (c.stop-then-lacks.ensures, c.denied.ensures)
+    (step.lacking a.space.registers a.space.entry a.wanted a.level a.at (handed_by a.above a.flags.now) a.e (some g.Else-field-eq0) (clear g.Else-page_reserved) (snooped g.Else-flags_not_snooped)
+    (sym c.lacks.ensures ∙ c.if-lacks.true))
 
-pub returns-then-is_leaf : goal.returns-then-is_leaf
-returns-then-is_leaf c =
-    let collected = c.collect-n.ensures in
-    let frame = c.in_place.ensures in
-    let leaf = sym c.is_leaf.ensures ∙ c.if-is_leaf.true in
-    let a = c.args in record {
-      flags_after = rw (frame, c.field-writable.ensures, c.join-rights.ensures.1, collected.flags_after)
-          (step.to-page a.space.registers a.space.entry a.wanted a.level a.at (handed_by a.above a.flags.now) a.e (passed (goal.at.returns-then-is_leaf c).Else-lacks) leaf);
-      step_names = refl;
-      step_reachable = (
-        (rw frame (in-place-lt a.e 51 12 (lit≤ tt)), c.requires.0, low-leaf a.space.registers.base a.level a.e (passed (goal.at.returns-then-is_leaf c).Else-lacks).1 leaf, rw frame (omega arith)),
-        (collected.lower_bound.0, at_most_two a.above.count _ a.wanted.write collected.lower_bound.1),
-      );
-    }
+pub returns-then-is_leaf-clause-flags_after : goal.returns-then-is_leaf-clause-flags_after
+returns-then-is_leaf-clause-flags_after c =
+    let a = c.args in
+    rw (c.in_place.ensures, c.field-then-is_leaf.ensures, c.join-rights.ensures.1, c.collect-count.ensures.flags_after)
+    (step.to-page a.space.registers a.space.entry a.wanted a.level a.at (handed_by a.above a.flags.now) a.e (passed (goal.at.returns-then-is_leaf-clause-flags_after c).Else-lacks) (sym c.is_leaf.ensures ∙ c.if-is_leaf.true))
 
-pub returns : goal.returns
-returns c =
-    let collected = c.collect-n-2.ensures in
-    let a = c.args in record {
-      flags_after = rw (c.in_place-2.ensures, c.join-rights.ensures.0, c.join-rights.ensures.1, collected.flags_after)
-          (step.to-table a.space.registers a.space.entry a.wanted a.level a.at (handed_by a.above a.flags.now) a.e (passed (goal.at.returns c).Else-lacks)
-          (sym c.is_leaf.ensures ∙ c.if-is_leaf.false));
-      step_names = refl;
-      step_reachable = (tt, collected.lower_bound);
-    }
+pub returns-then-is_leaf-clause-step_reachable : goal.returns-then-is_leaf-clause-step_reachable
+returns-then-is_leaf-clause-step_reachable c =
+    let a = c.args in
+    let bound = c.collect-count.ensures.lower_bound in
+    let low = low-leaf a.space.registers.base a.level a.e (passed (goal.at.returns-then-is_leaf-clause-step_reachable c).Else-lacks).1 (sym c.is_leaf.ensures ∙ c.if-is_leaf.true) in (
+      (rw c.in_place.ensures (in-place-lt a.e 51 12 (lit≤ tt)), c.requires.0, low, rw c.in_place.ensures (omega arith)),
+      (bound.0, at_most_two a.above.count _ a.wanted.write bound.1),
+    )
+
+pub returns-clause-flags_after : goal.returns-clause-flags_after
+returns-clause-flags_after c =
+    let a = c.args in
+    rw (c.in_place-2.ensures, c.join-rights.ensures.0, c.join-rights.ensures.1, c.collect-count-2.ensures.flags_after)
+    (step.to-table a.space.registers a.space.entry a.wanted a.level a.at (handed_by a.above a.flags.now) a.e (passed (goal.at.returns-clause-flags_after c).Else-lacks)
+    (sym c.is_leaf.ensures ∙ c.if-is_leaf.false))
