@@ -15,7 +15,7 @@ mod walk;
 use completion::complete;
 use dma::meets_interrupt_range;
 use faults::{Fault, Reason, Stop, translation_fault};
-use image::{bad_windows, first_span};
+use image::Memory;
 use registers::{
     Admission, Page1G, Page2M, Page4K, Refusal, Registers, SourceId, admit, in_interrupt_range,
 };
@@ -119,9 +119,9 @@ pub fn translation_request(
     ensures result_value { outcome_of result ≡ translation_answer registers request windows.now image.now }
     ensures result_value_2 { entry_of result ≡ translation_answer_place registers request windows.now image.now }
 {
-    if bad_windows(windows, image.len()) {
+    let Some(memory) = Memory::open(windows, image) else {
         return TranslationAnswer::Refused(Refusal::BadRegisters);
-    }
+    };
     // As for memory requests: told before `admit` has a refusal to choose.
     if registers.bad() {
         return TranslationAnswer::Refused(Refusal::BadRegisters);
@@ -129,9 +129,6 @@ pub fn translation_request(
     match admit(registers, in_interrupt_range(request.address), registers.te) {
         Err(refusal) => TranslationAnswer::Refused(refusal),
         Ok(Admission::Passed) => TranslationAnswer::Passed(request.address),
-        Ok(Admission::Taken) => {
-            let first = first_span(windows);
-            answer(request, complete(first, windows, image, registers, request))
-        },
+        Ok(Admission::Taken) => answer(request, complete(&memory, registers, request)),
     }
 }

@@ -1,8 +1,7 @@
 // What the walk of a translation request makes of a page entry.
-ghost use Rattle.std.specs.Prelude.{◌≡◌, length, ◌<◌, ◌%◌};
+ghost use Rattle.std.specs.Prelude.{◌≡◌, ◌<◌, ◌%◌};
 ghost use Rattle.image.specs.Place.{entry_at};
-ghost use Rattle.image.specs.Spans.{Opened};
-ghost use Rattle.image.specs.Windows.{of_windows};
+ghost use Rattle.image.specs.Answers.{memory_of};
 ghost use Rattle.dma.specs.Walk.{place_in};
 ghost use Rattle.translation.specs.Answers.{step_of, StepNames};
 ghost use Rattle.translation.specs.Completion.{entry_step, entry_over};
@@ -10,7 +9,7 @@ ghost use Rattle.translation.specs.Completion.{entry_step, entry_over};
 use crate::Rights;
 use dma::{Fetch, Walk, fetch_entry, is_leaf, page_reserved};
 use faults::{Reason, Stop};
-use image::{field, in_place};
+use image::{Memory, field, in_place};
 use registers::Registers;
 
 // A page that a walk ends with: its frame, the level of its entry, and the joined rights.
@@ -71,19 +70,18 @@ fn joined_step(
 
 // One level of the walk: below is how many levels come after it.
 pub fn entry_step(
-    windows: &[u64],
-    image: &[u8],
+    memory: &Memory,
     registers: Registers,
     walk: Walk,
     below: u32,
     table: u64,
     above: Rights,
 ) -> Result<Step, Stop<Reason>>
-    requires { Opened walk.first windows.now (length image.now) × (below < 5) × (table % 4096 ≡ 0) }
-    ensures result_value { step_of result ≡ entry_over registers walk.address walk.fpd (of_windows windows.now image.now) below table above }
+    requires { (below < 5) × (table % 4096 ≡ 0) }
+    ensures result_value { step_of result ≡ entry_over registers walk.address walk.fpd (memory_of memory.now) below table above }
     ensures step_names { StepNames result (entry_at (place_in walk.address table below)) }
 {
-    let Fetch { at, found } = fetch_entry(walk.first, windows, image, walk.address, below, table);
+    let Fetch { at, found } = fetch_entry(memory, walk.address, below, table);
     let Ok(e) = found else {
         return Err(Stop {
             reason: Reason::PageEntryAccess,

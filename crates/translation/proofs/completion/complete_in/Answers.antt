@@ -1,13 +1,13 @@
 use mathlib.Core.Path.{refl}
 use Rattle.image.specs.Place.{entry_at}
-use Rattle.image.specs.Windows.{of_windows}
+use Rattle.image.specs.Answers.{memory_of}
 use Rattle.translation.proofs.Completed.{type-blocked, type-blocked-at, too_wide, walked, walked_at}
 use Rattle.translation.proofs.completion.complete_in.Goals as goal
 
 pub returns-then-context : goal.returns-then-context
 returns-then-context c =
     let a = c.args in
-    let m = of_windows a.windows.now a.image.now in
+    let m = memory_of a.memory.now in
     record {
       result_value = type-blocked a.registers a.address a.found.context m (entry_at a.found.at) c.if-context.true;
       names = type-blocked-at a.registers a.address a.found.context m (entry_at a.found.at) c.if-context.true;
@@ -17,7 +17,7 @@ pub returns-then-overflows : goal.returns-then-overflows
 returns-then-overflows c =
     let a = c.args in
     record {
-      result_value = too_wide a.registers a.address a.found.context (of_windows a.windows.now a.image.now) (entry_at a.found.at)
+      result_value = too_wide a.registers a.address a.found.context (memory_of a.memory.now) (entry_at a.found.at)
           c.if-context.false c.overflows.ensures c.if-overflows.true;
       names = refl;
     }
@@ -25,7 +25,7 @@ returns-then-overflows c =
 pub returns : goal.returns
 returns c =
     let a = c.args in
-    let m = of_windows a.windows.now a.image.now in
+    let m = memory_of a.memory.now in
     let type = c.if-context.false in
     let wide = c.overflows.ensures in
     record {

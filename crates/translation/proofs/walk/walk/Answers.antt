@@ -3,7 +3,7 @@ use mathlib.Core.Path.{refl, ap, sym, ◌∙◌}
 use native.Mathlib.Omega.{arith}
 use Rattle.std.specs.Prelude.{Ok}
 use Rattle.std.proofs.lemmas.Result.{err_from_is_err_and}
-use Rattle.image.specs.Windows.{of_windows}
+use Rattle.image.specs.Answers.{memory_of}
 use Rattle.translation.specs.Answers.{step_of}
 use Rattle.translation.specs.Rights.{both}
 use Rattle.translation.proofs.Stepped.{ended, led, ended_at, led-at, anew, down_to}
@@ -13,18 +13,18 @@ pub loop-below-init : goal.loop-below-init
 loop-below-init c =
     let a = c.args in
     let pre = c.requires in
-    (pre.1.0, pre.1.2, refl, anew a.registers a.address a.context.fpd (of_windows a.windows.now a.image.now) a.context.levels a.context.top both pre.1.0)
+    (pre.0, pre.2, refl, anew a.registers a.address a.context.fpd (memory_of a.memory.now) a.context.levels a.context.top both pre.0)
 
 pub entry_step-requires : goal.entry_step-requires
 entry_step-requires c =
     let l = c.loop-below in
-    (c.requires.0, omega (arith, l.auto.below, c.requires.1.1, l.invariant.0), l.invariant.1)
+    (omega (arith, l.auto.below, c.requires.1, l.invariant.0), l.invariant.1)
 
 pub returns-in_err-page : goal.returns-in_err-page
 returns-in_err-page c =
     let a = c.args in
     let l = c.loop-below in
-    let m = of_windows a.windows.now a.image.now in
+    let m = memory_of a.memory.now in
     let p = err_from_is_err_and c.from_residual.result c.from_residual.ensures.1 in
     let told = c.in_err-page.ensures.result_value in
     record {
@@ -42,7 +42,7 @@ returns-in-Page c =
     let l = c.loop-below in
     let told = sym (ap (λ s. step_of (Ok s)) c.in-Page.is) ∙ c.in_ok-page.ensures.result_value in
     record {
-      result_value = ended a.registers a.address a.context.fpd (of_windows a.windows.now a.image.now) l.below l.table l.rights l.invariant.0 told ∙ l.invariant.2;
+      result_value = ended a.registers a.address a.context.fpd (memory_of a.memory.now) l.below l.table l.rights l.invariant.0 told ∙ l.invariant.2;
       names = λ before. refl;
     }
 
@@ -52,7 +52,7 @@ returns-in-Empty c =
     let l = c.loop-below in
     let told = sym (ap (λ s. step_of (Ok s)) c.in-Empty.is) ∙ c.in_ok-page.ensures.result_value in
     record {
-      result_value = ended a.registers a.address a.context.fpd (of_windows a.windows.now a.image.now) l.below l.table l.rights l.invariant.0 told ∙ l.invariant.2;
+      result_value = ended a.registers a.address a.context.fpd (memory_of a.memory.now) l.below l.table l.rights l.invariant.0 told ∙ l.invariant.2;
       names = λ before. refl;
     }
 
@@ -60,7 +60,7 @@ pub loop-below-preserved : goal.loop-below-preserved
 loop-below-preserved c =
     let a = c.args in
     let l = c.loop-below in
-    let m = of_windows a.windows.now a.image.now in
+    let m = memory_of a.memory.now in
     let told = sym (ap (λ s. step_of (Ok s)) c.in-Down.is) ∙ c.in_ok-page.ensures.result_value in
     let next = down_to a.registers a.address a.context.fpd m (l.below - 1) l.table l.rights told in (
       next.1,
