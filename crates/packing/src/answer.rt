@@ -4,6 +4,7 @@ ghost use Rattle.image.specs.Bytes.{bytes_of, spell};
 ghost use Rattle.image.specs.Answers.{place_of};
 ghost use Rattle.image.specs.Choice.{one-if};
 ghost use Rattle.image.specs.Place.{no_entry};
+ghost use Rattle.registers.specs.Refusal.{refusal_number};
 ghost use Rattle.faults.specs.Answers.{fault_of};
 ghost use Rattle.dma.specs.Answers as dma;
 ghost use Rattle.dma.specs.Requests.{granted};
@@ -14,8 +15,9 @@ ghost use Rattle.packing.specs.Answer.{bytes_of_packed, blocked_bytes, refused_b
 
 use dma::MemoryAnswer;
 use faults::{Fault, FaultRecord, record_of};
-use image::{EntryAddress, store8};
-use interrupts::{InterruptAnswer, Notification, Remapped};
+use image::store8;
+use interrupts::{InterruptAnswer, Notice, Remapped};
+use registers::Refusal;
 
 pub const BLOCKED: u8 = 1;
 
@@ -70,18 +72,18 @@ pub fn short(head: u64) -> Packed
 }
 
 // Byte 3 tells whether the last word is an entry's address.
-pub fn pack_blocked(reason: u8, fault: FaultRecord, entry: EntryAddress) -> Packed
+pub fn pack_blocked(reason: u8, fault: FaultRecord, entry: Option<u64>) -> Packed
     ensures { bytes_of_packed result ≡ blocked_bytes (record { reason = reason; recordable = fault.recordable; contents = spell (fault.low ∷ fault.high ∷ []) }) (place_of entry) }
 {
     let told = flag(fault.recordable);
     match entry {
-        EntryAddress::NoEntry => Packed {
+        None => Packed {
             head: head(BLOCKED, reason, told, 0, 0),
             low: fault.low,
             high: fault.high,
             last: 0,
         },
-        EntryAddress::At(at) => Packed {
+        Some(at) => Packed {
             head: head(BLOCKED, reason, told, 1, 0),
             low: fault.low,
             high: fault.high,
@@ -90,11 +92,10 @@ pub fn pack_blocked(reason: u8, fault: FaultRecord, entry: EntryAddress) -> Pack
     }
 }
 
-pub fn pack_fault(fault: Fault, entry: EntryAddress) -> Packed
+pub fn pack_fault(fault: Fault, entry: Option<u64>) -> Packed
     ensures { bytes_of_packed result ≡ blocked_bytes (fault_of fault) (place_of entry) }
 {
-    let reason = fault.reason;
-    pack_blocked(reason.number(), record_of(fault), entry)
+    pack_blocked(fault.reason.number(), record_of(fault), entry)
 }
 
 pub fn pack_granted(address: u64) -> Packed
@@ -108,10 +109,10 @@ pub fn pack_granted(address: u64) -> Packed
     }
 }
 
-pub fn pack_refusal(number: u8) -> Packed
-    ensures { bytes_of_packed result ≡ refused_bytes number }
+pub fn pack_refusal(refusal: Refusal) -> Packed
+    ensures { bytes_of_packed result ≡ refused_bytes (refusal_number refusal) }
 {
-    short(head(REFUSED, number, 0, 0, 0))
+    short(head(REFUSED, refusal.number(), 0, 0, 0))
 }
 
 fn pack_memory(answer: MemoryAnswer) -> Packed
@@ -120,7 +121,7 @@ fn pack_memory(answer: MemoryAnswer) -> Packed
     match answer {
         MemoryAnswer::Granted(address) => pack_granted(address),
         MemoryAnswer::Blocked(fault, entry) => pack_fault(fault, entry),
-        MemoryAnswer::Refused(number) => pack_refusal(number),
+        MemoryAnswer::Refused(refusal) => pack_refusal(refusal),
     }
 }
 
@@ -138,20 +139,22 @@ fn pack_remapped(r: Remapped) -> Packed
     short(head(REMAPPED, r.vector, r.delivery, modes_of(r), r.destination))
 }
 
-fn pack_posted(descriptor: u64, posted: u8, notification: Notification) -> Packed
+fn pack_posted(descriptor: u64, posted: u8, notification: Option<Notice>) -> Packed
     ensures { bytes_of_packed result ≡ posted_bytes descriptor posted (due_of notification) }
 {
     match notification {
-        Notification::Silent => Packed {
+        None => Packed {
             head: head(POSTED, 0, 0, posted, 0),
             low: descriptor,
             high: 0,
             last: 0,
         },
-        Notification::Due {
-            vector,
-            destination,
-        } => Packed {
+        Some(
+            Notice {
+                vector,
+                destination,
+            },
+        ) => Packed {
             head: head(POSTED, 1, vector, posted, destination),
             low: descriptor,
             high: 0,
@@ -167,11 +170,10 @@ pub fn pack_interrupt(answer: InterruptAnswer) -> Packed
         InterruptAnswer::Passed => short(head(PASSED, 0, 0, 0, 0)),
         InterruptAnswer::Remapped(remapped) => pack_remapped(remapped),
         InterruptAnswer::Posted(posted) => {
-            let notification = posted.notification;
-            pack_posted(posted.descriptor, posted.vector, notification)
+            pack_posted(posted.descriptor, posted.vector, posted.notification)
         }
         InterruptAnswer::Blocked(fault, entry) => pack_fault(fault, entry),
-        InterruptAnswer::Refused(number) => pack_refusal(number),
+        InterruptAnswer::Refused(refusal) => pack_refusal(refusal),
     }
 }
 

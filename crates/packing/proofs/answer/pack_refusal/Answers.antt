@@ -1,5 +1,0 @@
-use mathlib.Core.Path.{◌∙◌}
-use Rattle.packing.proofs.answer.pack_refusal.Goals as goal
-
-pub returns : goal.returns
-returns c = c.short.ensures ∙ rw c.head.ensures
