@@ -2,14 +2,14 @@
 // refused. What the calls answered is counted and printed, with the records that stand in the buffer at the end.
 #![tactic(auto)]
 
-use faults::{Fault, Reason, Recorder, RecorderAnswer, RecorderStep};
+use faults::{Fault, Reason, Recorder, RecorderAnswer};
 use registers::SourceId;
 use std::io;
 use std::num::wrapping_add_u64;
 
 const CALLS: u32 = 10_000;
 
-#[derive(Clone, Copy)]
+#[derive(Clone, Copy, Default)]
 struct Tally {
     written: u64,
     overflowed: u64,
@@ -90,32 +90,25 @@ fn slot_of(x: u64, len: usize) -> u8 {
 }
 
 // One call, as the number says: a fault, a clear of a slot, a clear of overflow, or a fault for a buffer that is too short.
-fn one_call(buffer: &mut [u8], recorder: Recorder, x: u64) -> RecorderStep {
+fn one_call(buffer: &mut [u8], recorder: &mut Recorder, x: u64) -> RecorderAnswer {
     let kind = x % 16;
     let rest = x / 16;
     match kind {
-        0..=8 => faults::recorded(buffer, recorder, faults::record_of(fault_of(rest))),
-        9..=13 => faults::cleared(buffer, recorder, slot_of(rest, buffer.len())),
-        14 => faults::overflow_cleared(buffer, recorder),
+        0..=8 => recorder.record(buffer, faults::record_of(fault_of(rest))),
+        9..=13 => {
+            let slot = slot_of(rest, buffer.len());
+            recorder.clear_slot(buffer, slot)
+        }
+        14 => recorder.clear_overflow(buffer),
         _ => {
             let mut short = [0u8; 112];
-            faults::recorded(&mut short, recorder, faults::record_of(fault_of(rest)))
+            recorder.record(&mut short, faults::record_of(fault_of(rest)))
         }
     }
 }
 
 fn run_calls(buffer: &mut [u8]) -> Tally {
-    let mut tally = Tally {
-        written: 0,
-        overflowed: 0,
-        dropped: 0,
-        silenced: 0,
-        cleared: 0,
-        cleared_in_vain: 0,
-        overflow_cleared: 0,
-        overflow_cleared_in_vain: 0,
-        refused: 0,
-    };
+    let mut tally = Tally::default();
     let mut recorder = Recorder {
         next: 0,
         overflow: false,
@@ -123,25 +116,19 @@ fn run_calls(buffer: &mut [u8]) -> Tally {
     let mut x = 0x2545_F491_4F6C_DD1D;
     for _ in 0..CALLS {
         x = random(x);
-        let step = one_call(buffer, recorder, x);
-        recorder = step.recorder;
-        let answer = step.answer;
-        tally = tally.with(answer);
+        tally = tally.with(one_call(buffer, &mut recorder, x));
     }
     tally
 }
 
 // How many records have bit 127 set.
 fn standing(buffer: &[u8]) -> u64 {
-    let mut n = 0;
-    let mut last = 15usize;
-    while last < buffer.len() {
-        if 128 <= buffer[last] {
-            n = wrapping_add_u64(n, 1);
-        }
-        last = last + 16;
-    }
-    n
+    buffer
+        .iter()
+        .skip(15)
+        .step_by(16)
+        .filter(|byte| 128 <= **byte)
+        .count() as u64
 }
 
 fn line(rt: &impl Print, name: &[u8], n: u64) -> io::Result<()> {
