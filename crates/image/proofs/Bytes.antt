@@ -1,8 +1,7 @@
 -- Numbers as runs of bytes, over the number of bytes.
-use Rattle.std.proofs.Common.{◌≡◌, ℕ, zero, suc, ◌+◌, ◌*◌, ◌/◌, ◌%◌, ◌^◌, ◌<◌, ◌≤◌, List, [], ◌∷◌, ◌++◌, length, get_or, take, drop, set, sym, refl, ap, ◌∙◌, le_refl, lt_of_lt_of_le, add-zero, add_assoc, mod-lt, mod-eq_of_lt, mul_assoc, mul_comm, div-lt_iff_lt-mul, add_comm, suc-add, one-mul, pow-suc, mul-zero, zero-add, mul-add, div-one, add-one, arith, lit<, get_or-drop, take_all, pow-add}
-use native.Mathlib.Nat.{div-div-eq-div-mul, add-mul-mod_self_left, add-mul-div_left, mod-one, div-eq_of_lt, one-le-pow, pow-le-pow_right, pow-succ'}
+use Rattle.std.proofs.Common.{◌≡◌, ℕ, zero, suc, ◌+◌, ◌*◌, ◌/◌, ◌%◌, ◌^◌, ◌<◌, ◌≤◌, List, [], ◌∷◌, ◌++◌, length, get_or, take, drop, sym, refl, ap, ◌∙◌, add-zero, add_assoc, mod-lt, mod-eq_of_lt, mul_assoc, mul_comm, div-lt_iff_lt-mul, add_comm, suc-add, one-mul, pow-suc, mul-zero, zero-add, mul-add, div-one, arith, lit<, get_or-drop, pow-add}
+use native.Mathlib.Nat.{div-div-eq-div-mul, add-mul-mod_self_left, add-mul-div_left, mod-one, div-eq_of_lt, one-le-pow, pow-succ'}
 use lib.Arith.{mod-mul}
-use lib.Seq.{paste, paste-suc}
 use Rattle.image.specs.Bits.{bits}
 use Rattle.image.specs.Bytes.{little_endian, bytes_of}
 use Rattle.image.proofs.Fields.{past_top, in-digit, above-digit}
@@ -21,25 +20,6 @@ unfolding bytes_of
 byte_of zero value i h = absurd (omega arith)
 byte_of (suc n) value zero h = simp div-one
 byte_of (suc n) value (suc i) h = byte_of n (value / 256) i (omega arith) ∙ rw (div-div-eq-div-mul, ← pow-succ' 256 i)
-
--- all bytes of a number laid into a buffer
-pub all-bytes : (buffer : List ℕ) (at n value i : ℕ) → i ≡ n
-    → paste buffer at (bytes_of n value) i ≡ take at buffer ++ bytes_of n value ++ drop (at + n) buffer
-all-bytes buffer at n value i end =
-    let whole : length (bytes_of n value) ≤ n = rw length-bytes_of (le_refl n) in
-    rw (end, take_all n (bytes_of n value) whole)
-
--- a store of the next byte, in a run of stores that lays a number's bytes into a buffer
-pub next-byte : (buffer : List ℕ) (at n value i : ℕ) → at + n ≤ length buffer → i < n → {now : List ℕ} {rest : ℕ}
-    → now ≡ paste buffer at (bytes_of n value) i → rest ≡ value / 256 ^ i
-    → set now (at + i) (rest % 256) ≡ paste buffer at (bytes_of n value) (i + 1)
-next-byte buffer at n value i fits more stored left =
-    let inside : i < length (bytes_of n value) = rw length-bytes_of more in
-    rw (stored, left, ← byte_of n value i more, add-one i)
-    (paste-suc buffer at (bytes_of n value) i 0 (omega arith) inside)
-
-pub next-rest : (value i : ℕ) {rest : ℕ} → rest ≡ value / 256 ^ i → rest / 256 ≡ value / 256 ^ (i + 1)
-next-rest value i left = rw (left, div-div-eq-div-mul, add-one i, pow-suc 256 i)
 
 -- the bytes of two numbers side by side are those of one
 pub bytes-beside : (n m low high : ℕ) → low < 256 ^ n → bytes_of n low ++ bytes_of m high ≡ bytes_of (n + m) (low + 256 ^ n * high)
@@ -102,21 +82,6 @@ bytes_below (suc n) (x ∷ xs) bytes =
     let first = bytes 0 in
     let rest = bytes_below n xs (λ i. bytes (suc i)) in
     rw (pow-succ' 256 n) (omega arith)
-
--- a byte more of a number that is gathered in a word, lowest byte first
-module _ (xs : List ℕ) (i : ℕ) (bytes : AreBytes xs) (turn : i < 8) (more : i < length xs) where
-  pub gathered-below : little_endian (take (i + 1) xs) < 2 ^ 64
-  gathered-below =
-      lt_of_lt_of_le (bytes_below (i + 1) xs bytes) (pow-le-pow_right {n = 256} (lit< tt) {i = i + 1} {j = 8} (omega arith))
-
-  pub gathered : {word b : ℕ} → word ≡ little_endian (take i xs) → b ≡ get_or xs i 0
-      → word + b * 2 ^ (8 * i) % 2 ^ 64 ≡ little_endian (take (i + 1) xs)
-  gathered {word} {b} so_far next =
-      let sum : little_endian (take (i + 1) xs) ≡ word + b * 2 ^ (8 * i) =
-      rw (add-one i, last_byte i xs more, so_far, next, byte_power i, mul_comm (get_or xs i 0) (256 ^ i)) in
-      let below = gathered-below in
-      let fits : b * 2 ^ (8 * i) < 2 ^ 64 = omega arith in
-      rw (mod-eq_of_lt fits) (sym sum)
 
 -- the bytes of a number with one more byte below it
 pub byte-before : (n d rest : ℕ) → d < 256 → bytes_of (suc n) (d + 256 * rest) ≡ d ∷ bytes_of n rest

@@ -20,4 +20,5 @@ pub mod GoodWindows
 pub mod WindowBytes
 pub mod WindowEntries
 pub mod WindowRows
+pub mod WordBytes
 pub mod Words

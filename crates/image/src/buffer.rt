@@ -7,23 +7,11 @@ ghost use Rattle.image.specs.Answers.{fetched8, missed8};
 use crate::Missing;
 
 // The number in the 8 bytes from an index, lowest byte first.
-fn little_endian(image: &[u8], at: usize) -> u64
-    requires { at + 8 ≤ length image.now }
-    ensures { result ≡ word_at image.now at }
-{
-    let mut word = 0;
-    for i in 0..8usize {
-        word += (image[at + i] as u64) << (8 * i);
-    }
-    word
-}
-
-// The same as one load: the compiler joins the loop's eight here, where it doesn't yet see which bits a caller looks at.
 pub fn word(image: &[u8], at: usize) -> u64
     requires { at + 8 ≤ length image.now }
     ensures { result ≡ word_at image.now at }
 {
-    little_endian(image, at)
+    u64::from_le_bytes(image[at..at + 8].try_into().unwrap())
 }
 
 pub fn fetch8(image: &[u8], at: u64) -> Result<u64, Missing>
@@ -51,11 +39,7 @@ fn store_word(image: &mut [u8], at: usize, word: u64)
     requires { at + 8 ≤ length image.old }
     ensures { image.new ≡ take at image.old ++ bytes_of 8 word ++ drop (at + 8) image.old }
 {
-    let mut rest = word;
-    for i in 0..8usize {
-        image[at + i] = (rest % 256) as u8;
-        rest = rest / 256;
-    }
+    image[at..at + 8].copy_from_slice(&word.to_le_bytes());
 }
 
 // A word into the 8 bytes from an address; nothing is written where the image doesn't hold them all.

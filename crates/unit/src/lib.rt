@@ -4,12 +4,11 @@
 
 pub use dma::{MemoryAnswer, MemoryRequest, memory_request};
 pub use faults::{Fault, Reason};
-pub use image::EntryAddress;
 pub use interrupts::{
-    InterruptAnswer, InterruptRequest, Notification, Posted, Remapped, interrupt_request,
+    InterruptAnswer, InterruptRequest, Notice, Posted, Remapped, interrupt_request,
 };
-pub use registers::{Registers, SourceId};
-pub use takes::{TakeAnswer, take};
+pub use registers::{Refusal, Registers, SourceId};
+pub use takes::take;
 pub use translation::{
     PageSize, Rights, TranslationAnswer, TranslationRequest, translation_request,
 };
