@@ -10,19 +10,18 @@ use native.Mathlib.Omega.{arith}
 use lib.ListN.{length, get_or, set, length-set, get_or-replicate, length-replicate, replicate}
 use lib.Pow.{split, high, low, pow_pos, pow-lt}
 use lib.Seq.{get_or-set_same, get_or-set_other}
-use Rattle.std.specs.Prelude.{if◌then◌else◌}
+use Rattle.std.specs.Prelude.{if◌then◌else◌, Result, Ok}
 use Rattle.image.specs.Memory.{Memory}
 use Rattle.registers.specs.declared.Registers.{Registers}
 use Rattle.dma.specs.Walk.{down}
 use Rattle.translation.specs.Rights.{both}
 use Rattle.translation.specs.declared.Rights.{Rights}
 use Rattle.translation.proofs.Pages.{same_above}
-use Rattle.regions.specs.Answers.{onward_of, level_after, LeadsTo, Walkable, at_top}
-use Rattle.regions.specs.Known.{rights_number, key_of, StandsIn, PutIn, Remembers, Quiet, Sound, QuietAround, QuietTo}
+use Rattle.regions.specs.Answers.{onward_of}
+use Rattle.regions.specs.Known.{rights_number, key_of, PutIn, Remembers, Quiet, Sound, QuietTo}
 use Rattle.regions.specs.Region.{Region, is_listed, region_step, region_in}
+use Rattle.regions.specs.declared.Region.{Region as RegionCode}
 use Rattle.regions.specs.declared.Tables.{Tables}
-use Rattle.regions.specs.declared.walk.Onward.{Onward}
-use Rattle.regions.specs.declared.walk.Onward.TheVariants as onward
 use Rattle.regions.specs.declared.walk.Reached.{Reached}
 use Rattle.regions.proofs.Regions.{low_bits, led-to, led-at}
 
@@ -185,33 +184,15 @@ module _ (registers : Registers) (m : Memory) (outside : (table : ℕ) → Bool)
       ∙ on x (same_above address x (12 + 9 * (level - 1)) (12 + 9 * level) (omega arith) near)
 
   -- the walk from table to table
-  abbrev pub Standing : Tables → (address : ℕ) → Reached → Type 0
-  Standing tables address at =
-      (0 < at.level) × (at.level ≤ 5) × (at.table % 4096 ≡ 0)
-      × OnWalk tables.levels tables.top address at.level at.table at.rights
+  abbrev pub Standing : Tables → (address level : ℕ) → Reached → Type 0
+  Standing tables address level at =
+      (0 < level) × (level ≤ 5) × (at.table % 4096 ≡ 0)
+      × OnWalk tables.levels tables.top address level at.table at.rights
 
-  pub standing-first : (tables : Tables) (address : ℕ) {at : Reached} → at ≡ at_top tables → Walkable tables → Standing tables address at
-  standing-first tables address is good = subst (Standing tables address) (sym is) (good.0, good.1, good.2, λ x near. refl)
-
-  pub standing-down : (tables : Tables) (address : ℕ) (at : Reached) {step : Onward} {next : Reached} → Standing tables address at
-      → step ≡ onward.Down next → onward_of step ≡ region_step registers m outside address (at.level - 1) at.table at.rights
-      → LeadsTo step (at.level - 1) → Standing tables address next × (next.level < at.level)
-  standing-down tables address at {step} {next} on is told leads =
+  pub standing-down : (tables : Tables) (address level : ℕ) (at : Reached) {step : Result Reached RegionCode} {next : Reached}
+      → Standing tables address level at → step ≡ Ok next → onward_of step ≡ region_step registers m outside address (level - 1) at.table at.rights
+      → Standing tables address (level - 1) next
+  standing-down tables address level at {step} {next} on is told =
       let t = sym (ap onward_of is) ∙ told in
-      let below : next.level ≡ at.level - 1 = sym (ap (λ (s : Onward). level_after s (at.level - 1)) is) ∙ leads in
-      let to = led-to registers m outside address (at.level - 1) at.table at.rights t in
-      let way = on-down tables.levels tables.top address at.level at.table at.rights on.0 on.3 t in
-      let stands : Standing tables address next = (
-        omega (arith, below, to.1),
-        omega (arith, below, on.1),
-        to.0,
-        subst (λ (n : ℕ). OnWalk tables.levels tables.top address n next.table next.rights) (sym below) way,
-      ) in
-      (stands, omega (arith, below, on.0))
-
-  -- a known table on it
-  pub known-quiet : (levels top address level table : ℕ) (above : Rights) (known : List ℕ) → OnWalk levels top address level table above
-      → Sound registers m outside known → StandsIn known (key_of table level above) → table % 4096 ≡ 0 → level ≤ 5
-      → QuietAround registers m outside levels top level address
-  known-quiet levels top address level table above known on sound held page few some x near =
-      ap (λ (r : Region). is_listed r.what) (sym (on x near)) ∙ sound held.at table level above page some few held.there x
+      let to = led-to registers m outside address (level - 1) at.table at.rights t in
+      (to.1, omega (arith, on.1), to.0, on-down tables.levels tables.top address level at.table at.rights on.0 on.3 t)

@@ -1,4 +1,3 @@
 pub mod KnownTables
-pub mod Lists
 pub mod Regions
 pub mod TableOutside

@@ -218,41 +218,45 @@ module _ (registers : Registers) (m : Memory) (outside : (table : ℕ) → Bool)
   end-here address n table above told = rw (← told)
 
   -- a level by its table and its entry
-  module _ (address level table : ℕ) (above : Rights) (more : 0 < level) where
+  module _ (address n table : ℕ) (above : Rights) where
     abbrev here : Step Rights Region
-    here = region_step registers m outside address (level - 1) table above
+    here = region_step registers m outside address n table above
 
-    one : suc (level - 1) ≡ level
+    one : suc n ≡ n + 1
     one = omega arith
 
-    pub step-outside : outside table ≡ true → done (record { level = level + 1; what = fault 0x07; rights = above }) ≡ here
+    pub step-outside : outside table ≡ true → done (record { level = n + 2; what = fault 0x07; rights = above }) ≡ here
     unfolding region_step
     step-outside is =
-        let two : level + 1 ≡ suc (suc (level - 1)) = omega arith in
+        let two : n + 2 ≡ suc (suc n) = omega arith in
         rw (is, two)
 
     module _ (inside : outside table ≡ false) where
-      pub step-done : {c : Completion} → done c ≡ entry_over registers address false m (level - 1) table above → done (ended level above c) ≡ here
+      pub step-done : {c : Completion} → done c ≡ entry_over registers address false m n table above → done (ended (n + 1) above c) ≡ here
       unfolding region_step
       step-done {c} told = rw (inside, ← told, one)
 
       pub step-page : {frame of : ℕ} {rights : Rights} {r : Region}
-          → done (completion.page frame of rights) ≡ entry_over registers address false m (level - 1) table above
+          → done (completion.page frame of rights) ≡ entry_over registers address false m n table above
           → r ≡ ended of above (completion.page frame of rights) → done r ≡ here
       step-page {frame} {of} {rights} told is =
-          let at = (page-reached registers address m (level - 1) table above told).1 ∙ one in
+          let at = (page-reached registers address m n table above told).1 ∙ one in
           ap done (is ∙ ap (λ (l : ℕ). ended l above (completion.page frame of rights)) at) ∙ step-done told
 
-      pub step_down : {next : ℕ} {t : Rights} → down next t ≡ entry_over registers address false m (level - 1) table above → down next t ≡ here
+      pub step_down : {next : ℕ} {t : Rights} → down next t ≡ entry_over registers address false m n table above → down next t ≡ here
       unfolding region_step
       step_down told = rw (inside, ← told)
 
-    -- the walk after it
-    pub ended_at : {r : Region} → done r ≡ here → r ≡ region address level table above
-    ended_at told = end-here address (level - 1) table above told ∙ ap (λ (l : ℕ). region address l table above) one
+  -- the walk after it
+  module _ (address level table : ℕ) (above : Rights) (more : 0 < level) where
+    whole : suc (level - 1) ≡ level
+    whole = omega arith
 
-    pub led-at : {next : ℕ} {t : Rights} → down next t ≡ here
+    pub ended_at : {r : Region} → done r ≡ region_step registers m outside address (level - 1) table above → r ≡ region address level table above
+    ended_at told = end-here address (level - 1) table above told ∙ ap (λ (l : ℕ). region address l table above) whole
+
+    pub led-at : {next : ℕ} {t : Rights} → down next t ≡ region_step registers m outside address (level - 1) table above
         → (x : ℕ) → address / 2 ^ (12 + 9 * (level - 1)) ≡ x / 2 ^ (12 + 9 * (level - 1))
         → region x (level - 1) next t ≡ region x level table above
     led-at told x near =
-        sym (led_on address (level - 1) table above told x near) ∙ ap (λ (l : ℕ). region x l table above) one
+        sym (led_on address (level - 1) table above told x near) ∙ ap (λ (l : ℕ). region x l table above) whole

@@ -1,14 +1,14 @@
 // Tables below which nothing is listed, remembered in lent memory, so that tables which point to each other are not walked again and again.
 // A number for each, at a place that it shares with few others: one that is overwritten is worked out once more.
-ghost use Rattle.std.specs.Prelude.{true, false, ◌≡◌, length, replicate, ◌+◌, ◌*◌, ◌/◌, ◌%◌, ◌^◌, ◌<◌, ◌≤◌};
-ghost use Rattle.image.specs.Windows.{of_windows, bad_windows};
+ghost use Rattle.std.specs.Prelude.{true, IfSome, ◌≡◌, length, replicate, ◌+◌, ◌*◌, ◌/◌, ◌%◌, ◌^◌, ◌<◌, ◌≤◌};
+ghost use Rattle.image.specs.Answers.{memory_of};
 ghost use Rattle.regions.specs.Answers.{Walkable};
 ghost use Rattle.regions.specs.Known.{rights_number, key_of, StandsIn, Remembers, Sound, QuietAround, QuietTo};
 ghost use Rattle.regions.specs.Outside.{table_outside};
 
 use crate::Tables;
-use crate::walk::{Onward, Reached, at_top, table_step};
-use image::place64;
+use crate::walk::{Reached, at_top, table_step};
+use image::{Memory, place64};
 use registers::Page4K;
 use translation::Rights;
 
@@ -16,33 +16,22 @@ use translation::Rights;
 pub fn rights_number(rights: Rights) -> u64
     ensures { (result ≡ rights_number rights) × (result < 4) }
 {
-    let read = rights.read;
-    let write = rights.write;
-    if read {
-        if write {
-            return 3;
-        }
-        return 1;
-    }
-    if write {
-        return 2;
-    }
-    0
+    rights.read as u64 + 2 * rights.write as u64
 }
 
-fn key(at: Reached) -> u64
-    requires { (at.table % 4096 ≡ 0) × (at.level ≤ 5) }
-    ensures { result ≡ key_of at.table at.level at.rights }
+fn key(level: u32, at: Reached) -> u64
+    requires { (at.table % 4096 ≡ 0) × (level ≤ 5) }
+    ensures { result ≡ key_of at.table level at.rights }
 {
-    at.table + (4 * at.level as u64 + rights_number(at.rights))
+    at.table + (4 * level as u64 + rights_number(at.rights))
 }
 
 // Where a key stands: by its table's place in the run, so that no two whole tables share a place where there is room for all.
-fn slot(windows: &[u64], run: usize, table: u64, key: u64, room: usize) -> usize
-    requires { (bad_windows windows.now run ≡ false) × (0 < room) × (table % 4096 ≡ 0) }
+fn slot(memory: &Memory, table: u64, key: u64, room: usize) -> usize
+    requires { (0 < room) × (table % 4096 ≡ 0) }
     ensures { result < room }
 {
-    let page = place64(windows, run, table) / 4096;
+    let page = place64(memory.windows, memory.image.len(), table) / 4096;
     (16 * page + (key % 16) as usize) % room
 }
 
@@ -50,23 +39,19 @@ fn slot(windows: &[u64], run: usize, table: u64, key: u64, room: usize) -> usize
 pub fn forget(known: &mut [u64])
     ensures { known.new ≡ replicate (length known.old) 0 }
 {
-    let mut i = 0;
-    while i < known.len() {
-        known[i] = 0;
-        i += 1;
-    }
+    known.fill(0);
 }
 
-// Whether a table is known.
-fn is_known(windows: &[u64], run: usize, known: &[u64], at: Reached) -> bool
-    requires { (bad_windows windows.now run ≡ false) × (at.table % 4096 ≡ 0) × (at.level ≤ 5) }
-    ensures { result ≡ true → StandsIn known.now (key_of at.table at.level at.rights) }
+// Whether a table of a level is known.
+fn is_known(memory: &Memory, known: &[u64], level: u32, at: Reached) -> bool
+    requires { (at.table % 4096 ≡ 0) × (level ≤ 5) }
+    ensures { result ≡ true → StandsIn known.now (key_of at.table level at.rights) }
 {
-    if known.len() == 0 {
+    if known.is_empty() {
         return false;
     }
-    let key = key(at);
-    let place = slot(windows, run, at.table, key, known.len());
+    let key = key(level, at);
+    let place = slot(memory, at.table, key, known.len());
     known[place] == key
 }
 
@@ -79,73 +64,57 @@ pub fn table_span(level: u32) -> u64
 }
 
 // A table that lists nothing, where its span ends with an address and begins no earlier than from.
-fn remember(windows: &[u64], run: usize, from: u64, last: u64, at: Reached, known: &mut [u64])
-    requires { (bad_windows windows.now run ≡ false) × (at.table % 4096 ≡ 0) × (at.level ≤ 5) × (from < 2 ^ 60) × (last < 2 ^ 60) }
-    ensures { Remembers known.old known.new (key_of at.table at.level at.rights) from last at.level }
+fn remember(memory: &Memory, from: u64, last: u64, level: u32, at: Reached, known: &mut [u64])
+    requires { (at.table % 4096 ≡ 0) × (level ≤ 5) × (from < 2 ^ 60) × (last < 2 ^ 60) }
+    ensures { Remembers known.old known.new (key_of at.table level at.rights) from last level }
 {
-    let span = table_span(at.level);
+    let span = table_span(level);
     if (last + 1) % span != 0 {
         return;
     }
     if last + 1 < from + span {
         return;
     }
-    if known.len() == 0 {
+    if known.is_empty() {
         return;
     }
-    let key = key(at);
-    let place = slot(windows, run, at.table, key, known.len());
+    let key = key(level, at);
+    let place = slot(memory, at.table, key, known.len());
     known[place] = key;
 }
 
-// The level of the highest known table on the walk of an address; 0 where there is none.
-pub fn known_level(
-    windows: &[u64],
-    image: &[u8],
-    tables: Tables,
-    address: u64,
-    known: &[u64],
-) -> u32
-    requires { (bad_windows windows.now (length image.now) ≡ false) × Walkable tables
-        × Sound tables.registers (of_windows windows.now image.now) (table_outside windows.now) known.now }
-    ensures { (result ≤ 5) × QuietAround tables.registers (of_windows windows.now image.now) (table_outside windows.now) tables.levels tables.top result address }
+// The level of the highest known table on the walk of an address.
+pub fn known_level(memory: &Memory, tables: Tables, address: u64, known: &[u64]) -> Option<u32>
+    requires { Walkable tables
+        × Sound tables.registers (memory_of memory.now) (table_outside memory.now.windows.now) known.now }
+    ensures { IfSome result (λ level. (0 < level) × (level ≤ 5)
+        × QuietAround tables.registers (memory_of memory.now) (table_outside memory.now.windows.now) tables.levels tables.top level address) }
 {
     let mut at = at_top(tables);
-    while 0 < at.level {
-        if is_known(windows, image.len(), known, at) {
-            return at.level;
+    for below in (0..tables.levels).rev() {
+        if is_known(memory, known, below + 1, at) {
+            return Some(below + 1);
         }
-        let step = table_step(windows, image, tables.registers, address, at);
-        let Onward::Down(next) = step else {
-            return 0;
-        };
-        at = next;
+        at = table_step(memory, tables.registers, address, below, at).ok()?;
     }
-    0
+    None
 }
 
 // Nothing is listed from an address up to the last one: of the tables on the walk of the last, those that begin no earlier and end there
 // list nothing.
-pub fn remember_tables(
-    windows: &[u64],
-    image: &[u8],
-    tables: Tables,
-    from: u64,
-    last: u64,
-    known: &mut [u64],
-)
-    requires { (bad_windows windows.now (length image.now) ≡ false) × Walkable tables
+pub fn remember_tables(memory: &Memory, tables: Tables, from: u64, last: u64, known: &mut [u64])
+    requires { Walkable tables
         × (from < 2 ^ 60) × (last < 2 ^ 60)
-        × QuietTo tables.registers (of_windows windows.now image.now) (table_outside windows.now) tables.levels tables.top from (last + 1)
-        × Sound tables.registers (of_windows windows.now image.now) (table_outside windows.now) known.old }
+        × QuietTo tables.registers (memory_of memory.now) (table_outside memory.now.windows.now) tables.levels tables.top from (last + 1)
+        × Sound tables.registers (memory_of memory.now) (table_outside memory.now.windows.now) known.old }
     ensures { (length known.new ≡ length known.old)
-        × Sound tables.registers (of_windows windows.now image.now) (table_outside windows.now) known.new }
+        × Sound tables.registers (memory_of memory.now) (table_outside memory.now.windows.now) known.new }
 {
     let mut at = at_top(tables);
-    while 0 < at.level {
-        remember(windows, image.len(), from, last, at, known);
-        let step = table_step(windows, image, tables.registers, last, at);
-        let Onward::Down(next) = step else {
+    for below in (0..tables.levels).rev() {
+        remember(memory, from, last, below + 1, at, known);
+        let step = table_step(memory, tables.registers, last, below, at);
+        let Ok(next) = step else {
             return;
         };
         at = next;

@@ -6,12 +6,12 @@ mod walk;
 
 use faults::Reason;
 pub use known::{forget, known_level, remember_tables, rights_number, table_span};
-use registers::Registers;
+use registers::{Refusal, Registers};
 use translation::Rights;
 pub use walk::{empty_region, region_at};
 
 // The page tables of a context, and the registers by which their entries are read.
-#[derive(Clone, Copy)]
+#[derive(Clone, Copy, Debug, PartialEq, Eq)]
 pub struct Tables {
     pub registers: Registers,
     pub levels: u32,
@@ -19,22 +19,21 @@ pub struct Tables {
     pub top: u64,
 }
 
-// What stands at an address.
-#[derive(Clone, Copy)]
+// What is listed of an address.
+#[derive(Clone, Copy, Debug, PartialEq, Eq)]
 pub enum What {
     // The frame of a page.
     Page(u64),
     Fault(Reason),
-    // By number: 4, a page with a byte in the interrupt range.
-    Refused(u8),
-    // No right is left.
-    Nothing,
+    // A page with a byte in the interrupt range.
+    Refused(Refusal),
 }
 
 // The span of an entry of a level, with the joined rights: a page's, or those of the entries above a fault.
-#[derive(Clone, Copy)]
+#[derive(Clone, Copy, Debug, PartialEq, Eq)]
 pub struct Region {
     pub level: u32,
-    pub what: What,
+    // None where no right is left.
+    pub what: Option<What>,
     pub rights: Rights,
 }

@@ -1,62 +1,49 @@
 // The region of an address: the walk of a translation request, with the span at whose entry or table it ends.
-ghost use Rattle.std.specs.Prelude.{true, false, ◌≡◌, length, ◌-◌, ◌%◌, ◌<◌, ◌≤◌};
-ghost use Rattle.image.specs.Windows.{of_windows, bad_windows};
+ghost use Rattle.std.specs.Prelude.{true, false, ◌≡◌, length, ◌%◌, ◌<◌};
+ghost use Rattle.image.specs.Answers.{memory_of};
 ghost use Rattle.faults.specs.Reason.{number_of};
 ghost use Rattle.translation.specs.Completion.{page, empty, fault, Reachable};
 ghost use Rattle.translation.specs.Rights.{both};
-ghost use Rattle.regions.specs.Answers.{region_of, onward_of, LeadsTo, Walkable, at_top};
+ghost use Rattle.regions.specs.Answers.{region_of, onward_of, Walkable, at_top};
 ghost use Rattle.regions.specs.Outside.{table_outside};
 ghost use Rattle.regions.specs.Region.{ended, region_step, region_in};
 
 use crate::{Region, Tables, What};
 use dma::{Walk, meets_interrupt_range};
 use faults::Reason;
-use image::{Held, find_window, first_span};
-use registers::Registers;
-use translation::{Rights, Step, entry_step};
+use image::Memory;
+use registers::{Refusal, Registers};
+use translation::{Page, Rights, Step, entry_step};
 
-// A table that a walk has come to: its level, from 5 down to 1, its address, and the rights joined above it.
-#[derive(Clone, Copy)]
+// A table that a walk has come to: its address, and the rights joined above it.
+#[derive(Clone, Copy, Debug, PartialEq, Eq)]
 pub struct Reached {
-    pub level: u32,
     pub table: u64,
     pub rights: Rights,
 }
 
-// What one level makes of the walk.
-#[derive(Clone, Copy)]
-pub enum Onward {
-    Ended(Region),
-    Down(Reached),
-}
-
 // None of a table's bytes is in a window: windows begin at multiples of 4096, so the first byte tells.
-fn table_outside(windows: &[u64], image: &[u8], table: u64) -> bool
-    requires { (bad_windows windows.now (length image.now) ≡ false) × (table % 4096 ≡ 0) }
-    ensures { result ≡ table_outside windows.now table }
+fn table_outside(memory: &Memory, table: u64) -> bool
+    requires { table % 4096 ≡ 0 }
+    ensures { result ≡ table_outside memory.now.windows.now table }
 {
-    match find_window(windows, image.len(), table) {
-        Held::In(_) => false,
-        Held::Nowhere => true,
-    }
+    memory.window(table).is_none()
 }
 
-// A page with a byte in the interrupt range is refusal 4.
-fn page_region(frame: u64, level: u32, rights: Rights) -> Region
-    requires { Reachable (page frame level rights) }
-    ensures { (above : _) → region_of result ≡ ended level above (page frame level rights) }
+// A page with a byte in the interrupt range is refused.
+fn page_region(found: Page) -> Region
+    requires { Reachable (page found.frame found.level found.rights) }
+    ensures { (above : _) → region_of result ≡ ended found.level above (page found.frame found.level found.rights) }
 {
-    if meets_interrupt_range(level, frame) {
-        return Region {
-            level,
-            what: What::Refused(4),
-            rights,
-        };
-    }
+    let what = if meets_interrupt_range(found.level, found.frame) {
+        What::Refused(Refusal::InterruptPage)
+    } else {
+        What::Page(found.frame)
+    };
     Region {
-        level,
-        what: What::Page(frame),
-        rights,
+        level: found.level,
+        what: Some(what),
+        rights: found.rights,
     }
 }
 
@@ -65,7 +52,7 @@ fn fault_region(level: u32, reason: Reason, rights: Rights) -> Region
 {
     Region {
         level,
-        what: What::Fault(reason),
+        what: Some(What::Fault(reason)),
         rights,
     }
 }
@@ -76,7 +63,7 @@ pub fn empty_region(level: u32) -> Region
 {
     Region {
         level,
-        what: What::Nothing,
+        what: None,
         rights: Rights {
             read: false,
             write: false,
@@ -84,42 +71,33 @@ pub fn empty_region(level: u32) -> Region
     }
 }
 
-// One level of the walk.
+// One level of the walk, with below levels after it: the table that it leads to, or the region at which the walk ends.
 pub fn table_step(
-    windows: &[u64],
-    image: &[u8],
+    memory: &Memory,
     registers: Registers,
     address: u64,
+    below: u32,
     at: Reached,
-) -> Onward
-    requires { (bad_windows windows.now (length image.now) ≡ false) × (0 < at.level) × (at.level ≤ 5) × (at.table % 4096 ≡ 0) }
-    ensures result_value { onward_of result ≡ region_step registers (of_windows windows.now image.now) (table_outside windows.now) address (at.level - 1) at.table at.rights }
-    ensures leads_to { LeadsTo result (at.level - 1) }
+) -> Result<Reached, Region>
+    requires { (below < 5) × (at.table % 4096 ≡ 0) }
+    ensures { onward_of result ≡ region_step registers (memory_of memory.now) (table_outside memory.now.windows.now) address below at.table at.rights }
 {
-    let rights = at.rights;
-    if table_outside(windows, image, at.table) {
-        return Onward::Ended(fault_region(at.level + 1, Reason::PageEntryAccess, rights));
+    if table_outside(memory, at.table) {
+        return Err(fault_region(below + 2, Reason::PageEntryAccess, at.rights));
     }
-    let first = first_span(windows);
-    let below = at.level - 1;
     // FPD plays no part in a listing.
     let walk = Walk {
-        first,
         address,
         fpd: false,
     };
-    let step = entry_step(windows, image, registers, walk, below, at.table, rights);
+    let step = match entry_step(memory, registers, walk, below, at.table, at.rights) {
+        Ok(step) => step,
+        Err(stop) => return Err(fault_region(below + 1, stop.reason, at.rights)),
+    };
     match step {
-        Step::Page(frame, of, read, write) => {
-            Onward::Ended(page_region(frame, of, Rights { read, write }))
-        }
-        Step::Empty => Onward::Ended(empty_region(at.level)),
-        Step::Fault(reason, _, _) => Onward::Ended(fault_region(at.level, reason, rights)),
-        Step::Down(table, read, write) => Onward::Down(Reached {
-            level: below,
-            table,
-            rights: Rights { read, write },
-        }),
+        Step::Down(table, rights) => Ok(Reached { table, rights }),
+        Step::Page(found) => Err(page_region(found)),
+        Step::Empty => Err(empty_region(below + 1)),
     }
 }
 
@@ -128,7 +106,6 @@ pub fn at_top(tables: Tables) -> Reached
     ensures { result ≡ at_top tables }
 {
     Reached {
-        level: tables.levels,
         table: tables.top,
         rights: Rights {
             read: true,
@@ -137,15 +114,15 @@ pub fn at_top(tables: Tables) -> Reached
     }
 }
 
-pub fn region_at(windows: &[u64], image: &[u8], tables: Tables, address: u64) -> Region
-    requires { (bad_windows windows.now (length image.now) ≡ false) × Walkable tables }
-    ensures { region_of result ≡ region_in tables.registers (of_windows windows.now image.now) (table_outside windows.now) address tables.levels tables.top both }
+pub fn region_at(memory: &Memory, tables: Tables, address: u64) -> Region
+    requires { Walkable tables }
+    ensures { region_of result ≡ region_in tables.registers (memory_of memory.now) (table_outside memory.now.windows.now) address tables.levels tables.top both }
 {
     let mut at = at_top(tables);
-    while 0 < at.level {
-        match table_step(windows, image, tables.registers, address, at) {
-            Onward::Ended(region) => return region,
-            Onward::Down(next) => at = next,
+    for below in (0..tables.levels).rev() {
+        match table_step(memory, tables.registers, address, below, at) {
+            Ok(next) => at = next,
+            Err(region) => return region,
         }
     }
     // No step leads below level 1.

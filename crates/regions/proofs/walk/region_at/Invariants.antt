@@ -1,15 +1,8 @@
-use mathlib.Core.Bool.{false}
-use mathlib.Core.Path.{◌≡◌}
-use lib.ListN.{length}
-use Rattle.image.specs.Windows.{of_windows, bad_windows}
+use Rattle.image.specs.Answers.{memory_of}
 use Rattle.regions.specs.Outside.{table_outside}
 use Rattle.regions.proofs.KnownTables.{Standing}
 use Rattle.regions.proofs.walk.region_at.Given as goal
 
-abbrev pub invariant-loop-at : goal.invariant-loop-at
-invariant-loop-at l =
-    Standing l.tables.registers (of_windows l.windows l.image) (table_outside l.windows) l.tables l.address l.at
-    × (bad_windows l.windows (length l.image) ≡ false)
-
-abbrev pub decreases-loop-at : goal.decreases-loop-at
-decreases-loop-at l = l.at.level
+abbrev pub invariant-loop-below : goal.invariant-loop-below
+invariant-loop-below l =
+    Standing l.tables.registers (memory_of l.memory) (table_outside l.memory.windows.now) l.tables l.address l.below l.at

@@ -1,22 +1,25 @@
-use mathlib.Core.Bool.{not}
-use mathlib.Core.Path.{ap, sym, subst, ◌∙◌}
+use mathlib.Core.Bool.{Bool, true, false, not}
+use mathlib.Core.Path.{◌≡◌, ap, sym, ◌∙◌}
 use lib.ListN.{length}
+use Rattle.std.specs.Prelude.{Option, Some, None, is_some}
 use Rattle.image.specs.Answers.{HeldBy}
-use Rattle.image.specs.Windows.{Spot, windows_of}
-use Rattle.image.specs.declared.entries.Held.{Held}
+use Rattle.image.specs.Windows.{Window, spot_in}
+use Rattle.image.specs.declared.Span.{Span}
 use Rattle.regions.proofs.TableOutside.{there, outside_told}
 use Rattle.regions.proofs.walk.table_outside.Goals as goal
+use mathlib.Core.List.{List}
+use Prim.Native.Nat.{ℕ}
 
-pub returns-in-In : goal.returns-in-In
-returns-in-In c =
-    let a = c.args in
-    let s = c.requires in
-    let held = subst (λ (r : Held). HeldBy r (windows_of a.windows.now) (length a.image.now) a.table) c.in-In.is c.find_window.ensures in
-    ap (λ (s : Spot). not (there s)) (sym held.spot) ∙ outside_told a.windows.now (length a.image.now) a.table s.0 s.1
+-- no window has the byte where none is found
+held : (r : Option Span) (ws : List Window) (run at : ℕ) → HeldBy r ws run at → not (is_some r) ≡ not (there (spot_in ws 1 at))
+held (Some s) ws run at h = sym (ap (λ s. not (there s)) h.spot)
+held None ws run at h = sym (ap (λ s. not (there s)) h)
 
-pub returns-in-Nowhere : goal.returns-in-Nowhere
-returns-in-Nowhere c =
-    let a = c.args in
-    let s = c.requires in
-    let none = subst (λ (r : Held). HeldBy r (windows_of a.windows.now) (length a.image.now) a.table) c.in-Nowhere.is c.find_window.ensures in
-    ap (λ (s : Spot). not (there s)) (sym none) ∙ outside_told a.windows.now (length a.image.now) a.table s.0 s.1
+flip : (r : Bool) {w : Bool} → w ≡ not r → r ≡ not w
+flip true is = sym (ap not is)
+flip false is = sym (ap not is)
+
+pub returns : goal.returns
+returns c =
+    let m = c.args.memory.now in
+    flip _ c.is_none.ensures ∙ held _ _ _ _ c.window.ensures ∙ outside_told m.windows.now (length m.image.now) c.args.table m.opened.0 c.requires
