@@ -4,8 +4,7 @@
 
 use faults::{Fault, Reason, Recorder, RecorderAnswer};
 use registers::SourceId;
-use std::io;
-use std::num::wrapping_add_u64;
+use std::{fmt, io};
 
 const CALLS: u32 = 10_000;
 
@@ -23,25 +22,37 @@ struct Tally {
 }
 
 impl Tally {
-    fn with(mut self, answer: RecorderAnswer) -> Self {
-        match answer {
-            RecorderAnswer::Written => self.written = wrapping_add_u64(self.written, 1),
-            RecorderAnswer::Overflowed => self.overflowed = wrapping_add_u64(self.overflowed, 1),
-            RecorderAnswer::Dropped => self.dropped = wrapping_add_u64(self.dropped, 1),
-            RecorderAnswer::NotRecordable => self.silenced = wrapping_add_u64(self.silenced, 1),
-            RecorderAnswer::SlotCleared => self.cleared = wrapping_add_u64(self.cleared, 1),
-            RecorderAnswer::SlotClear => {
-                self.cleared_in_vain = wrapping_add_u64(self.cleared_in_vain, 1)
-            }
-            RecorderAnswer::OverflowCleared => {
-                self.overflow_cleared = wrapping_add_u64(self.overflow_cleared, 1)
-            }
-            RecorderAnswer::OverflowClear => {
-                self.overflow_cleared_in_vain = wrapping_add_u64(self.overflow_cleared_in_vain, 1)
-            }
-            RecorderAnswer::Refused => self.refused = wrapping_add_u64(self.refused, 1),
-        }
-        self
+    fn count(&mut self, answer: RecorderAnswer) {
+        let count = match answer {
+            RecorderAnswer::Written => &mut self.written,
+            RecorderAnswer::Overflowed => &mut self.overflowed,
+            RecorderAnswer::Dropped => &mut self.dropped,
+            RecorderAnswer::NotRecordable => &mut self.silenced,
+            RecorderAnswer::SlotCleared => &mut self.cleared,
+            RecorderAnswer::SlotClear => &mut self.cleared_in_vain,
+            RecorderAnswer::OverflowCleared => &mut self.overflow_cleared,
+            RecorderAnswer::OverflowClear => &mut self.overflow_cleared_in_vain,
+            RecorderAnswer::Refused => &mut self.refused,
+        };
+        *count = count.wrapping_add(1);
+    }
+}
+
+impl fmt::Display for Tally {
+    fn fmt<W: fmt::Write>(&self, f: &mut fmt::Formatter<W>) -> fmt::Result {
+        writeln!(f, "written {}", self.written)?;
+        writeln!(f, "overflowed {}", self.overflowed)?;
+        writeln!(f, "dropped {}", self.dropped)?;
+        writeln!(f, "silenced by FPD {}", self.silenced)?;
+        writeln!(f, "cleared {}", self.cleared)?;
+        writeln!(f, "cleared in vain {}", self.cleared_in_vain)?;
+        writeln!(f, "overflow cleared {}", self.overflow_cleared)?;
+        writeln!(
+            f,
+            "overflow cleared in vain {}",
+            self.overflow_cleared_in_vain
+        )?;
+        write!(f, "refused {}", self.refused)
     }
 }
 
@@ -53,8 +64,7 @@ fn random(x: u64) -> u64 {
 }
 
 fn memory_reason(n: u64) -> Reason {
-    let k = n % 4;
-    match k {
+    match n % 4 {
         0 => Reason::RootNotPresent,
         1 => Reason::ContextInvalid,
         2 => Reason::WriteDenied,
@@ -63,8 +73,7 @@ fn memory_reason(n: u64) -> Reason {
 }
 
 fn interrupt_reason(n: u64) -> Reason {
-    let k = n % 4;
-    match k {
+    match n % 4 {
         0 => Reason::RequestReserved,
         1 => Reason::IndexOutOfRange,
         2 => Reason::IrteNotPresent,
@@ -91,19 +100,12 @@ fn slot_of(x: u64, len: usize) -> u8 {
 
 // One call, as the number says: a fault, a clear of a slot, a clear of overflow, or a fault for a buffer that is too short.
 fn one_call(buffer: &mut [u8], recorder: &mut Recorder, x: u64) -> RecorderAnswer {
-    let kind = x % 16;
     let rest = x / 16;
-    match kind {
+    match x % 16 {
         0..=8 => recorder.record(buffer, faults::record_of(fault_of(rest))),
-        9..=13 => {
-            let slot = slot_of(rest, buffer.len());
-            recorder.clear_slot(buffer, slot)
-        }
+        9..=13 => recorder.clear_slot(buffer, slot_of(rest, buffer.len())),
         14 => recorder.clear_overflow(buffer),
-        _ => {
-            let mut short = [0u8; 112];
-            recorder.record(&mut short, faults::record_of(fault_of(rest)))
-        }
+        _ => recorder.record(&mut [0u8; 112], faults::record_of(fault_of(rest))),
     }
 }
 
@@ -116,53 +118,27 @@ fn run_calls(buffer: &mut [u8]) -> Tally {
     let mut x = 0x2545_F491_4F6C_DD1D;
     for _ in 0..CALLS {
         x = random(x);
-        tally = tally.with(one_call(buffer, &mut recorder, x));
+        tally.count(one_call(buffer, &mut recorder, x));
     }
     tally
 }
 
 // How many records have bit 127 set.
-fn standing(buffer: &[u8]) -> u64 {
+fn standing(buffer: &[u8]) -> usize {
     buffer
-        .iter()
-        .skip(15)
-        .step_by(16)
-        .filter(|byte| 128 <= **byte)
-        .count() as u64
-}
-
-fn line(rt: &impl Print, name: &[u8], n: u64) -> io::Result<()> {
-    rt.write_all(name)?;
-    rt.print(n)?;
-    rt.write_all(b"\n")
-}
-
-fn print(rt: &impl Print, tally: Tally) -> io::Result<()> {
-    line(rt, b"calls ", CALLS as u64)?;
-    line(rt, b"written ", tally.written)?;
-    line(rt, b"overflowed ", tally.overflowed)?;
-    line(rt, b"dropped ", tally.dropped)?;
-    line(rt, b"silenced by FPD ", tally.silenced)?;
-    line(rt, b"cleared ", tally.cleared)?;
-    line(rt, b"cleared in vain ", tally.cleared_in_vain)?;
-    line(rt, b"overflow cleared ", tally.overflow_cleared)?;
-    line(
-        rt,
-        b"overflow cleared in vain ",
-        tally.overflow_cleared_in_vain,
-    )?;
-    line(rt, b"refused ", tally.refused)
+        .chunks_exact(16)
+        .filter(|record| 128 <= record[15])
+        .count()
 }
 
 fn report(rt: &impl Print, buffer: &mut [u8]) -> io::Result<()> {
-    line(rt, b"slots ", faults::slot_count(buffer.len()) as u64)?;
-    print(rt, run_calls(buffer))?;
-    line(rt, b"standing ", standing(buffer))
+    println!(rt; "slots {}", faults::slot_count(buffer.len()))?;
+    println!(rt; "calls {CALLS}")?;
+    println!(rt; "{}", run_calls(buffer))?;
+    println!(rt; "standing {}", standing(buffer))
 }
 
 fn main(rt: HostRuntime) -> io::Result<()> {
-    let mut few = [0u8; 128];
-    report(&rt, &mut few)?;
-    let mut many = [0u8; 4096];
-    report(&rt, &mut many)
+    report(&rt, &mut [0u8; 128])?;
+    report(&rt, &mut [0u8; 4096])
 }
