@@ -1,3 +1,4 @@
+pub mod Answers
 pub mod Mapped
 pub mod Pages
 pub mod Tables

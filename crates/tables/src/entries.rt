@@ -6,6 +6,7 @@ ghost use Rattle.tables.specs.Tables.{held_entry, present, maps_page, table_of, 
 use dma::entry_offset;
 use image::{field, in_place, store8, word_or_zero};
 
+#[tactic(auto, unfolding(crate::specs::Tables::held_entry))]
 pub fn entry_of(bytes: &[u8], at: u64) -> u64
     ensures { result ≡ held_entry bytes.now at }
 {
@@ -30,11 +31,7 @@ pub fn maps_page(below: u32, e: u64) -> bool
 pub fn table_of(start: u64, e: u64) -> u64
     ensures { (result ≡ table_of start e) × (result < 2 ^ 52) }
 {
-    let address = in_place(e, 51, 12);
-    if address < start {
-        return 0;
-    }
-    address - start
+    in_place(e, 51, 12).saturating_sub(start)
 }
 
 // The place of an entry on the way to an address.
@@ -50,16 +47,7 @@ pub fn is_empty(bytes: &[u8], table: u64) -> bool
     requires { table < 2 ^ 63 }
     ensures { result ≡ empty_table bytes.now table }
 {
-    let mut left: u64 = 512;
-    let mut at = table;
-    while 0 < left {
-        if is_present(entry_of(bytes, at)) {
-            return false;
-        }
-        left -= 1;
-        at += 8;
-    }
-    true
+    (0..512).all(|word| !is_present(entry_of(bytes, table + 8 * word)))
 }
 
 // A table all zero.
@@ -67,11 +55,7 @@ pub(crate) fn clear_table(bytes: &mut [u8], table: u64)
     requires { table < 2 ^ 63 }
     ensures { bytes.new ≡ words_zeroed 512 bytes.old table }
 {
-    let mut left: u64 = 512;
-    let mut at = table;
-    while 0 < left {
-        store8(bytes, at, 0);
-        left -= 1;
-        at += 8;
+    for word in 0..512 {
+        store8(bytes, table + 8 * word, 0);
     }
 }

@@ -2,12 +2,14 @@
 #![tactic(auto)]
 
 mod entries;
+mod error;
 mod map;
 mod pages;
 mod unmap;
 mod way;
 
 pub use entries::{entry_of, is_empty, is_present, maps_page, table_of};
+pub use error::PageError;
 pub use map::map_page;
 pub use pages::mark;
 pub use unmap::unmap_page;

@@ -1,13 +1,14 @@
 // A page is mapped.
 ghost use Rattle.std.specs.Prelude.{◌≡◌, ◌+◌, ◌-◌, ◌*◌, ◌^◌, ◌<◌, length};
+ghost use Rattle.tables.specs.Answers.{reason_of};
 ghost use Rattle.tables.specs.Mapped.{new_table, with_leaf, map_at, mapped};
 ghost use Rattle.tables.specs.Pages.{lowest};
 ghost use Rattle.tables.specs.Tables.{tables};
 
-use crate::Tree;
 use crate::entries::{clear_table, is_present, place_of};
 use crate::pages::{count_free, lowest_free, mark};
 use crate::way::{Stop, way_to};
+use crate::{PageError, Tree};
 use image::store8;
 use registers::Page4K;
 
@@ -33,48 +34,42 @@ fn new_table(bytes: &mut [u8], marks: &mut [u8], start: u64, at: u64, level: u8)
     table
 }
 
-// So many missing tables, then the leaf.
-fn put_leaf(bytes: &mut [u8], marks: &mut [u8], start: u64, leaf: Leaf, missing: u32, at: u64)
-    requires { (start + 4096 * length marks.old < 2 ^ 53) × (leaf.last + missing < 6) }
-    ensures { tables bytes.new marks.new ≡ with_leaf start leaf.place leaf.last leaf.entry missing at (tables bytes.old marks.old) }
+// The tables that are missing where a way ends, then the leaf.
+fn put_leaf(bytes: &mut [u8], marks: &mut [u8], start: u64, leaf: Leaf, stop: Stop)
+    requires { (start + 4096 * length marks.old < 2 ^ 53) × (stop.below < 5) }
+    ensures { tables bytes.new marks.new ≡ with_leaf start leaf.place leaf.last leaf.entry (stop.below - leaf.last) stop.at (tables bytes.old marks.old) }
 {
-    let mut left = missing;
-    let mut to = at;
-    while 0 < left {
-        let table = new_table(bytes, marks, start, to, (leaf.last + left) as u8);
-        left -= 1;
-        to = place_of(leaf.place, table, leaf.last + left);
+    let mut to = stop.at;
+    for below in (leaf.last..stop.below).rev() {
+        let table = new_table(bytes, marks, start, to, below as u8 + 1);
+        to = place_of(leaf.place, table, below);
     }
     store8(bytes, to, leaf.entry);
 }
 
-// How many tables are missing where a way ends.
-fn missing_tables(below: u32, last: u32) -> u32
-    ensures { result ≡ below - last }
+fn map_at(
+    bytes: &mut [u8],
+    marks: &mut [u8],
+    start: u64,
+    leaf: Leaf,
+    stop: Stop,
+) -> Result<(), PageError>
+    requires { (start + 4096 * length marks.old < 2 ^ 53) × (stop.below < 5) }
+    ensures { (reason_of result, tables bytes.new marks.new) ≡ map_at start leaf.place leaf.last leaf.entry stop (tables bytes.old marks.old) }
 {
-    if below < last {
-        return 0;
-    }
-    below - last
-}
-
-fn map_at(bytes: &mut [u8], marks: &mut [u8], start: u64, leaf: Leaf, stop: Stop) -> u8
-    requires { (start + 4096 * length marks.old < 2 ^ 53) × (stop.below < 5) × (leaf.last < 2) }
-    ensures { (result, tables bytes.new marks.new) ≡ map_at start leaf.place leaf.last leaf.entry stop (tables bytes.old marks.old) }
-{
-    let last = leaf.last;
     if is_present(stop.entry) {
-        return 6;
+        return Err(PageError::Overlap);
     }
-    let missing = missing_tables(stop.below, last);
+    let missing = stop.below.saturating_sub(leaf.last);
     if count_free(marks) < missing as usize {
-        return 7;
+        return Err(PageError::TooFewPages);
     }
-    put_leaf(bytes, marks, start, leaf, missing, stop.at);
-    0
+    put_leaf(bytes, marks, start, leaf, stop);
+    Ok(())
 }
 
-// The leaf of a page at a place, last being how many levels come below it: 0, or the reason against it.
+// The leaf of a page at a place, last being how many levels come below it.
+#[tactic(auto, unfolding(crate::specs::Mapped::mapped))]
 pub fn map_page(
     bytes: &mut [u8],
     marks: &mut [u8],
@@ -82,9 +77,9 @@ pub fn map_page(
     place: u64,
     last: u32,
     leaf: u64,
-) -> u8
+) -> Result<(), PageError>
     requires { (tree.start + 4096 * length marks.old < 2 ^ 53) × (tree.top < 2 ^ 52) × (tree.below < 5) × (last < 2) }
-    ensures { (result, tables bytes.new marks.new) ≡ mapped tree place last leaf (tables bytes.old marks.old) }
+    ensures { (reason_of result, tables bytes.new marks.new) ≡ mapped tree place last leaf (tables bytes.old marks.old) }
 {
     let stop = way_to(bytes, tree, place, last);
     let leaf = Leaf {

@@ -1,6 +1,6 @@
 // The way to a place, from the top table down.
 ghost use Rattle.std.specs.Prelude.{◌≡◌, ◌^◌, ◌<◌, ◌≤◌};
-ghost use Rattle.tables.specs.Way.{ends as wayEnds, way};
+ghost use Rattle.tables.specs.Way.{ends as way_ends, stop_in, way};
 
 use crate::Tree;
 use crate::entries::{entry_of, is_present, maps_page, place_of, table_of};
@@ -18,9 +18,23 @@ pub struct Stop {
 
 // An entry at which the way ends: one of the level asked for, one that isn't present, or a page's.
 fn ends(last: u32, below: u32, e: u64) -> bool
-    ensures { result ≡ wayEnds last below e }
+    ensures { result ≡ way_ends last below e }
 {
     (below == last) | !is_present(e) | maps_page(below, e)
+}
+
+// The entry on the way to a place in a table.
+fn stop_in(bytes: &[u8], place: u64, below: u32, table: u64) -> Stop
+    requires { (table < 2 ^ 63) × (below < 5) }
+    ensures { result ≡ stop_in bytes.now place below table }
+{
+    let at = place_of(place, table, below);
+    Stop {
+        below,
+        table,
+        at,
+        entry: entry_of(bytes, at),
+    }
 }
 
 pub(crate) fn way_to(bytes: &[u8], tree: Tree, place: u64, last: u32) -> Stop
@@ -28,27 +42,13 @@ pub(crate) fn way_to(bytes: &[u8], tree: Tree, place: u64, last: u32) -> Stop
     ensures value { result ≡ way bytes.now tree place last }
     ensures below_le_below { (result.below ≤ tree.below) × (result.table < 2 ^ 52) }
 {
-    let mut below = tree.below;
     let mut table = tree.top;
-    while 0 < below {
-        let at = place_of(place, table, below);
-        let entry = entry_of(bytes, at);
-        if ends(last, below, entry) {
-            return Stop {
-                below,
-                table,
-                at,
-                entry,
-            };
+    for below in (1..=tree.below).rev() {
+        let stop = stop_in(bytes, place, below, table);
+        if ends(last, below, stop.entry) {
+            return stop;
         }
-        table = table_of(tree.start, entry);
-        below -= 1;
+        table = table_of(tree.start, stop.entry);
     }
-    let at = place_of(place, table, 0);
-    Stop {
-        below: 0,
-        table,
-        at,
-        entry: entry_of(bytes, at),
-    }
+    stop_in(bytes, place, 0, table)
 }

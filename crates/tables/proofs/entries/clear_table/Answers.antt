@@ -1,27 +1,13 @@
-use mathlib.Core.Path.{refl, sym, ◌∙◌}
-use native.Mathlib.Omega.{arith}
-use borrow.Author.Rules.{rules}
-use Rattle.tables.proofs.Folds.{zeroed-on, zeroed-done}
+use Rattle.tables.proofs.Folds.{zeroed_on, zeroed_done}
+use Rattle.std.proofs.Common.{sym, ◌∙◌, arith, ◌-◌, ◌+◌, ◌*◌}
 use Rattle.tables.proofs.entries.clear_table.Goals as goal
 
-pub loop-left-init : goal.loop-left-init
-loop-left-init c = (refl, omega arith, omega arith, refl)
-
-pub loop-left-preserved : goal.loop-left-preserved
-loop-left-preserved c =
-    let s = c in
-    let l = s.loop-left in
-    let more = s.loop-left-test.true in (
-      rw s.store8.ensures (zeroed-on l.bytes l.at l.left more ∙ l.invariant.0),
-      omega arith,
-      omega arith,
-      search rules,
-    )
+pub loop-word-preserved : goal.loop-word-preserved
+loop-word-preserved c =
+    let l = c.loop-word in
+    rw c.store8.ensures (zeroed_on l.bytes c.args.table 512 l.word (omega arith) ∙ l.invariant)
 
 pub returns : goal.returns
 returns c =
-    let l = c.loop-left in
-    sym (zeroed-done l.bytes l.at l.left c.loop-left-test.false) ∙ l.invariant.0
-
-pub shape_of-bytes : goal.shape_of-bytes
-shape_of-bytes c = c.loop-left.invariant.3
+    let l = c.loop-word in
+    sym (zeroed_done l.bytes 0 (512 - l.word) (c.args.table + 8 * l.word) (omega arith)) ∙ l.invariant

@@ -1,5 +1,4 @@
-use Prim.Native.Nat.{◌<◌, ◌≤◌, ◌^◌}
-use mathlib.Core.Path.{◌≡◌}
+use Rattle.std.proofs.Common.{◌≡◌, ◌<◌, ◌^◌}
 use Rattle.tables.specs.Way.{way_to, way}
 use Rattle.tables.proofs.way.way_to.Given as goal
 
@@ -7,9 +6,4 @@ use Rattle.tables.proofs.way.way_to.Given as goal
 abbrev pub invariant-loop-below : goal.invariant-loop-below
 invariant-loop-below l =
     (way_to l.bytes l.tree.start l.place l.last l.below l.table ≡ way l.bytes l.tree l.place l.last)
-    × (l.below ≤ l.tree.below)
-    × (l.tree.below < 5)
     × (l.table < 2 ^ 52)
-
-abbrev pub decreases-loop-below : goal.decreases-loop-below
-decreases-loop-below l = l.below

@@ -1,9 +1,0 @@
-use native.Mathlib.Omega.{arith}
-use borrow.Author.Tests.{eq-eqb, ne_eqb}
-use Rattle.tables.proofs.pages.one_if_free.Goals as goal
-
-pub returns-then-mark-eq0 : goal.returns-then-mark-eq0
-returns-then-mark-eq0 c = (rw (eq-eqb c.args.mark 0 c.if-mark-eq0.true), omega arith)
-
-pub returns : goal.returns
-returns c = (rw (ne_eqb c.args.mark 0 c.if-mark-eq0.false), omega arith)
