@@ -2,8 +2,8 @@
 // free page (document 02, ask 8).
 #![tactic(auto)]
 
-ghost use Rattle.std.specs.Prelude.{◌≡◌, ◌+◌, ◌*◌, ◌^◌, ◌<◌, length, get_or, replicate};
-ghost use Rattle.marking.specs.Marking.{free_page, leads_to_free, mark_entry as marksEntry, mark_entries as marksEntries, mark_table as marksTable, mark_level as marksLevel, mark_levels as marksLevels, mark_all};
+ghost use Rattle.std.specs.Prelude.{◌≡◌, ◌+◌, ◌*◌, ◌^◌, ◌<◌, length, get_or};
+ghost use Rattle.marking.specs.Marking.{free_page, leads_to_free, mark_entry as entry_marked, mark_entries as entries_marked, mark_table as table_marked, mark_level as level_marked, mark_levels as levels_marked, mark_all};
 
 use registers::Page4K;
 use tables::{Tree, entry_of, is_empty, is_present, maps_page, mark, table_of};
@@ -12,11 +12,9 @@ use tables::{Tree, entry_of, is_empty, is_present, maps_page, mark, table_of};
 fn is_free(marks: &[u8], table: u64) -> bool
     ensures { result ≡ free_page marks.now table }
 {
-    let page = table / Page4K::SPAN;
-    if page < marks.len() as u64 {
-        return marks[page as usize] == 0;
-    }
-    false
+    marks
+        .get((table / Page4K::SPAN) as usize)
+        .is_some_and(|mark| *mark == 0)
 }
 
 fn leads_to_free(marks: &[u8], start: u64, e: u64) -> bool
@@ -27,9 +25,10 @@ fn leads_to_free(marks: &[u8], start: u64, e: u64) -> bool
     (e == start + table + 3) & is_free(marks, table)
 }
 
+#[tactic(auto, unfolding(crate::specs::Marking::mark_entry))]
 fn mark_entry(marks: &mut [u8], start: u64, below: u32, e: u64) -> bool
     requires { (start < 2 ^ 53) × (below < 5) }
-    ensures { (result, marks.new) ≡ marksEntry start below e marks.old }
+    ensures { (result, marks.new) ≡ entry_marked start below e marks.old }
 {
     if !is_present(e) | maps_page(below, e) {
         return true;
@@ -43,16 +42,12 @@ fn mark_entry(marks: &mut [u8], start: u64, below: u32, e: u64) -> bool
 
 fn mark_entries(bytes: &[u8], marks: &mut [u8], start: u64, below: u32, table: u64) -> bool
     requires { (start < 2 ^ 53) × (below < 5) × (table < 2 ^ 63) }
-    ensures { (result, marks.new) ≡ marksEntries bytes.now start below 512 table marks.old }
+    ensures { (result, marks.new) ≡ entries_marked bytes.now start below 512 table marks.old }
 {
-    let mut left: u64 = 512;
-    let mut at = table;
-    while 0 < left {
-        if !mark_entry(marks, start, below, entry_of(bytes, at)) {
+    for word in 0..512 {
+        if !mark_entry(marks, start, below, entry_of(bytes, table + 8 * word)) {
             return false;
         }
-        left -= 1;
-        at += 8;
     }
     true
 }
@@ -61,15 +56,13 @@ fn mark_entries(bytes: &[u8], marks: &mut [u8], start: u64, below: u32, table: u
 fn level_of(marks: &[u8], page: usize) -> u8
     ensures { result ≡ get_or marks.now page 0 }
 {
-    if page < marks.len() {
-        return marks[page];
-    }
-    0
+    marks.get(page).copied().unwrap_or(0)
 }
 
+#[tactic(auto, unfolding(crate::specs::Marking::mark_table))]
 fn mark_table(bytes: &[u8], marks: &mut [u8], tree: Tree, below: u32, page: usize) -> bool
     requires { (tree.start < 2 ^ 53) × (below < 5) × (4096 * page < 2 ^ 63) }
-    ensures { (result, marks.new) ≡ marksTable bytes.now tree below page marks.old }
+    ensures { (result, marks.new) ≡ table_marked bytes.now tree below page marks.old }
 {
     if level_of(marks, page) != below as u8 + 1 {
         return true;
@@ -83,50 +76,35 @@ fn mark_table(bytes: &[u8], marks: &mut [u8], tree: Tree, below: u32, page: usiz
 
 fn mark_level(bytes: &[u8], marks: &mut [u8], tree: Tree, below: u32) -> bool
     requires { (tree.start + 4096 * length marks.old < 2 ^ 53) × (below < 5) }
-    ensures { (result, marks.new) ≡ marksLevel bytes.now tree below (length marks.old) 0 marks.old }
+    ensures { (result, marks.new) ≡ level_marked bytes.now tree below (length marks.old) 0 marks.old }
 {
-    let mut left = marks.len();
-    let mut page: usize = 0;
-    while 0 < left {
+    for page in 0..marks.len() {
         if !mark_table(bytes, marks, tree, below, page) {
             return false;
         }
-        left -= 1;
-        page += 1;
     }
     true
 }
 
 fn mark_levels(bytes: &[u8], marks: &mut [u8], tree: Tree) -> bool
     requires { (tree.start + 4096 * length marks.old < 2 ^ 53) × (tree.below < 5) }
-    ensures { (result, marks.new) ≡ marksLevels bytes.now tree (tree.below + 1) marks.old }
+    ensures { (result, marks.new) ≡ levels_marked bytes.now tree (tree.below + 1) marks.old }
 {
-    let mut left = tree.below + 1;
-    while 0 < left {
-        if !mark_level(bytes, marks, tree, left - 1) {
+    for below in (0..=tree.below).rev() {
+        if !mark_level(bytes, marks, tree, below) {
             return false;
         }
-        left -= 1;
     }
     true
 }
 
-fn clear_marks(marks: &mut [u8])
-    ensures { marks.new ≡ replicate (length marks.old) 0 }
-{
-    let mut page = 0;
-    while page < marks.len() {
-        marks[page] = 0;
-        page += 1;
-    }
-}
-
 // Whether the tables are as built here, a page of the region for each mark.
+#[tactic(auto, unfolding(crate::specs::Marking::mark_all))]
 pub fn mark_tables(bytes: &[u8], marks: &mut [u8], tree: Tree) -> bool
     requires { (tree.start + 4096 * length marks.old < 2 ^ 53) × (tree.below < 5) }
     ensures { (result, marks.new) ≡ mark_all bytes.now tree (length marks.old) }
 {
-    clear_marks(marks);
+    marks.fill(0);
     if !is_free(marks, tree.top) {
         return false;
     }

@@ -1,39 +1,24 @@
-use mathlib.Core.Path.{refl, ◌∙◌}
-use native.Mathlib.Omega.{arith}
-use borrow.Author.Rules.{rules}
-use Rattle.marking.proofs.Turns.{levels-bad, levels-on, levels-done}
+use Rattle.std.proofs.Common.{◌≡◌, ◌+◌, ◌-◌, ◌∙◌, arith, add-one}
+use Rattle.marking.proofs.Turns.{levels_bad, levels_on, levels_done}
 use Rattle.marking.proofs.mark_levels.Goals as goal
-
-pub loop-left-init : goal.loop-left-init
-loop-left-init c = (refl, omega arith, refl)
-
-pub mark_level-requires : goal.mark_level-requires
-mark_level-requires c =
-    let l = c.loop-left in
-    let p = c.requires in
-    (omega (arith, p.0, l.invariant.2), omega (arith, p.1, l.invariant.1, c.loop-left-test.true))
 
 pub returns-then-not-mark_level : goal.returns-then-not-mark_level
 returns-then-not-mark_level c =
-    let k = c in
-    let i = k in
-    let l = i.loop-left in
-    let a = i.args in
-    levels-bad a.bytes.now a.tree l.marks l.left i.loop-left-test.true k.mark_level.ensures (c.if-not-mark_level.true) ∙ l.invariant.0
-
-pub loop-left-preserved : goal.loop-left-preserved
-loop-left-preserved c =
-    let k = c in
-    let i = k in
-    let l = i.loop-left in
-    let a = i.args in (
-      levels-on a.bytes.now a.tree l.marks l.left i.loop-left-test.true k.mark_level.ensures (c.if-not-mark_level.false) ∙ l.invariant.0,
-      omega (arith, l.invariant.1),
-      search rules,
-    )
-
-pub returns : goal.returns
-returns c =
-    let l = c.loop-left in
+    let l = c.loop-below in
     let a = c.args in
-    levels-done a.bytes.now a.tree l.marks l.left c.loop-left-test.false ∙ l.invariant.0
+    levels_bad a.bytes.now a.tree l.marks (l.below + 1) l.below (add-one l.below) c.mark_level.ensures (c.if-not-mark_level.true) ∙ l.invariant
+
+pub loop-below-preserved : goal.loop-below-preserved
+loop-below-preserved c =
+    let l = c.loop-below in
+    let a = c.args in
+    let next : l.below - 1 + 1 ≡ l.below = omega arith in
+    rw next (levels_on a.bytes.now a.tree l.marks (l.below + 1) l.below (add-one l.below) c.mark_level.ensures (c.if-not-mark_level.false) ∙ l.invariant)
+
+pub returns-else-not-mark_level : goal.returns-else-not-mark_level
+returns-else-not-mark_level c =
+    let l = c.loop-below in
+    let a = c.args in
+    levels_done a.bytes.now a.tree c.mark_level.new.marks l.below (omega arith)
+    ∙ levels_on a.bytes.now a.tree l.marks (l.below + 1) l.below (add-one l.below) c.mark_level.ensures (c.if-not-mark_level.false)
+    ∙ l.invariant
