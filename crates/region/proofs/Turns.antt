@@ -1,88 +1,75 @@
 -- The definitions that count down, by their first turn and at their end: for the code's loops. And what a spot tells.
-use Prim.Native.Nat.{ℕ, ◌+◌, ◌-◌, ◌/◌, ◌<◌, ◌≤◌}
-use mathlib.Core.Bool.{Bool, true, false}
-use mathlib.Core.Path.{◌≡◌, refl, ap, sym, ◌∙◌}
-use mathlib.Core.List.{List}
-use native.Mathlib.Omega.{arith}
-use Rattle.image.specs.Memory.{Memory, with_word}
+use Rattle.std.proofs.Common.{◌≡◌, ℕ, zero, suc, ◌+◌, ◌-◌, ◌*◌, ◌/◌, ◌^◌, ◌<◌, ◌≤◌, Bool, true, false, ltb, List, Some, None, is_some, Result, Ok, Err, refl, arith}
+use Rattle.std.specs.Result.{result_unwrap_or}
+use Rattle.std.specs.List.{list_all, list_any, range_with_len}
+use Rattle.image.specs.Answers.{fetched8}
+use Rattle.image.specs.Memory.{Memory, on_fetch, with_word}
 use Rattle.image.specs.Windows.{Spot, nowhere, here, on_spot, spot_in, windows_of, of_windows}
+use Rattle.image.specs.declared.Missing.{Missing}
 use Rattle.registers.specs.declared.Registers.{Registers}
 use Rattle.tables.specs.Tables.{held_entry}
 use Rattle.tables.proofs.Folds.{again, none_left}
-use Rattle.region.specs.Copy.{is_whole, spot_place, word_shown, stored_at, copied_in, copied_out}
+use Rattle.region.specs.Copy.{is_whole, place_shown, word_shown, stored_at, copied_in, copied_out}
 use Rattle.region.specs.Region.{not_pages, pages_shown, bad_region}
 use Rattle.region.specs.Shared.{meets, meets_named_at, any_named, interrupt_entries, shares_tables}
-use lib.Dec.{ltb}
-use Prim.Native.Nat.{◌*◌, ◌^◌}
 
-module _ (spot : Spot) (word : ℕ) (run : List ℕ) where
-  pub stored_there : is_whole spot ≡ true → {place : ℕ} {after : List ℕ} → place ≡ spot_place spot → after ≡ with_word run place word
-      → after ≡ on_spot spot run (λ place left. with_word run place word)
-  stored_there = go spot
-    where
-      go : (s : Spot) → is_whole s ≡ true → {place : ℕ} {after : List ℕ} → place ≡ spot_place s → after ≡ with_word run place word
-          → after ≡ on_spot s run (λ place left. with_word run place word)
-      go nowhere h p e = let z : ◌≡◌ {A = ℕ} 0 1 = cc in absurd (omega arith)
-      go (here place left) h p e = e ∙ ap (λ (x : ℕ). with_word run x word) p
+-- what a place that was found tells of a spot
+pub whole_by : (spot : Spot) → is_some (place_shown spot) ≡ is_whole spot
+whole_by nowhere = refl
+whole_by (here place left) = refl
 
-  pub not-stored : is_whole spot ≡ false → run ≡ on_spot spot run (λ place left. with_word run place word)
-  not-stored = go spot
-    where
-      go : (s : Spot) → is_whole s ≡ false → run ≡ on_spot s run (λ place left. with_word run place word)
-      go nowhere h = refl
-      go (here place left) h = let z : ◌≡◌ {A = ℕ} 0 1 = cc in absurd (omega arith)
+pub stored_there : (spot : Spot) (word : ℕ) (run : List ℕ) {place : ℕ} → Some place ≡ place_shown spot
+    → with_word run place word ≡ on_spot spot run (λ place left. with_word run place word)
+stored_there nowhere word run h = absurd (cc)
+stored_there (here there left) word run {place} h = let e : place ≡ there = cc in rw e
 
-module _ (m : Memory) (start n at : ℕ) (copy : List ℕ) where
-  pub in_on : 0 < n → {word : ℕ} {after : List ℕ} → word ≡ word_shown m (start + at) → after ≡ with_word copy at word
-      → copied_in m start (n - 1) (at + 8) after ≡ copied_in m start n at copy
+pub not_stored : (spot : Spot) (word : ℕ) (run : List ℕ) → None ≡ place_shown spot
+    → run ≡ on_spot spot run (λ place left. with_word run place word)
+not_stored nowhere word run h = refl
+not_stored (here place left) word run h = absurd (cc)
+
+pub word_or_zero : (r : Result ℕ Missing) → result_unwrap_or r 0 ≡ on_fetch (fetched8 r) 0 (λ e. e)
+word_or_zero (Ok e) = refl
+word_or_zero (Err m) = refl
+
+module _ (m : Memory) (start : ℕ) (copy : List ℕ) where
+  pub in_on : (n i : ℕ) → i < n → {word : ℕ} {after : List ℕ} → word ≡ word_shown m (start + 8 * i) → after ≡ with_word copy (8 * i) word
+      → copied_in m start (n - (i + 1)) (8 * (i + 1)) after ≡ copied_in m start (n - i) (8 * i) copy
   unfolding copied_in
-  in_on more p e =
-      ap (copied_in m start (n - 1) (at + 8)) (e ∙ ap (with_word copy at) p)
-      ∙ sym (ap (λ (k : ℕ). copied_in m start k at copy) (again n more))
+  in_on n i more p e =
+      let next : 8 * (i + 1) ≡ 8 * i + 8 = omega arith in
+      rw (again n i more, next, e, p)
 
-  pub in-done : n ≤ 0 → copy ≡ copied_in m start n at copy
+  pub in_done : (n at : ℕ) → n ≤ 0 → copy ≡ copied_in m start n at copy
   unfolding copied_in
-  in-done none = sym (ap (λ (k : ℕ). copied_in m start k at copy) (none_left n none))
+  in_done n at none = rw (none_left n none)
 
-module _ (windows copy : List ℕ) (start n at : ℕ) (run : List ℕ) where
-  pub out-on : 0 < n → {word : ℕ} {after : List ℕ} → word ≡ held_entry copy at → after ≡ stored_at windows (start + at) word run
-      → copied_out windows copy start (n - 1) (at + 8) after ≡ copied_out windows copy start n at run
+module _ (windows copy : List ℕ) (start : ℕ) (run : List ℕ) where
+  pub out_on : (n i : ℕ) → i < n → {word : ℕ} {after : List ℕ} → word ≡ held_entry copy (8 * i) → after ≡ stored_at windows (start + 8 * i) word run
+      → copied_out windows copy start (n - (i + 1)) (8 * (i + 1)) after ≡ copied_out windows copy start (n - i) (8 * i) run
   unfolding copied_out
-  out-on more p e =
-      ap (copied_out windows copy start (n - 1) (at + 8)) (e ∙ ap (λ (x : ℕ). stored_at windows (start + at) x run) p)
-      ∙ sym (ap (λ (k : ℕ). copied_out windows copy start k at run) (again n more))
+  out_on n i more p e =
+      let next : 8 * (i + 1) ≡ 8 * i + 8 = omega arith in
+      rw (again n i more, next, e, p)
 
-  pub out-done : n ≤ 0 → run ≡ copied_out windows copy start n at run
+  pub out_done : (n at : ℕ) → n ≤ 0 → run ≡ copied_out windows copy start n at run
   unfolding copied_out
-  out-done none = sym (ap (λ (k : ℕ). copied_out windows copy start k at run) (none_left n none))
+  out_done n at none = rw (none_left n none)
 
-module _ (windows : List ℕ) (n at : ℕ) where
-  pub shown-on : 0 < n → is_whole (spot_in (windows_of windows) 4096 at) ≡ true
-      → pages_shown windows (n - 1) (at + 4096) ≡ pages_shown windows n at
-  unfolding pages_shown
-  shown-on more h = sym (ap (λ (k : ℕ). pages_shown windows k at) (again n more) ∙ rw h)
+-- the pages one after the other, as an iterator gives them
+pub all_shown : (windows : List ℕ) (start n i at : ℕ) → at ≡ start + 4096 * i
+    → list_all (λ (page : ℕ). is_whole (spot_in (windows_of windows) 4096 (start + 4096 * page))) (range_with_len i n) ≡ pages_shown windows n at
+unfolding pages_shown
+all_shown windows start zero i at h = refl
+all_shown windows start (suc n) i at h = rw (← h, all_shown windows start n (i + 1) (at + 4096) (omega arith))
 
-  pub shown-not : 0 < n → is_whole (spot_in (windows_of windows) 4096 at) ≡ false → false ≡ pages_shown windows n at
-  unfolding pages_shown
-  shown-not more h = sym (ap (λ (k : ℕ). pages_shown windows k at) (again n more) ∙ rw h)
-
-  pub shown-done : n ≤ 0 → true ≡ pages_shown windows n at
-  unfolding pages_shown
-  shown-done none = sym (ap (λ (k : ℕ). pages_shown windows k at) (none_left n none))
-
-module _ (posted : Bool) (start size : ℕ) (m : Memory) (n at : ℕ) where
-  pub named-on : 0 < n → meets_named_at posted start size m at ≡ false
-      → any_named posted start size m (n - 1) (at + 16) ≡ any_named posted start size m n at
+-- the entries of a table, likewise
+module _ (posted : Bool) (start size : ℕ) (m : Memory) (table : ℕ) where
+  pub one_named : (n i at : ℕ) → at ≡ table + 16 * i
+      → list_any (λ (entry : ℕ). meets_named_at posted start size m (table + 16 * entry)) (range_with_len i n) ≡ any_named posted start size m n at
   unfolding any_named
-  named-on more h = sym (ap (λ (k : ℕ). any_named posted start size m k at) (again n more) ∙ rw h)
-
-  pub named-one : 0 < n → meets_named_at posted start size m at ≡ true → true ≡ any_named posted start size m n at
-  unfolding any_named
-  named-one more h = sym (ap (λ (k : ℕ). any_named posted start size m k at) (again n more) ∙ rw h)
-
-  pub named-done : n ≤ 0 → false ≡ any_named posted start size m n at
-  unfolding any_named
-  named-done none = sym (ap (λ (k : ℕ). any_named posted start size m k at) (none_left n none))
+  one_named zero i at h = refl
+  one_named (suc n) i at h = rw (← h, one_named n (i + 1) (at + 16) (omega arith))
 
 -- the first of four tests that holds
 module _ (registers : Registers) (start size : ℕ) (m : Memory) where

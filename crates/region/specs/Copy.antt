@@ -1,5 +1,5 @@
 -- A region of guest memory as a run of bytes of its own, and back. Words are read and stored by host address, through the windows.
-use Rattle.std.specs.Prelude.{ℕ, zero, suc, ◌+◌, Bool, true, false, List}
+use Rattle.std.specs.Prelude.{ℕ, zero, suc, ◌+◌, Bool, true, false, Option, Some, None, List}
 use Rattle.image.specs.Memory.{Memory, entry, on_fetch, with_word}
 use Rattle.image.specs.Windows.{Spot, on_spot, spot_in, windows_of}
 use Rattle.tables.specs.Tables.{held_entry}
@@ -7,8 +7,9 @@ use Rattle.tables.specs.Tables.{held_entry}
 abbrev pub is_whole : Spot → Bool
 is_whole spot = on_spot spot false (λ place left. true)
 
-abbrev pub spot_place : Spot → ℕ
-spot_place spot = on_spot spot 0 (λ place left. place)
+-- the place of such bytes in the lent run
+abbrev pub place_shown : Spot → Option ℕ
+place_shown spot = on_spot spot None (λ place left. Some place)
 
 -- the word at a host address; 0 where no single window shows all of it
 unfoldable pub word_shown : Memory → (at : ℕ) → ℕ

@@ -11,12 +11,8 @@ pub fn copy_in(windows: &[u64], image: &[u8], copy: &mut [u8], start: u64)
     requires { (bad_windows windows.now (length image.now) ≡ false) × (start % 8 ≡ 0) × (start + length copy.old < 2 ^ 63) }
     ensures { copy.new ≡ copied_in (of_windows windows.now image.now) start (length copy.old / 8) 0 copy.old }
 {
-    let mut left = copy.len() / 8;
-    let mut at: u64 = 0;
-    while 0 < left {
-        store8(copy, at, word_shown(windows, image, start + at));
-        left -= 1;
-        at += 8;
+    for word in 0..copy.len() as u64 / 8 {
+        store8(copy, 8 * word, word_shown(windows, image, start + 8 * word));
     }
 }
 
@@ -24,11 +20,7 @@ pub fn copy_out(windows: &[u64], image: &mut [u8], copy: &[u8], start: u64)
     requires { (bad_windows windows.now (length image.old) ≡ false) × (start + length copy.now < 2 ^ 63) }
     ensures { image.new ≡ copied_out windows.now copy.now start (length copy.now / 8) 0 image.old }
 {
-    let mut left = copy.len() / 8;
-    let mut at: u64 = 0;
-    while 0 < left {
-        store_at(windows, image, start + at, entry_of(copy, at));
-        left -= 1;
-        at += 8;
+    for word in 0..copy.len() as u64 / 8 {
+        store_at(windows, image, start + 8 * word, entry_of(copy, 8 * word));
     }
 }

@@ -6,7 +6,7 @@ ghost use Rattle.region.specs.Region.{pages_shown, bad_region};
 
 use crate::Area;
 use crate::shared::shares_tables;
-use crate::spot::find_spot;
+use crate::spot::find_place;
 use registers::{Page4K, Registers};
 
 // So many pages from a host address on are in the image.
@@ -14,17 +14,12 @@ fn pages_shown(windows: &[u64], run: usize, start: u64, pages: u64) -> bool
     requires { (bad_windows windows.now run ≡ false) × (start + 4096 * pages < 2 ^ 63) }
     ensures { result ≡ pages_shown windows.now pages start }
 {
-    let mut left = pages;
-    let mut at = start;
-    while 0 < left {
-        let spot = find_spot(windows, run, Page4K::SPAN, at);
-        if !spot.whole {
-            return false;
-        }
-        left -= 1;
-        at += Page4K::SPAN;
-    }
-    true
+    (0..pages).all(|page| find_place(
+        windows,
+        run,
+        Page4K::SPAN,
+        start + Page4K::SPAN * page,
+    ).is_some())
 }
 
 // An end past 2^HAW.

@@ -3,18 +3,18 @@ ghost use Rattle.std.specs.Prelude.{false, ◌≡◌, ◌+◌, ◌*◌, ◌%◌,
 ghost use Rattle.image.specs.Answers.{number16};
 ghost use Rattle.image.specs.Windows.{of_windows, bad_windows};
 ghost use Rattle.registers.specs.Registers.{registers_bad};
-ghost use Rattle.region.specs.Shared.{meets as sharesByte, meets_context_table, meets_descriptor, meets_named, meets_named_at, any_named, interrupt_entries, shares_tables};
+ghost use Rattle.region.specs.Shared.{meets as shares_byte, meets_context_table, meets_descriptor, meets_named, meets_named_at, any_named, interrupt_entries, shares_tables};
 
 use crate::Area;
 use dma::table_address;
-use image::{Entry16, Found16, bit16, fetch16};
+use image::{Entry16, bit16, fetch16};
 use irte::descriptor_address;
 use registers::{Page4K, Registers};
 
 // Neither sum can wrap: that of the other bytes isn't made.
 fn meets(area: Area, other: u64, n: u64) -> bool
     requires { (area.start + area.size < 2 ^ 63) × (0 < n) }
-    ensures { result ≡ sharesByte area.start area.size other n }
+    ensures { result ≡ shares_byte area.start area.size other n }
 {
     if area.size == 0 {
         return false;
@@ -57,10 +57,7 @@ fn meets_named_at(windows: &[u64], image: &[u8], posted: bool, area: Area, at: u
     requires { (bad_windows windows.now (length image.now) ≡ false) × (area.start + area.size < 2 ^ 63) × (at % 16 ≡ 0) }
     ensures { result ≡ meets_named_at posted area.start area.size (of_windows windows.now image.now) at }
 {
-    let Found16::Entry(e) = fetch16(windows, image, at) else {
-        return false;
-    };
-    meets_named(posted, area, e)
+    fetch16(windows, image, at).is_ok_and(|e| meets_named(posted, area, e))
 }
 
 fn any_named(
@@ -74,16 +71,7 @@ fn any_named(
     requires { (bad_windows windows.now (length image.now) ≡ false) × (area.start + area.size < 2 ^ 63) × (table % 16 ≡ 0) × (table + 16 * entries < 2 ^ 64) }
     ensures { result ≡ any_named posted area.start area.size (of_windows windows.now image.now) entries table }
 {
-    let mut left = entries;
-    let mut at = table;
-    while 0 < left {
-        if meets_named_at(windows, image, posted, area, at) {
-            return true;
-        }
-        left -= 1;
-        at += 16;
-    }
-    false
+    (0..entries).any(|entry| meets_named_at(windows, image, posted, area, table + 16 * entry))
 }
 
 fn interrupt_entries(registers: Registers) -> u64

@@ -14,15 +14,12 @@ returns-then-area c =
 
 pub past_width-requires : goal.past_width-requires
 past_width-requires c =
-    let s = c in
-    (good s.args.registers s.requires.1).haw.most
+    (good c.args.registers c.requires.1).haw.most
 
 pub returns-then-past_width : goal.returns-then-past_width
 returns-then-past_width c =
-    let w = c in
-    let e = w in
-    let a = e.args in
-    bad-2 a.registers a.windows.now a.image.now a.area.start a.area.size e.if-area.false (sym w.past_width.ensures ∙ c.if-past_width.true)
+    let a = c.args in
+    bad-2 a.registers a.windows.now a.image.now a.area.start a.area.size c.if-area.false (sym c.past_width.ensures ∙ c.if-past_width.true)
 
 -- the end is not past 2^52
 ends : (x : Else-past_width) → x.args.area.start + x.args.area.size ≤ 2 ^ 52
@@ -32,32 +29,19 @@ ends x =
 
 pub pages_shown-requires : goal.pages_shown-requires
 pages_shown-requires c =
-    let x = c in
-    let s = x in
-    (s.requires.0, omega (arith, ends (goal.at.pages_shown-requires c).Else-past_width))
+    (c.requires.0, omega (arith, ends (goal.at.pages_shown-requires c).Else-past_width))
 
 pub returns-then-not-pages_shown : goal.returns-then-not-pages_shown
 returns-then-not-pages_shown c =
-    let p = c in
-    let x = p in
-    let w = x in
-    let e = w in
-    let a = e.args in
-    bad-3 a.registers a.windows.now a.image.now a.area.start a.area.size e.if-area.false (sym w.past_width.ensures ∙ x.if-past_width.false) (sym p.pages_shown.ensures ∙ c.if-not-pages_shown.true)
+    let a = c.args in
+    bad-3 a.registers a.windows.now a.image.now a.area.start a.area.size c.if-area.false (sym c.past_width.ensures ∙ c.if-past_width.false) (sym c.pages_shown.ensures ∙ c.if-not-pages_shown.true)
 
 pub shares_tables-requires : goal.shares_tables-requires
 shares_tables-requires c =
-    let x = c in
-    let s = x in
-    (s.requires.0, s.requires.1, omega (arith, ends (goal.at.shares_tables-requires c).Else-past_width))
+    (c.requires.0, c.requires.1, omega (arith, ends (goal.at.shares_tables-requires c).Else-past_width))
 
 pub returns : goal.returns
 returns c =
-    let y = c in
-    let p = y in
-    let x = p in
-    let w = x in
-    let e = w in
-    let a = e.args in
+    let a = c.args in
     c.shares_tables.ensures
-    ∙ bad-4 a.registers a.windows.now a.image.now a.area.start a.area.size e.if-area.false (sym w.past_width.ensures ∙ x.if-past_width.false) (sym p.pages_shown.ensures ∙ y.if-not-pages_shown.false)
+    ∙ bad-4 a.registers a.windows.now a.image.now a.area.start a.area.size c.if-area.false (sym c.past_width.ensures ∙ c.if-past_width.false) (sym c.pages_shown.ensures ∙ c.if-not-pages_shown.false)

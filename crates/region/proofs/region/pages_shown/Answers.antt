@@ -1,38 +1,13 @@
-use mathlib.Core.Path.{refl, sym, ◌∙◌}
-use native.Mathlib.Omega.{arith}
-use borrow.Author.Tests.{not-true, not-false}
-use Rattle.region.proofs.Turns.{shown-on, shown-not, shown-done}
+use Rattle.std.proofs.Common.{ℕ, ◌+◌, ◌*◌, refl, ◌∙◌, arith, rules, tests}
+use Rattle.std.proofs.lemmas.Iterator.{YieldsList-from_range}
+use Rattle.std.proofs.lemmas.Iterator.Search.{all_from_yields_List}
+use Rattle.image.specs.Windows.{spot_in, windows_of}
+use Rattle.region.specs.Copy.{is_whole}
+use Rattle.region.proofs.Turns.{all_shown, whole_by}
 use Rattle.region.proofs.region.pages_shown.Goals as goal
-
-pub loop-left-init : goal.loop-left-init
-loop-left-init c = (refl, refl)
-
-pub find_spot-spot-requires : goal.find_spot-spot-requires
-find_spot-spot-requires c = c.requires.0
-
-pub returns-then-not-spot : goal.returns-then-not-spot
-returns-then-not-spot c =
-    let f = c in
-    let i = f in
-    let l = i.loop-left in
-    let a = i.args in
-    shown-not a.windows.now l.left l.at i.loop-left-test.true (sym f.find_spot-spot.ensures.whole_value ∙ not-true _ c.if-not-spot.true) ∙ l.invariant.0
-
-pub overflow_add-at : goal.overflow_add-at
-overflow_add-at c =
-    let i = c in
-    let l = i.loop-left in
-    omega (arith, i.requires.1, l.invariant.1, i.loop-left-test.true)
-
-pub loop-left-preserved : goal.loop-left-preserved
-loop-left-preserved c =
-    let f = c in
-    let i = f in
-    let l = i.loop-left in
-    let a = i.args in
-    (shown-on a.windows.now l.left l.at i.loop-left-test.true (sym f.find_spot-spot.ensures.whole_value ∙ not-false _ c.if-not-spot.false) ∙ l.invariant.0, omega (arith, l.invariant.1, i.loop-left-test.true))
 
 pub returns : goal.returns
 returns c =
-    let l = c.loop-left in
-    shown-done c.args.windows.now l.left l.at c.loop-left-test.false ∙ l.invariant.0
+    let a = c.args in
+    all_from_yields_List (λ (page : ℕ). is_whole (spot_in (windows_of a.windows.now) 4096 (a.start + 4096 * page))) _ _ c.all.result c.all.ensures.ran (YieldsList-from_range 0 a.pages a.pages refl (omega arith)) (λ x b q k. search (rules, tests, whole_by))
+    ∙ all_shown a.windows.now a.start a.pages 0 a.start (omega arith)

@@ -9,15 +9,12 @@ use Rattle.region.proofs.region.past_width.Goals as goal
 
 pub returns-then-limit-area : goal.returns-then-limit-area
 returns-then-limit-area c =
-    let s = c in
-    let a = s.args in
-    let is = shifted_one a.haw (omega (arith, s.requires)) in
+    let a = c.args in
+    let is = shifted_one a.haw (omega (arith, c.requires)) in
     sym (lt-ltb (2 ^ a.haw) (a.area.start + a.area.size) (omega (arith, is, c.if-limit-area.true)))
 
 pub returns : goal.returns
 returns c =
-    let e = c in
-    let s = e in
-    let a = s.args in
-    let is = shifted_one a.haw (omega (arith, s.requires)) in
-    ap (λ (limit : ℕ). ltb (limit - a.area.start) a.area.size) is ∙ past (2 ^ a.haw) a.area.start a.area.size (omega (arith, is, e.if-limit-area.false))
+    let a = c.args in
+    let is = shifted_one a.haw (omega (arith, c.requires)) in
+    ap (λ (limit : ℕ). ltb (limit - a.area.start) a.area.size) is ∙ past (2 ^ a.haw) a.area.start a.area.size (omega (arith, is, c.if-limit-area.false))

@@ -6,22 +6,15 @@ returns-then-area-eq0 c = let a = c.args in meets-none a.area.start a.area.size 
 
 pub returns-then-area-other : goal.returns-then-area-other
 returns-then-area-other c =
-    let e = c in
-    let a = e.args in
-    meets-not a.area.start a.area.size a.other a.n e.if-area-eq0.false c.if-area-other.true
+    let a = c.args in
+    meets-not a.area.start a.area.size a.other a.n c.if-area-eq0.false c.if-area-other.true
 
 pub returns-then-area-n : goal.returns-then-area-n
 returns-then-area-n c =
-    let e2 = c in
-    let e = e2 in
-    let s = e in
-    let a = s.args in
-    meets-low a.area.start a.area.size a.other a.n e.if-area-eq0.false s.requires.1 e2.if-area-other.false c.if-area-n.true
+    let a = c.args in
+    meets-low a.area.start a.area.size a.other a.n c.if-area-eq0.false c.requires.1 c.if-area-other.false c.if-area-n.true
 
 pub returns : goal.returns
 returns c =
-    let e3 = c in
-    let e2 = e3 in
-    let e = e2 in
-    let a = e.args in
-    meets-high a.area.start a.area.size a.other a.n e.if-area-eq0.false e2.if-area-other.false e3.if-area-n.false
+    let a = c.args in
+    meets-high a.area.start a.area.size a.other a.n c.if-area-eq0.false c.if-area-other.false c.if-area-n.false

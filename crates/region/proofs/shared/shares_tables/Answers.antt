@@ -20,33 +20,27 @@ meets-requires c = (c.requires.2, omega arith)
 
 pub returns-then-meets : goal.returns-then-meets
 returns-then-meets c =
-    let m = c in
-    let a = m.args in
-    shares-1 a.registers a.area.start a.area.size (of_windows a.windows.now a.image.now) (sym m.meets.ensures ∙ c.if-meets.true)
+    let a = c.args in
+    shares-1 a.registers a.area.start a.area.size (of_windows a.windows.now a.image.now) (sym c.meets.ensures ∙ c.if-meets.true)
 
 pub any_named-requires : goal.any_named-requires
 any_named-requires c =
-    let n = c in
-    let p = n.requires in
+    let p = c.requires in
     let g = fine (goal.at.any_named-requires c).After-shared_slice_known-2-1 in
     let r = below-most g g.root.below in
     (p.0, p.2, omega (arith, g.root.aligned), omega (arith, r))
 
 pub returns-then-any_named : goal.returns-then-any_named
 returns-then-any_named c =
-    let x = c in
-    let e = x in
-    let m = e in
-    let a = m.args in
-    shares-2 a.registers a.area.start a.area.size (of_windows a.windows.now a.image.now) (sym m.meets.ensures ∙ e.if-meets.false) (sym x.any_named.ensures ∙ c.if-any_named.true)
+    let a = c.args in
+    shares-2 a.registers a.area.start a.area.size (of_windows a.windows.now a.image.now) (sym c.meets.ensures ∙ c.if-meets.false) (sym c.any_named.ensures ∙ c.if-any_named.true)
 
 pub overflow_mul-entries : goal.overflow_mul-entries
-overflow_mul-entries c = let n = c in omega (arith, n.interrupt_entries-entries.ensures.2)
+overflow_mul-entries c = omega (arith, c.interrupt_entries-entries.ensures.2)
 
 pub meets-requires-2 : goal.meets-requires-2
 meets-requires-2 c =
-    let n = c in
-    (n.requires.2, omega (arith, n.interrupt_entries-entries.ensures.1))
+    (c.requires.2, omega (arith, c.interrupt_entries-entries.ensures.1))
 
 -- the third test, by the count of entries
 third : (m : After-meets-2) {t : Bool} → m.meets-2.result ≡ t
@@ -60,33 +54,19 @@ third m h =
 
 pub returns-then-meets-2 : goal.returns-then-meets-2
 returns-then-meets-2 c =
-    let m2 = c in
-    let e2 = m2 in
-    let x = e2 in
-    let e = x in
-    let m = e in
-    let a = m.args in
-    shares-3 a.registers a.area.start a.area.size (of_windows a.windows.now a.image.now) (sym m.meets.ensures ∙ e.if-meets.false) (sym x.any_named.ensures ∙ e2.if-any_named.false) (third (goal.at.returns-then-meets-2 c).After-meets-2 c.if-meets-2.true)
+    let a = c.args in
+    shares-3 a.registers a.area.start a.area.size (of_windows a.windows.now a.image.now) (sym c.meets.ensures ∙ c.if-meets.false) (sym c.any_named.ensures ∙ c.if-any_named.false) (third (goal.at.returns-then-meets-2 c).After-meets-2 c.if-meets-2.true)
 
 pub any_named-requires-2 : goal.any_named-requires-2
 any_named-requires-2 c =
-    let i = c in
-    let n = i in
-    let p = n.requires in
+    let p = c.requires in
     let g = fine (goal.at.any_named-requires-2 c).After-shared_slice_known-2-1 in
     let r = below-most g g.interrupt.below in
-    (p.0, p.2, omega (arith, g.interrupt.aligned), omega (arith, r, i.interrupt_entries-entries.ensures.2))
+    (p.0, p.2, omega (arith, g.interrupt.aligned), omega (arith, r, c.interrupt_entries-entries.ensures.2))
 
 pub returns : goal.returns
 returns c =
-    let e3 = c in
-    let m2 = e3 in
-    let e2 = m2 in
-    let x = e2 in
-    let e = x in
-    let m = e in
-    let i = m in
-    let a = m.args in
+    let a = c.args in
     c.any_named-2.ensures
-    ∙ ap (λ (k : ℕ). any_named true a.area.start a.area.size (of_windows a.windows.now a.image.now) k a.registers.interrupt_table) i.interrupt_entries-entries.ensures.0
-    ∙ shares-4 a.registers a.area.start a.area.size (of_windows a.windows.now a.image.now) (sym m.meets.ensures ∙ e.if-meets.false) (sym x.any_named.ensures ∙ e2.if-any_named.false) (third (goal.at.returns c).After-meets-2 e3.if-meets-2.false)
+    ∙ ap (λ (k : ℕ). any_named true a.area.start a.area.size (of_windows a.windows.now a.image.now) k a.registers.interrupt_table) c.interrupt_entries-entries.ensures.0
+    ∙ shares-4 a.registers a.area.start a.area.size (of_windows a.windows.now a.image.now) (sym c.meets.ensures ∙ c.if-meets.false) (sym c.any_named.ensures ∙ c.if-any_named.false) (third (goal.at.returns c).After-meets-2 c.if-meets-2.false)

@@ -12,12 +12,10 @@ returns-then-at-start c =
 
 pub returns-then-length-size : goal.returns-then-length-size
 returns-then-length-size c =
-    let e = c in
-    let a = e.args in
-    sym (past-it (window_at a.windows.now a.i) a.size a.at (omega (arith, e.if-at-start.false, c.if-length-size.true)))
+    let a = c.args in
+    sym (past-it (window_at a.windows.now a.i) a.size a.at (omega (arith, c.if-at-start.false, c.if-length-size.true)))
 
 pub returns : goal.returns
 returns c =
-    let e = c in
-    let a = e.args in
-    holds_by (window_at a.windows.now a.i) a.size a.at e.if-at-start.false c.if-length-size.false
+    let a = c.args in
+    holds_by (window_at a.windows.now a.i) a.size a.at c.if-at-start.false c.if-length-size.false
