@@ -1,10 +1,10 @@
 -- Laws of what comes before any item.
-use Prim.Native.Nat.{ℕ, ◌+◌, ◌-◌, ◌/◌, ◌%◌, ◌^◌, ◌<◌, ◌≤◌}
+use Prim.Native.Nat.{ℕ, ◌+◌, ◌-◌, ◌/◌, ◌%◌, ◌^◌, ◌≤◌}
 use mathlib.Core.Bool.{Bool, true, false, not, ◌||◌}
 use mathlib.Core.Path.{◌≡◌, refl}
 use mathlib.Core.List.{List}
 use native.Mathlib.Omega.{arith}
-use borrow.Author.Tests.{eqb-true, ltb-false, leb-false, lt-ltb, le-ltb, eq-eqb, ne_eqb, not-false}
+use borrow.Author.Tests.{eqb-true, ltb-false, leb-false, not-false}
 use lib.Dec.{eqb, leb, ltb}
 use lib.ListN.{length}
 use lib.Pow.{pow_mono}
@@ -21,12 +21,6 @@ use Rattle.region.specs.Region.{not_pages, pages_shown, bad_region}
 use Rattle.region.specs.Shared.{shares_tables}
 use Rattle.tables.specs.declared.Tree.{Tree}
 use Rattle.builder.specs.Ready.{Readiness, refusal, not_yet, ready, sized, top_outside, tree_of, in_context, readiness, TablesReady}
-
-pub top_below : (start size top : ℕ) → top < start → true ≡ top_outside start size top
-top_below start size top h = rw (lt-ltb top start h)
-
-pub top-by : (start size top : ℕ) → start ≤ top → leb size (top - start) ≡ top_outside start size top
-top-by start size top h = rw (le-ltb top start h)
 
 -- a region that isn't refused
 pub region-fine : (registers : Registers) (windows bytes : List ℕ) (start size : ℕ) → registers.haw ≤ 52
@@ -45,30 +39,6 @@ region-fine registers windows bytes start size haw h =
 
 module _ (registers : Registers) (windows bytes : List ℕ) (start size copy marks : ℕ) where
   module _ (c : Context) where
-    pub passes-2 : c.translation_type ≡ 2 → not_yet 2 ≡ in_context registers windows bytes start size copy marks c
-    unfolding in_context
-    passes-2 h = rw (eq-eqb c.translation_type 2 h)
-
-    module _ (type : c.translation_type ≡ 2 → ⊥) where
-      pub region-3 : bad_region registers windows bytes start size ≡ true → not_yet 3 ≡ in_context registers windows bytes start size copy marks c
-      unfolding in_context
-      region-3 h = rw (ne_eqb c.translation_type 2 type, h)
-
-      module _ (region : bad_region registers windows bytes start size ≡ false) where
-        pub sized-5 : sized size copy marks ≡ false → not_yet 5 ≡ in_context registers windows bytes start size copy marks c
-        unfolding in_context
-        sized-5 h = rw (ne_eqb c.translation_type 2 type, region, h)
-
-        module _ (size_is : sized size copy marks ≡ true) where
-          pub top-4 : top_outside start size c.top ≡ true → not_yet 4 ≡ in_context registers windows bytes start size copy marks c
-          unfolding in_context
-          top-4 h = rw (ne_eqb c.translation_type 2 type, region, size_is, h)
-
-          pub readied : top_outside start size c.top ≡ false
-              → ready (tree_of start c) ≡ in_context registers windows bytes start size copy marks c
-          unfolding in_context
-          readied h = rw (ne_eqb c.translation_type 2 type, region, size_is, h)
-
     pub usable : registers.haw ≤ 52 → UsableContext c → bad_region registers windows bytes start size ≡ false → sized size copy marks ≡ true
         → top_outside start size c.top ≡ false → TablesReady registers copy marks (tree_of start c)
     usable haw u region size_is top =
@@ -87,21 +57,11 @@ module _ (registers : Registers) (windows bytes : List ℕ) (start size copy mar
         )
 
   module _ (source : ℕ) where
-    pub refused-1 : (bad_windows windows (length bytes) || registers_bad registers) ≡ true
-        → refusal 1 ≡ readiness registers windows bytes start size copy marks source
+    pub looked : (bad_windows windows (length bytes) || registers_bad registers) ≡ false → not registers.te ≡ false
+        → on_lookup (run (lookup_rules registers source) (of_windows windows bytes)) (λ reason fpd. not_yet 2) (in_context registers windows bytes start size copy marks)
+        ≡ readiness registers windows bytes start size copy marks source
     unfolding readiness
-    refused-1 h = rw h
-
-    module _ (good : (bad_windows windows (length bytes) || registers_bad registers) ≡ false) where
-      pub off-1 : not registers.te ≡ true → not_yet 1 ≡ readiness registers windows bytes start size copy marks source
-      unfolding readiness
-      off-1 h = rw (good, h)
-
-      pub looked : not registers.te ≡ false
-          → on_lookup (run (lookup_rules registers source) (of_windows windows bytes)) (λ reason fpd. not_yet 2) (in_context registers windows bytes start size copy marks)
-          ≡ readiness registers windows bytes start size copy marks source
-      unfolding readiness
-      looked h = rw (good, h)
+    looked good h = rw (good, h)
 
     -- ready tables mean windows that aren't refused
     pub windows-good : {tree : Tree} → readiness registers windows bytes start size copy marks source ≡ ready tree

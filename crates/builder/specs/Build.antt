@@ -8,9 +8,8 @@ use Rattle.marking.specs.Marking.{Marked, mark_all}
 use Rattle.region.specs.Copy.{copied_in, copied_out}
 use Rattle.tables.specs.Tables.{Tables, tables}
 use Rattle.tables.specs.declared.Tree.{Tree}
-use Rattle.builder.specs.Items.{take_items}
+use Rattle.builder.specs.Items.{Taken, take_items}
 use Rattle.builder.specs.Ready.{Readiness, refusal, not_yet, ready, readiness}
-use Rattle.builder.specs.declared.items.Taken.{Taken}
 
 pub data Built : Type 0 where
   all_taken : Built

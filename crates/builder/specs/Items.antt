@@ -9,7 +9,11 @@ use Rattle.tables.specs.Unmapped.{unmapped}
 use Rattle.tables.specs.declared.Tree.{Tree}
 use Rattle.builder.specs.Reasons.{unmaps, levels_below, leaf_of, item_reason}
 use Rattle.builder.specs.declared.items.Item.{Item}
-use Rattle.builder.specs.declared.items.Taken.{Taken}
+
+-- how far the items were taken: the index of the first that wasn't and the reason against it, or reason 0
+pub record Taken : Type 0 where
+  pub index : ℕ
+  pub reason : ℕ
 
 abbrev pub item_at : (numbers : List ℕ) (i : ℕ) → Item
 item_at numbers i =

@@ -1,9 +1,10 @@
 // A list of pages to map or unmap, taken in order.
 ghost use Rattle.std.specs.Prelude.{◌≡◌, ◌+◌, ◌*◌, ◌/◌, ◌^◌, ◌<◌, ◌≤◌, length};
 ghost use Rattle.tables.specs.Tables.{tables};
+ghost use Rattle.builder.specs.Answers.{reason_of, taken_of};
 ghost use Rattle.builder.specs.Items.{item_at, take_item, take_items};
 
-use crate::reasons::{item_reason, leaf, levels_below, unmaps};
+use crate::reasons::{ItemError, check_item, leaf, levels_below, unmaps};
 use registers::Registers;
 use tables::{Tree, map_page, unmap_page};
 
@@ -15,11 +16,11 @@ pub struct Item {
     pub frame: u64,
 }
 
-// How far the items were taken: the index of the first that wasn't and the reason against it, or reason 0.
-#[derive(Clone, Copy)]
-pub struct Taken {
+// The first item that wasn't taken, by its index from 0.
+#[derive(Clone, Copy, Debug, PartialEq, Eq)]
+pub struct BadItem {
     pub index: u64,
-    pub reason: u8,
+    pub error: ItemError,
 }
 
 fn item_at(items: &[u64], i: usize) -> Item
@@ -34,16 +35,21 @@ fn item_at(items: &[u64], i: usize) -> Item
     }
 }
 
-fn take_item(registers: Registers, copy: &mut [u8], marks: &mut [u8], tree: Tree, item: Item) -> u8
+#[tactic(auto, unfolding(crate::specs::Items::take_item))]
+fn take_item(
+    registers: Registers,
+    copy: &mut [u8],
+    marks: &mut [u8],
+    tree: Tree,
+    item: Item,
+) -> Result<(), ItemError>
     requires { (registers.haw < 53) × (tree.start + 4096 * length marks.old < 2 ^ 53) × (tree.top < 2 ^ 52) × (tree.below < 5) }
-    ensures { (result, tables copy.new marks.new) ≡ take_item registers tree item (tables copy.old marks.old) }
+    ensures { (reason_of result, tables copy.new marks.new) ≡ take_item registers tree item (tables copy.old marks.old) }
 {
-    let reason = item_reason(registers, tree.below + 1, item);
-    if reason != 0 {
-        return reason;
-    }
+    check_item(registers, tree.below + 1, item)?;
     if unmaps(item) {
-        return unmap_page(copy, marks, tree, item.place, levels_below(item));
+        unmap_page(copy, marks, tree, item.place, levels_below(item))?;
+        return Ok(());
     }
     map_page(
         copy,
@@ -52,7 +58,8 @@ fn take_item(registers: Registers, copy: &mut [u8], marks: &mut [u8], tree: Tree
         item.place,
         levels_below(item),
         leaf(item),
-    )
+    )?;
+    Ok(())
 }
 
 pub(crate) fn take_items(
@@ -61,25 +68,17 @@ pub(crate) fn take_items(
     marks: &mut [u8],
     tree: Tree,
     items: &[u64],
-) -> Taken
+) -> Result<(), BadItem>
     requires { (registers.haw < 53) × (tree.start + 4096 * length marks.old < 2 ^ 53) × (tree.top < 2 ^ 52) × (tree.below < 5) }
-    ensures { (result, tables copy.new marks.new) ≡ take_items registers tree items.now (length items.now / 4) 0 (tables copy.old marks.old) }
+    ensures { (taken_of (length items.now / 4) result, tables copy.new marks.new) ≡ take_items registers tree items.now (length items.now / 4) 0 (tables copy.old marks.old) }
 {
-    let mut left = items.len() / 4;
-    let mut i: usize = 0;
-    while 0 < left {
-        let reason = take_item(registers, copy, marks, tree, item_at(items, i));
-        if reason != 0 {
-            return Taken {
+    for i in 0..items.len() / 4 {
+        if let Err(error) = take_item(registers, copy, marks, tree, item_at(items, i)) {
+            return Err(BadItem {
                 index: i as u64,
-                reason,
-            };
+                error,
+            });
         }
-        left -= 1;
-        i += 1;
     }
-    Taken {
-        index: i as u64,
-        reason: 0,
-    }
+    Ok(())
 }

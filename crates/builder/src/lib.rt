@@ -2,38 +2,44 @@
 #![tactic(auto)]
 
 ghost use Rattle.std.specs.Prelude.{◌≡◌};
-ghost use Rattle.builder.specs.Answers.{built_of, readiness_of, unready as answerUnready};
+ghost use Rattle.builder.specs.Answers.{built_of};
 ghost use Rattle.builder.specs.Build.{lent, built};
+ghost use Rattle.builder.specs.declared.BuildError.TheVariants.{Before, At};
 
 mod items;
 mod ready;
 mod reasons;
 
+pub use items::BadItem;
 use items::take_items;
 use marking::mark_tables;
-use ready::{Ready, make_ready};
+use ready::make_ready;
+pub use ready::{NotReady, Unready};
+pub use reasons::ItemError;
 use region::{Area, copy_in, copy_out};
 use registers::{Registers, SourceId};
 
-#[derive(Clone, Copy)]
-pub enum BuildAnswer {
-    Done,
-    // By number: 1 bad registers or windows.
-    Refused(u8),
-    // With no item: 1 TE is off, 2 the context doesn't translate, 3 the region, 4 the tables aren't as built here, 5 the lent buffers.
-    NotReady(u8),
-    // The item's index from 0, and the first reason against it: 1 size, 2 alignment, 3 place, 4 rights, 5 frame, 6 overlap, 7 too few
-    // free pages, 8 no page of this start and size.
-    Item(u64, u8),
+// Why nothing is built.
+#[derive(Clone, Copy, Debug, PartialEq, Eq)]
+pub enum BuildError {
+    // Before any item.
+    Before(Unready),
+    At(BadItem),
 }
 
-fn unready(state: Ready) -> BuildAnswer
-    ensures { built_of result ≡ answerUnready (readiness_of state) }
-{
-    match state {
-        Ready::Refused(number) => BuildAnswer::Refused(number),
-        Ready::NotYet(reason) => BuildAnswer::NotReady(reason),
-        Ready::Tables(_) => BuildAnswer::NotReady(4),
+impl From<Unready> for BuildError {
+    ghost from_gives = { λ unready error. error ≡ Before unready };
+
+    fn from(unready: Unready) -> BuildError {
+        BuildError::Before(unready)
+    }
+}
+
+impl From<BadItem> for BuildError {
+    ghost from_gives = { λ item error. error ≡ At item };
+
+    fn from(item: BadItem) -> BuildError {
+        BuildError::At(item)
     }
 }
 
@@ -49,10 +55,10 @@ pub fn build(
     items: &[u64],
     copy: &mut [u8],
     marks: &mut [u8],
-) -> BuildAnswer
+) -> Result<(), BuildError>
     ensures { (built_of result, lent memory.new copy.new marks.new) ≡ built registers source.id start size windows.now items.now (lent memory.old copy.old marks.old) }
 {
-    let state = make_ready(
+    let tree = make_ready(
         registers,
         windows,
         memory,
@@ -60,18 +66,12 @@ pub fn build(
         Area { start, size },
         copy.len() as u64,
         marks.len() as u64,
-    );
-    let Ready::Tables(tree) = state else {
-        return unready(state);
-    };
+    )?;
     copy_in(windows, memory, copy, tree.start);
     if !mark_tables(copy, marks, tree) {
-        return BuildAnswer::NotReady(4);
+        return Err(BuildError::Before(Unready::NotYet(NotReady::OtherTables)));
     }
-    let end = take_items(registers, copy, marks, tree, items);
-    if end.reason != 0 {
-        return BuildAnswer::Item(end.index, end.reason);
-    }
+    take_items(registers, copy, marks, tree, items)?;
     copy_out(windows, memory, copy, tree.start);
-    BuildAnswer::Done
+    Ok(())
 }

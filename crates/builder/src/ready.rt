@@ -3,20 +3,40 @@ ghost use Rattle.std.specs.Prelude.{false, ◌≡◌, ◌<◌, length};
 ghost use Rattle.image.specs.Windows.{bad_windows};
 ghost use Rattle.dma.specs.Context.{Usable as UsableContext};
 ghost use Rattle.registers.specs.Registers.{registers_bad};
-ghost use Rattle.builder.specs.Answers.{readiness_of};
+ghost use Rattle.builder.specs.Answers.{not_ready_number, readiness_of};
 ghost use Rattle.builder.specs.Ready.{sized, top_outside, in_context, readiness, TablesReady, IfReady};
 
-use dma::{Context, Lookup, find_context};
+use dma::{Context, find_context};
 use image::{bad_windows, first_span};
 use region::{Area, bad_region};
-use registers::{Page4K, Registers, SourceId};
+use registers::{Page4K, Refusal, Registers, SourceId};
 use tables::Tree;
 
-#[derive(Clone, Copy)]
-pub enum Ready {
-    Refused(u8),
-    NotYet(u8),
-    Tables(Tree),
+// Why no item is taken, by document 02's numbers.
+#[derive(Clone, Copy, Debug, PartialEq, Eq)]
+pub enum NotReady {
+    // TE is off.
+    TranslationOff = 1,
+    // The source has no context, or one that passes through.
+    NoTranslation = 2,
+    BadRegion = 3,
+    // The tables aren't as built here.
+    OtherTables = 4,
+    BadBuffers = 5,
+}
+
+impl NotReady {
+    pub fn number(self) -> u8
+        ensures { result ≡ not_ready_number self }
+    {
+        self as u8
+    }
+}
+
+#[derive(Clone, Copy, Debug, PartialEq, Eq)]
+pub enum Unready {
+    Refused(Refusal),
+    NotYet(NotReady),
 }
 
 fn is_sized(size: u64, copy: u64, marks: u64) -> bool
@@ -35,6 +55,7 @@ fn is_top_outside(area: Area, top: u64) -> bool
 }
 
 // In a context that was found.
+#[tactic(auto, unfolding(crate::specs::Ready::in_context))]
 fn ready_in(
     registers: Registers,
     windows: &[u64],
@@ -43,31 +64,32 @@ fn ready_in(
     copy: u64,
     marks: u64,
     context: Context,
-) -> Ready
+) -> Result<Tree, Unready>
     requires { (bad_windows windows.now (length memory.now) ≡ false) × (registers_bad registers ≡ false) × UsableContext context }
     ensures result_value { readiness_of result ≡ in_context registers windows.now memory.now area.start area.size copy marks context }
     ensures if_ready { IfReady (TablesReady registers copy marks) (readiness_of result) }
 {
     if context.translation_type == 2 {
-        return Ready::NotYet(2);
+        return Err(Unready::NotYet(NotReady::NoTranslation));
     }
     if bad_region(windows, memory, registers, area) {
-        return Ready::NotYet(3);
+        return Err(Unready::NotYet(NotReady::BadRegion));
     }
     if !is_sized(area.size, copy, marks) {
-        return Ready::NotYet(5);
+        return Err(Unready::NotYet(NotReady::BadBuffers));
     }
     let top = context.top;
     if is_top_outside(area, top) {
-        return Ready::NotYet(4);
+        return Err(Unready::NotYet(NotReady::OtherTables));
     }
-    Ready::Tables(Tree {
+    Ok(Tree {
         start: area.start,
         top: top - area.start,
         below: context.levels - 1,
     })
 }
 
+#[tactic(auto, unfolding(crate::specs::Ready::readiness))]
 pub(crate) fn make_ready(
     registers: Registers,
     windows: &[u64],
@@ -76,20 +98,19 @@ pub(crate) fn make_ready(
     area: Area,
     copy: u64,
     marks: u64,
-) -> Ready
+) -> Result<Tree, Unready>
     ensures result_value { readiness_of result ≡ readiness registers windows.now memory.now area.start area.size copy marks source.id }
     ensures if_ready { IfReady (TablesReady registers copy marks) (readiness_of result) }
 {
     if bad_windows(windows, memory.len()) | registers.bad() {
-        return Ready::Refused(1);
+        return Err(Unready::Refused(Refusal::BadRegisters));
     }
     if !registers.te {
-        return Ready::NotYet(1);
+        return Err(Unready::NotYet(NotReady::TranslationOff));
     }
     let first = first_span(windows);
-    let found = find_context(first, windows, memory, registers, source);
-    let Lookup::Found(context, _) = found else {
-        return Ready::NotYet(2);
+    let Ok(found) = find_context(first, windows, memory, registers, source) else {
+        return Err(Unready::NotYet(NotReady::NoTranslation));
     };
-    ready_in(registers, windows, memory, area, copy, marks, context)
+    ready_in(registers, windows, memory, area, copy, marks, found.context)
 }

@@ -1,15 +1,54 @@
-// The reasons against an item that its own numbers tell.
+// The reasons against an item, and those that its own numbers tell.
 ghost use Rattle.std.specs.Prelude.{◌≡◌, ◌^◌, ◌<◌, ◌≤◌};
 ghost use Rattle.dma.specs.InterruptRange.{meets_interrupt_range};
-ghost use Rattle.builder.specs.Reasons.{unmaps as asksUnmap, is_large as large, levels_below, leaf_of, bad_size, bad_alignment, bad_place, bad_frame, place_reason, map_reason, item_reason};
+ghost use Rattle.builder.specs.Reasons.{unmaps as asks_unmap, is_large as large, levels_below, leaf_of, bad_size, bad_alignment, bad_place, bad_frame, place_reason, map_reason, item_reason};
+ghost use Rattle.tables.specs.Answers.{page_error_number};
+ghost use Rattle.builder.specs.Answers.{item_error_number, reason_of};
 
 use crate::items::Item;
 use dma::overflows;
 use image::field;
 use registers::{Registers, at_or_above_power};
+use tables::PageError;
+
+// By document 02's numbers.
+#[derive(Clone, Copy, Debug, PartialEq, Eq)]
+pub enum ItemError {
+    Size = 1,
+    Alignment = 2,
+    Place = 3,
+    Rights = 4,
+    Frame = 5,
+    // A mapped page meets this one.
+    Overlap = 6,
+    // There are fewer free pages than missing tables.
+    TooFewPages = 7,
+    // No page of this place and size is mapped.
+    NoSuchPage = 8,
+}
+
+impl ItemError {
+    pub fn number(self) -> u8
+        ensures { result ≡ item_error_number self }
+    {
+        self as u8
+    }
+}
+
+impl From<PageError> for ItemError {
+    ghost from_gives = { λ page item. item_error_number item ≡ page_error_number page };
+
+    fn from(page: PageError) -> ItemError {
+        match page {
+            PageError::Overlap => ItemError::Overlap,
+            PageError::TooFewPages => ItemError::TooFewPages,
+            PageError::NoSuchPage => ItemError::NoSuchPage,
+        }
+    }
+}
 
 pub(crate) fn unmaps(item: Item) -> bool
-    ensures { result ≡ asksUnmap item }
+    ensures { result ≡ asks_unmap item }
 {
     field(item.what, 2, 2) == 1
 }
@@ -23,10 +62,7 @@ fn is_large(item: Item) -> bool
 pub(crate) fn levels_below(item: Item) -> u32
     ensures { (result ≡ levels_below item) × (result < 2) }
 {
-    if is_large(item) {
-        return 1;
-    }
-    0
+    u32::from(is_large(item))
 }
 
 // The entry of a mapped page.
@@ -79,45 +115,45 @@ fn bad_frame(registers: Registers, item: Item) -> bool
     at_or_above_power(item.frame, registers.haw as u32) | in_range(item.frame, item.size)
 }
 
-fn place_reason(registers: Registers, levels: u32, item: Item) -> u8
+#[tactic(auto, unfolding(crate::specs::Reasons::place_reason))]
+fn check_place(registers: Registers, levels: u32, item: Item) -> Result<(), ItemError>
     requires { levels ≤ 5 }
-    ensures { result ≡ place_reason registers levels item }
+    ensures { reason_of result ≡ place_reason registers levels item }
 {
     if bad_size(registers, item) {
-        return 1;
+        return Err(ItemError::Size);
     }
     if bad_alignment(item) {
-        return 2;
+        return Err(ItemError::Alignment);
     }
     if bad_place(registers, levels, item) {
-        return 3;
+        return Err(ItemError::Place);
     }
-    0
+    Ok(())
 }
 
-fn map_reason(registers: Registers, item: Item) -> u8
+// Of a map alone.
+#[tactic(auto, unfolding(crate::specs::Reasons::map_reason))]
+fn check_map(registers: Registers, item: Item) -> Result<(), ItemError>
     requires { item.size ≤ 2 ^ 21 }
-    ensures { result ≡ map_reason registers item }
+    ensures { reason_of result ≡ map_reason registers item }
 {
     if unmaps(item) {
-        return 0;
+        return Ok(());
     }
     if field(item.what, 1, 0) == 0 {
-        return 4;
+        return Err(ItemError::Rights);
     }
     if bad_frame(registers, item) {
-        return 5;
+        return Err(ItemError::Frame);
     }
-    0
+    Ok(())
 }
 
-pub(crate) fn item_reason(registers: Registers, levels: u32, item: Item) -> u8
+pub(crate) fn check_item(registers: Registers, levels: u32, item: Item) -> Result<(), ItemError>
     requires { levels ≤ 5 }
-    ensures { result ≡ item_reason registers levels item }
+    ensures { reason_of result ≡ item_reason registers levels item }
 {
-    let reason = place_reason(registers, levels, item);
-    if reason != 0 {
-        return reason;
-    }
-    map_reason(registers, item)
+    check_place(registers, levels, item)?;
+    check_map(registers, item)
 }

@@ -7,7 +7,7 @@ ghost use Rattle.builder.specs.Answers.{built_of};
 ghost use Rattle.builder.specs.Build.{lent};
 ghost use Rattle.galitzaf_builder.specs.Calls.{build_status, build_call};
 
-use builder::{BuildAnswer, build};
+use builder::{BadItem, BuildError, Unready, build};
 use packing::{BAD_REGISTERS, BAD_WINDOWS, OK, malformed, unpack};
 use registers::SourceId;
 
@@ -20,17 +20,17 @@ const ITEM_REFUSED: u32 = 0xB0;
 const BAD_ITEMS: u32 = 0x109;
 
 // The status; the index of an item that is refused is put into the lent number.
-fn tell(answer: BuildAnswer, item: &mut [u64]) -> u32
+fn tell(built: Result<(), BuildError>, item: &mut [u64]) -> u32
     requires { 0 < length item.old }
-    ensures { (result, item.new) ≡ build_status (built_of answer) item.old }
+    ensures { (result, item.new) ≡ build_status (built_of built) item.old }
 {
-    match answer {
-        BuildAnswer::Done => OK,
-        BuildAnswer::Refused(number) => number as u32,
-        BuildAnswer::NotReady(reason) => NOT_READY + reason as u32,
-        BuildAnswer::Item(index, reason) => {
+    match built {
+        Ok(()) => OK,
+        Err(BuildError::Before(Unready::Refused(refusal))) => refusal.number() as u32,
+        Err(BuildError::Before(Unready::NotYet(reason))) => NOT_READY + reason.number() as u32,
+        Err(BuildError::At(BadItem { index, error })) => {
             item[0] = index;
-            ITEM_REFUSED + reason as u32
+            ITEM_REFUSED + error.number() as u32
         }
     }
 }
@@ -62,7 +62,7 @@ pub extern "C" fn galitzaf_build(
     if item.len() != 1 {
         return BAD_ITEMS;
     }
-    let answer = build(
+    let built = build(
         unpack(registers),
         windows,
         image,
@@ -73,5 +73,5 @@ pub extern "C" fn galitzaf_build(
         copy,
         marks,
     );
-    tell(answer, item)
+    tell(built, item)
 }
