@@ -1,14 +1,13 @@
 -- Laws of what comes before any item.
 use Prim.Native.Nat.{ℕ, ◌+◌, ◌-◌, ◌/◌, ◌%◌, ◌^◌, ◌≤◌}
-use mathlib.Core.Bool.{Bool, true, false, not, ◌||◌}
-use mathlib.Core.Path.{◌≡◌, refl}
+use mathlib.Core.Bool.{true, false, not, ◌||◌}
+use mathlib.Core.Path.{◌≡◌}
 use mathlib.Core.List.{List}
 use native.Mathlib.Omega.{arith}
 use borrow.Author.Tests.{eqb-true, ltb-false, leb-false, not-false}
 use lib.Dec.{eqb, leb, ltb}
 use lib.ListN.{length}
 use lib.Pow.{pow_mono}
-use Rattle.std.specs.Prelude.{if◌then◌else◌}
 use Rattle.image.specs.Rules.{run}
 use Rattle.image.specs.Windows.{of_windows, bad_windows}
 use Rattle.image.proofs.Choices.{both, neither}
@@ -19,8 +18,7 @@ use Rattle.dma.specs.Lookup.{on_lookup, lookup_rules}
 use Rattle.dma.specs.declared.context.Context.{Context}
 use Rattle.region.specs.Region.{not_pages, pages_shown, bad_region}
 use Rattle.region.specs.Shared.{shares_tables}
-use Rattle.tables.specs.declared.Tree.{Tree}
-use Rattle.builder.specs.Ready.{Readiness, refusal, not_yet, ready, sized, top_outside, tree_of, in_context, readiness, TablesReady}
+use Rattle.builder.specs.Ready.{refusal, not_yet, sized, top_outside, tree_of, in_context, readiness, TablesReady}
 
 -- a region that isn't refused
 pub region-fine : (registers : Registers) (windows bytes : List ℕ) (start size : ℕ) → registers.haw ≤ 52
@@ -63,12 +61,6 @@ module _ (registers : Registers) (windows bytes : List ℕ) (start size copy mar
     unfolding readiness
     looked good h = rw (good, h)
 
-    -- ready tables mean windows that aren't refused
-    pub windows-good : {tree : Tree} → readiness registers windows bytes start size copy marks source ≡ ready tree
-        → bad_windows windows (length bytes) ≡ false
+    pub refused_1 : bad_windows windows (length bytes) ≡ true → refusal 1 ≡ readiness registers windows bytes start size copy marks source
     unfolding readiness
-    windows-good {tree} h = (neither (bad_windows windows (length bytes)) (registers_bad registers) (go (bad_windows windows (length bytes) || registers_bad registers) _ h)).0
-      where
-        go : (t : Bool) (rest : Readiness) → (if t then refusal 1 else rest) ≡ ready tree → t ≡ false
-        go true rest h = let z : ◌≡◌ {A = ℕ} 0 1 = cc in absurd (omega arith)
-        go false rest h = refl
+    refused_1 h = rw h

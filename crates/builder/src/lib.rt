@@ -10,6 +10,7 @@ mod items;
 mod ready;
 mod reasons;
 
+use image::Memory;
 pub use items::BadItem;
 use items::take_items;
 use marking::mark_tables;
@@ -17,7 +18,7 @@ use ready::make_ready;
 pub use ready::{NotReady, Unready};
 pub use reasons::ItemError;
 use region::{Area, copy_in, copy_out};
-use registers::{Registers, SourceId};
+use registers::{Refusal, Registers, SourceId};
 
 // Why nothing is built.
 #[derive(Clone, Copy, Debug, PartialEq, Eq)]
@@ -58,16 +59,18 @@ pub fn build(
 ) -> Result<(), BuildError>
     ensures { (built_of result, lent memory.new copy.new marks.new) ≡ built registers source.id start size windows.now items.now (lent memory.old copy.old marks.old) }
 {
+    let Some(opened) = Memory::open(windows, memory) else {
+        return Err(BuildError::Before(Unready::Refused(Refusal::BadRegisters)));
+    };
     let tree = make_ready(
+        &opened,
         registers,
-        windows,
-        memory,
         source,
         Area { start, size },
         copy.len() as u64,
         marks.len() as u64,
     )?;
-    copy_in(windows, memory, copy, tree.start);
+    copy_in(&opened, copy, tree.start);
     if !mark_tables(copy, marks, tree) {
         return Err(BuildError::Before(Unready::NotYet(NotReady::OtherTables)));
     }

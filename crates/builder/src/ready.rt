@@ -1,13 +1,12 @@
 // Before any item: refusal 1, TE, the context and the region.
-ghost use Rattle.std.specs.Prelude.{false, ◌≡◌, ◌<◌, length};
-ghost use Rattle.image.specs.Windows.{bad_windows};
+ghost use Rattle.std.specs.Prelude.{false, ◌≡◌, ◌<◌};
 ghost use Rattle.dma.specs.Context.{Usable as UsableContext};
 ghost use Rattle.registers.specs.Registers.{registers_bad};
 ghost use Rattle.builder.specs.Answers.{not_ready_number, readiness_of};
 ghost use Rattle.builder.specs.Ready.{sized, top_outside, in_context, readiness, TablesReady, IfReady};
 
 use dma::{Context, find_context};
-use image::{bad_windows, first_span};
+use image::Memory;
 use region::{Area, bad_region};
 use registers::{Page4K, Refusal, Registers, SourceId};
 use tables::Tree;
@@ -57,22 +56,21 @@ fn is_top_outside(area: Area, top: u64) -> bool
 // In a context that was found.
 #[tactic(auto, unfolding(crate::specs::Ready::in_context))]
 fn ready_in(
+    memory: &Memory,
     registers: Registers,
-    windows: &[u64],
-    memory: &[u8],
     area: Area,
     copy: u64,
     marks: u64,
     context: Context,
 ) -> Result<Tree, Unready>
-    requires { (bad_windows windows.now (length memory.now) ≡ false) × (registers_bad registers ≡ false) × UsableContext context }
-    ensures result_value { readiness_of result ≡ in_context registers windows.now memory.now area.start area.size copy marks context }
+    requires { (registers_bad registers ≡ false) × UsableContext context }
+    ensures result_value { readiness_of result ≡ in_context registers memory.now.windows.now memory.now.image.now area.start area.size copy marks context }
     ensures if_ready { IfReady (TablesReady registers copy marks) (readiness_of result) }
 {
     if context.translation_type == 2 {
         return Err(Unready::NotYet(NotReady::NoTranslation));
     }
-    if bad_region(windows, memory, registers, area) {
+    if bad_region(memory, registers, area) {
         return Err(Unready::NotYet(NotReady::BadRegion));
     }
     if !is_sized(area.size, copy, marks) {
@@ -91,26 +89,24 @@ fn ready_in(
 
 #[tactic(auto, unfolding(crate::specs::Ready::readiness))]
 pub(crate) fn make_ready(
+    memory: &Memory,
     registers: Registers,
-    windows: &[u64],
-    memory: &[u8],
     source: SourceId,
     area: Area,
     copy: u64,
     marks: u64,
 ) -> Result<Tree, Unready>
-    ensures result_value { readiness_of result ≡ readiness registers windows.now memory.now area.start area.size copy marks source.id }
+    ensures result_value { readiness_of result ≡ readiness registers memory.now.windows.now memory.now.image.now area.start area.size copy marks source.id }
     ensures if_ready { IfReady (TablesReady registers copy marks) (readiness_of result) }
 {
-    if bad_windows(windows, memory.len()) | registers.bad() {
+    if registers.bad() {
         return Err(Unready::Refused(Refusal::BadRegisters));
     }
     if !registers.te {
         return Err(Unready::NotYet(NotReady::TranslationOff));
     }
-    let first = first_span(windows);
-    let Ok(found) = find_context(first, windows, memory, registers, source) else {
+    let Ok(found) = find_context(memory, registers, source) else {
         return Err(Unready::NotYet(NotReady::NoTranslation));
     };
-    ready_in(registers, windows, memory, area, copy, marks, found.context)
+    ready_in(memory, registers, area, copy, marks, found.context)
 }

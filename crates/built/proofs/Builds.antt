@@ -23,7 +23,7 @@ use Rattle.tables.specs.declared.Tree.{Tree}
 use Rattle.builder.specs.Build.{Built, all_taken, refused, not_ready, at_item, LentBuffers, lent, after_items, when_ready, built}
 use Rattle.builder.specs.Items.{take_items}
 use Rattle.builder.specs.Ready.{Readiness, refusal, not_yet, ready, sized, top_outside, tree_of, in_context, readiness}
-use Rattle.builder.specs.declared.items.Taken.{Taken}
+use Rattle.builder.specs.Items.{Taken}
 
 -- what is so where tables are ready
 pub record Readied (registers : Registers) (windows memory : List ℕ) (start size copy marks source : ℕ) (tree : Tree) : Type 0 where

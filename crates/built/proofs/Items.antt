@@ -15,7 +15,7 @@ use Rattle.tables.specs.declared.Tree.{Tree}
 use Rattle.builder.specs.Items.{item_at, take_item, take_items}
 use Rattle.builder.specs.Reasons.{unmaps, levels_below, leaf_of, item_reason}
 use Rattle.builder.specs.declared.items.Item.{Item}
-use Rattle.builder.specs.declared.items.Taken.{Taken}
+use Rattle.builder.specs.Items.{Taken}
 
 module _ (P : List ℕ → Type 0) (keeps : (bytes : List ℕ) (at word : ℕ) → P bytes → P (with_word bytes at word)) where
   zeroed-keeps : (n : ℕ) (bytes : List ℕ) (at : ℕ) → P bytes → P (words_zeroed n bytes at)

@@ -14,7 +14,7 @@ use Rattle.std.specs.Prelude.{if◌then◌else◌}
 use Rattle.tables.specs.Tables.{held_entry, present, maps_page, table_entry, table_of, empty_table}
 use Rattle.tables.specs.declared.Tree.{Tree}
 use Rattle.marking.specs.Marking.{Marked, then_mark, free_page, leads_to_free, mark_entry, mark_entries, mark_table, mark_level, mark_levels, mark_all}
-use Rattle.marking.proofs.Turns.{there}
+use Rattle.std.proofs.lemmas.List.{get_or_default}
 use Rattle.leaves.specs.Claims.{PassAgain, EmptyPasses}
 use Rattle.leaves.specs.WellBuilt.{leads_on, Leads, WellBuilt, NoneEmpty}
 use Rattle.leaves.proofs.Entries.{each-absent}
@@ -91,7 +91,7 @@ module _ (bytes marks : List ℕ) (tree : Tree) (w : WellBuilt bytes marks tree)
       to_free : leads_to_free tree.start made (held_entry bytes (8 * z)) ≡ true
       to_free =
           let back : 4096 * f / 4096 ≡ f = omega arith in
-          let none : get_or made f 1 ≡ 0 = there made f 1 0 inside ∙ free in
+          let none : get_or made f 1 ≡ 0 = get_or_default made f 1 0 inside ∙ free in
           rw (down, back, eq-eqb (held_entry bytes (8 * z)) (table_entry tree.start (4096 * f)) l.entry, eq-eqb (get_or made f 1) 0 none)
 
       marked : Sofar (Seen level (suc z)) (set made f level)

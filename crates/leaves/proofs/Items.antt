@@ -21,7 +21,7 @@ use Rattle.tables.specs.declared.Tree.{Tree}
 use Rattle.builder.specs.Items.{item_at, changed, take_item, take_items}
 use Rattle.builder.specs.Reasons.{unmaps, rights, is_large, levels_below, leaf_of, bad_size, bad_alignment, bad_place, place_reason, map_reason, item_reason}
 use Rattle.builder.specs.declared.items.Item.{Item}
-use Rattle.builder.specs.declared.items.Taken.{Taken}
+use Rattle.builder.specs.Items.{Taken}
 use Rattle.builder.proofs.ItemLaws.{none_of, both-0, frame_below}
 use Rattle.leaves.specs.Claims.{Leaves, ItemsLeave}
 use Rattle.leaves.specs.Leaves.{Leaf, none, leaf, leaf_over, leaf_place, holds, left_by, left}

@@ -16,7 +16,7 @@ use Rattle.image.proofs.Choices.{both}
 use Rattle.tables.specs.Tables.{held_entry, present, maps_page, table_entry, table_of, empty_table}
 use Rattle.tables.specs.declared.Tree.{Tree}
 use Rattle.marking.specs.Marking.{Marked, then_mark, free_page, leads_to_free, mark_entry, mark_entries, mark_table, mark_level, mark_levels, mark_all}
-use Rattle.marking.proofs.Turns.{there}
+use Rattle.std.proofs.lemmas.List.{get_or_default}
 use Rattle.leaves.specs.Claims.{MarkedAsBuilt, MarkedNoneEmpty}
 use Rattle.leaves.specs.WellBuilt.{Placed, leads_on, Leads}
 use Rattle.leaves.proofs.Passes.{marked-inside, leads-deep}
@@ -196,7 +196,7 @@ module _ (bytes : List ℕ) (tree : Tree) (pages : ℕ) (placed : Placed tree pa
         sym same ∙ eqb-true e (table_entry start (table_of start e)) b.0 ∙ ap (table_entry start) whole in
         let none = eqb-true (get_or marks f 1) 0 b.1 in
         let inside = free-inside marks f none in
-        let free : get_or marks f 0 ≡ 0 = there marks f 0 1 inside ∙ none in
+        let free : get_or marks f 0 ≡ 0 = get_or_default marks f 0 1 inside ∙ none in
         record {
           good = marked f is free inside;
           stays = λ page n m. other-mark marks f level page (λ same. let m' : get_or marks f 0 ≡ suc n = rw same at m in omega arith) ∙ m;

@@ -1,17 +1,16 @@
 -- The definitions that count down, by their first turn and at their end: for the code's loops. And what a spot tells.
-use Rattle.std.proofs.Common.{◌≡◌, ℕ, zero, suc, ◌+◌, ◌-◌, ◌*◌, ◌/◌, ◌^◌, ◌<◌, ◌≤◌, Bool, true, false, ltb, List, Some, None, is_some, Result, Ok, Err, refl, arith}
+use Rattle.std.proofs.Common.{◌≡◌, ℕ, zero, suc, ◌+◌, ◌-◌, ◌*◌, ◌<◌, ◌≤◌, Bool, List, Some, None, is_some, Result, Ok, Err, refl, arith}
 use Rattle.std.specs.Result.{result_unwrap_or}
 use Rattle.std.specs.List.{list_all, list_any, range_with_len}
 use Rattle.image.specs.Answers.{fetched8}
 use Rattle.image.specs.Memory.{Memory, on_fetch, with_word}
-use Rattle.image.specs.Windows.{Spot, nowhere, here, on_spot, spot_in, windows_of, of_windows}
+use Rattle.image.specs.Windows.{Spot, nowhere, here, on_spot, spot_in, windows_of}
 use Rattle.image.specs.declared.Missing.{Missing}
-use Rattle.registers.specs.declared.Registers.{Registers}
 use Rattle.tables.specs.Tables.{held_entry}
 use Rattle.tables.proofs.Folds.{again, none_left}
 use Rattle.region.specs.Copy.{is_whole, place_shown, word_shown, stored_at, copied_in, copied_out}
-use Rattle.region.specs.Region.{not_pages, pages_shown, bad_region}
-use Rattle.region.specs.Shared.{meets, meets_named_at, any_named, interrupt_entries, shares_tables}
+use Rattle.region.specs.Region.{pages_shown}
+use Rattle.region.specs.Shared.{meets_named_at, any_named}
 
 -- what a place that was found tells of a spot
 pub whole_by : (spot : Spot) → is_some (place_shown spot) ≡ is_whole spot
@@ -70,45 +69,3 @@ module _ (posted : Bool) (start size : ℕ) (m : Memory) (table : ℕ) where
   unfolding any_named
   one_named zero i at h = refl
   one_named (suc n) i at h = rw (← h, one_named n (i + 1) (at + 16) (omega arith))
-
--- the first of four tests that holds
-module _ (registers : Registers) (start size : ℕ) (m : Memory) where
-  pub shares-1 : meets start size registers.root_table 4096 ≡ true → true ≡ shares_tables registers start size m
-  unfolding shares_tables
-  shares-1 h = rw h
-
-  module _ (first : meets start size registers.root_table 4096 ≡ false) where
-    pub shares-2 : any_named false start size m 256 registers.root_table ≡ true → true ≡ shares_tables registers start size m
-    unfolding shares_tables
-    shares-2 h = rw (first, h)
-
-    module _ (second : any_named false start size m 256 registers.root_table ≡ false) where
-      pub shares-3 : meets start size registers.interrupt_table (16 * interrupt_entries registers) ≡ true
-          → true ≡ shares_tables registers start size m
-      unfolding shares_tables
-      shares-3 h = rw (first, second, h)
-
-      pub shares-4 : meets start size registers.interrupt_table (16 * interrupt_entries registers) ≡ false
-          → any_named true start size m (interrupt_entries registers) registers.interrupt_table ≡ shares_tables registers start size m
-      unfolding shares_tables
-      shares-4 h = rw (first, second, h)
-
-module _ (registers : Registers) (windows run : List ℕ) (start size : ℕ) where
-  pub bad-1 : not_pages start size ≡ true → true ≡ bad_region registers windows run start size
-  unfolding bad_region
-  bad-1 h = rw h
-
-  module _ (first : not_pages start size ≡ false) where
-    pub bad-2 : ltb (2 ^ registers.haw) (start + size) ≡ true → true ≡ bad_region registers windows run start size
-    unfolding bad_region
-    bad-2 h = rw (first, h)
-
-    module _ (second : ltb (2 ^ registers.haw) (start + size) ≡ false) where
-      pub bad-3 : pages_shown windows (size / 4096) start ≡ false → true ≡ bad_region registers windows run start size
-      unfolding bad_region
-      bad-3 h = rw (first, second, h)
-
-      pub bad-4 : pages_shown windows (size / 4096) start ≡ true
-          → shares_tables registers start size (of_windows windows run) ≡ bad_region registers windows run start size
-      unfolding bad_region
-      bad-4 h = rw (first, second, h)

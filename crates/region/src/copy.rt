@@ -1,18 +1,19 @@
 // The words of a region, to a copy and back.
 ghost use Rattle.std.specs.Prelude.{false, ◌≡◌, ◌+◌, ◌/◌, ◌%◌, ◌^◌, ◌<◌, length};
-ghost use Rattle.image.specs.Windows.{of_windows, bad_windows};
+ghost use Rattle.image.specs.Answers.{memory_of};
+ghost use Rattle.image.specs.Windows.{bad_windows};
 ghost use Rattle.region.specs.Copy.{copied_in, copied_out};
 
 use crate::spot::{store_at, word_shown};
-use image::store8;
+use image::{Memory, store8};
 use tables::entry_of;
 
-pub fn copy_in(windows: &[u64], image: &[u8], copy: &mut [u8], start: u64)
-    requires { (bad_windows windows.now (length image.now) ≡ false) × (start % 8 ≡ 0) × (start + length copy.old < 2 ^ 63) }
-    ensures { copy.new ≡ copied_in (of_windows windows.now image.now) start (length copy.old / 8) 0 copy.old }
+pub fn copy_in(memory: &Memory, copy: &mut [u8], start: u64)
+    requires { (start % 8 ≡ 0) × (start + length copy.old < 2 ^ 63) }
+    ensures { copy.new ≡ copied_in (memory_of memory.now) start (length copy.old / 8) 0 copy.old }
 {
     for word in 0..copy.len() as u64 / 8 {
-        store8(copy, 8 * word, word_shown(windows, image, start + 8 * word));
+        store8(copy, 8 * word, word_shown(memory, start + 8 * word));
     }
 }
 

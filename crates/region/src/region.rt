@@ -1,25 +1,29 @@
 // Whether a region may hold page tables.
-ghost use Rattle.std.specs.Prelude.{false, ◌≡◌, ◌+◌, ◌/◌, ◌^◌, ◌<◌, ◌*◌, ◌≤◌, length, ltb};
-ghost use Rattle.image.specs.Windows.{bad_windows};
+ghost use Rattle.std.specs.Prelude.{false, ◌≡◌, ◌+◌, ◌/◌, ◌^◌, ◌<◌, ◌*◌, ◌≤◌, ltb};
 ghost use Rattle.registers.specs.Registers.{registers_bad};
 ghost use Rattle.region.specs.Region.{pages_shown, bad_region};
 
 use crate::Area;
 use crate::shared::shares_tables;
 use crate::spot::find_place;
+use image::Memory;
 use registers::{Page4K, Registers};
 
 // So many pages from a host address on are in the image.
-fn pages_shown(windows: &[u64], run: usize, start: u64, pages: u64) -> bool
-    requires { (bad_windows windows.now run ≡ false) × (start + 4096 * pages < 2 ^ 63) }
-    ensures { result ≡ pages_shown windows.now pages start }
+fn pages_shown(memory: &Memory, start: u64, pages: u64) -> bool
+    requires { start + 4096 * pages < 2 ^ 63 }
+    ensures { result ≡ pages_shown memory.now.windows.now pages start }
 {
-    (0..pages).all(|page| find_place(
-        windows,
-        run,
-        Page4K::SPAN,
-        start + Page4K::SPAN * page,
-    ).is_some())
+    let run = memory.image.len();
+    (0..pages).all(|page| {
+        find_place(
+            memory.windows,
+            run,
+            Page4K::SPAN,
+            start + Page4K::SPAN * page,
+        )
+        .is_some()
+    })
 }
 
 // An end past 2^HAW.
@@ -34,9 +38,10 @@ fn past_width(haw: u8, area: Area) -> bool
     limit - area.start < area.size
 }
 
-pub fn bad_region(windows: &[u64], image: &[u8], registers: Registers, area: Area) -> bool
-    requires { (bad_windows windows.now (length image.now) ≡ false) × (registers_bad registers ≡ false) }
-    ensures { result ≡ bad_region registers windows.now image.now area.start area.size }
+#[tactic(auto, unfolding(crate::specs::Region::bad_region))]
+pub fn bad_region(memory: &Memory, registers: Registers, area: Area) -> bool
+    requires { registers_bad registers ≡ false }
+    ensures { result ≡ bad_region registers memory.now.windows.now memory.now.image.now area.start area.size }
 {
     if (area.start % Page4K::SPAN != 0) | (area.size % Page4K::SPAN != 0) {
         return true;
@@ -44,8 +49,8 @@ pub fn bad_region(windows: &[u64], image: &[u8], registers: Registers, area: Are
     if past_width(registers.haw, area) {
         return true;
     }
-    if !pages_shown(windows, image.len(), area.start, area.size / Page4K::SPAN) {
+    if !pages_shown(memory, area.start, area.size / Page4K::SPAN) {
         return true;
     }
-    shares_tables(windows, image, registers, area)
+    shares_tables(memory, registers, area)
 }

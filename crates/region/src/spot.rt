@@ -1,10 +1,10 @@
 // Where in the lent run bytes of a host address stand, and words there.
 ghost use Rattle.std.specs.Prelude.{false, ◌≡◌, ◌+◌, ◌%◌, ◌≤◌, length};
-ghost use Rattle.image.specs.Windows.{windows_of, window_at, holds_all, spot_in, of_windows, bad_windows};
+ghost use Rattle.image.specs.Windows.{windows_of, window_at, holds_all, spot_in, bad_windows};
+ghost use Rattle.image.specs.Answers.{memory_of};
 ghost use Rattle.region.specs.Copy.{place_shown, word_shown, stored_at};
 
-use image::{page_entry8, store8};
-use registers::Page4K;
+use image::{Memory, store8};
 
 fn holds_all(windows: &[u64], i: usize, size: u64, at: u64) -> bool
     requires { i + 3 ≤ length windows.now }
@@ -35,12 +35,11 @@ pub(crate) fn find_place(windows: &[u64], run: usize, size: u64, at: u64) -> Opt
 }
 
 // The word at a host address.
-pub(crate) fn word_shown(windows: &[u64], image: &[u8], at: u64) -> u64
-    requires { (bad_windows windows.now (length image.now) ≡ false) × (at % 8 ≡ 0) }
-    ensures { result ≡ word_shown (of_windows windows.now image.now) at }
+pub(crate) fn word_shown(memory: &Memory, at: u64) -> u64
+    requires { at % 8 ≡ 0 }
+    ensures { result ≡ word_shown (memory_of memory.now) at }
 {
-    let offset = at % Page4K::SPAN;
-    page_entry8(windows, image, at - offset, offset).unwrap_or(0)
+    memory.entry::<u64>(at).unwrap_or(0)
 }
 
 // Another word at a host address.

@@ -9,5 +9,5 @@ use Rattle.region.proofs.region.pages_shown.Goals as goal
 pub returns : goal.returns
 returns c =
     let a = c.args in
-    all_from_yields_List (λ (page : ℕ). is_whole (spot_in (windows_of a.windows.now) 4096 (a.start + 4096 * page))) _ _ c.all.result c.all.ensures.ran (YieldsList-from_range 0 a.pages a.pages refl (omega arith)) (λ x b q k. search (rules, tests, whole_by))
-    ∙ all_shown a.windows.now a.start a.pages 0 a.start (omega arith)
+    all_from_yields_List (λ (page : ℕ). is_whole (spot_in (windows_of a.memory.now.windows.now) 4096 (a.start + 4096 * page))) _ _ c.all.result c.all.ensures.ran (YieldsList-from_range 0 a.pages a.pages refl (omega arith)) (λ x b q k. search (rules, tests, whole_by))
+    ∙ all_shown a.memory.now.windows.now a.start a.pages 0 a.start (omega arith)
