@@ -5,7 +5,7 @@ use mathlib.Core.List.{List, [], ◌∷◌, ◌++◌, map}
 use mathlib.Core.Path.{◌≡◌, refl, ap, ◌∙◌, subst}
 use native.Mathlib.Omega.{arith}
 use Rattle.image.specs.Bits.{bit}
-use Rattle.std.specs.Prelude.{if◌then◌else◌}
+use Rattle.std.specs.Prelude.{if◌then◌else◌, Ok}
 use Rattle.image.specs.EntryKind.{first_level_entry}
 use Rattle.image.specs.Memory.{Memory}
 use Rattle.image.specs.Place.{Place, entry_at, last_tried}
@@ -166,7 +166,6 @@ module _ (r : ScalableRegisters) (p : PasidEntry) (address : ℕ) (write : Bool)
   led-at = onward-way-at first_level_entry address (locate r p) (no_first_entry p) (walk_step r p address write) (no-entry r p) m level table s more
 
 -- the number of flags by a larger bound
-pub grows-more : (l : Level) (most most' : ℕ) → most ≤ most' → LevelGrows l most → LevelGrows l most'
-grows-more (level.Down table at n) most most' h g = omega (arith, g)
-grows-more (level.Page frame of at n) most most' h g = omega (arith, g)
-grows-more (level.Fault reason fpd at) most most' h g = tt
+pub grows-more : (l : Level) (most most' : ℕ) → most ≤ most' → LevelGrows (Ok l) most → LevelGrows (Ok l) most'
+grows-more (level.Down table n) most most' h g = omega (arith, g)
+grows-more (level.Page frame of n) most most' h g = omega (arith, g)

@@ -11,16 +11,17 @@ use Rattle.image.specs.Memory.{Memory}
 use Rattle.image.specs.Place.{entry_at, last_tried}
 use Rattle.image.specs.Rules.{Rules, run}
 use Rattle.image.proofs.Choices.{above_zero}
+use Rattle.std.specs.Prelude.{Ok, Err}
+use Rattle.std.specs.declared.ops.ControlFlow.TheVariants.{Continue, Break}
 use Rattle.dma.specs.Page.{host_address}
+use Rattle.faults.specs.declared.stop.Stop.{Stop}
 use Rattle.pasid.specs.Reason.{number_of}
 use Rattle.pasid.specs.declared.reason.ScalableReason.{ScalableReason}
 use Rattle.second.specs.Second.{Walked, page, fault as no_page, Reachable}
 use Rattle.nested.specs.Pages.{FirstHanded, first_handed, intermediate_rules}
 use Rattle.nested.specs.Positions.{place_at, wanted_at, PositionFits, WayTells}
-use Rattle.nested.specs.declared.Pages.TheVariants as pages
 use Rattle.nested.specs.declared.position.Position.{Position}
 use Rattle.nested.specs.declared.position.Walk.{Walk}
-use Rattle.nested.specs.declared.way.Way.TheVariants as way
 use Rattle.nested.proofs.Nested.{host-aligned}
 use Rattle.nested.proofs.Rests.{nested, page-found, entry_found, faulted, faulted-at}
 
@@ -35,8 +36,8 @@ module _ (w : Walk) (s : Position) (m : Memory) (before after : List ℕ) (place
   -- a page at a host address: at level 0 the one that is looked for, above it the one that the entry is in
   abbrev pub PageTells : (frame level host : ℕ) (writable : Bool) (count : ℕ) → Type 0
   PageTells frame level host writable count =
-      (s.level ≡ 0 → WayTells (way.Done (pages.Reached frame level host count)) w s m before after)
-      × ((s.level ≡ 0 → ⊥) → WayTells (way.Entry host writable count) w s m before after)
+      (s.level ≡ 0 → WayTells (Ok (Break (record { frame = frame; level = level; host = host; count = count }))) w s m before after)
+      × ((s.level ≡ 0 → ⊥) → WayTells (Ok (Continue (record { at = host; writable = writable; count = count }))) w s m before after)
 
   module _ (is : place ≡ place_at w.asked.address s.level s.at) (second : (eqb s.level 0 || eqb w.space.entry.kind 3) ≡ true) where
     pub page-tells : PositionFits w.space.entry s → (0 < s.level → place % 8 ≡ 0) → {frame level host count : ℕ} {writable : Bool}
@@ -45,7 +46,7 @@ module _ (w : Walk) (s : Position) (m : Memory) (before after : List ℕ) (place
         → PageTells frame level host writable count
     page-tells fits aligned {frame} {level} {host} {count} {writable} there told reach few = (λ none. found none, λ other. inside (ne_eqb s.level 0 other))
       where
-        found : s.level ≡ 0 → WayTells (way.Done (pages.Reached frame level host count)) w s m before after
+        found : s.level ≡ 0 → WayTells (Ok (Break (record { frame = frame; level = level; host = host; count = count }))) w s m before after
         found none = (
           rw there
               (page-found w.space.registers w.space.entry w.asked.address w.asked.write m s.level s.at place given is none told),
@@ -54,7 +55,7 @@ module _ (w : Walk) (s : Position) (m : Memory) (before after : List ℕ) (place
           omega (arith, few, (fits.1 none).1),
         )
 
-        inside : eqb s.level 0 ≡ false → WayTells (way.Entry host writable count) w s m before after
+        inside : eqb s.level 0 ≡ false → WayTells (Ok (Continue (record { at = host; writable = writable; count = count }))) w s m before after
         inside other =
             let more = above_zero s.level other in
             let fine = host-aligned level frame place reach.1 reach.2 reach.0 reach.3 (aligned more) in
@@ -67,9 +68,9 @@ module _ (w : Walk) (s : Position) (m : Memory) (before after : List ℕ) (place
                   (entry_found w.space.registers w.space.entry w.asked.address w.asked.write m s.level s.at place given is more three told),
             )
 
-    pub fault-tells : (reason : ScalableReason) {fpd : Bool} {at : ℕ} → no_page (number_of reason) fpd ≡ run asked m
-        → entry_at at ≡ last_tried (entry_at s.last) asked m → WayTells (way.Done (pages.Fault reason fpd at)) w s m before after
-    fault-tells reason told there = (
+    pub fault-tells : (e : Stop ScalableReason) → no_page (number_of e.reason) e.fpd ≡ run asked m
+        → entry_at e.at ≡ last_tried (entry_at s.last) asked m → WayTells (Err e) w s m before after
+    fault-tells e told there = (
       faulted w.space.registers w.space.entry w.asked.address w.asked.write m s.level s.at place given is second told,
       faulted-at w.space.registers w.space.entry w.asked.address w.asked.write m s.level s.at place given is second told (entry_at s.last) there,
       tt,

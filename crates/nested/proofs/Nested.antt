@@ -6,6 +6,7 @@ use mathlib.Core.Path.{◌≡◌, sym}
 use native.Mathlib.Nat.{div-one}
 use native.Mathlib.Omega.{arith}
 use borrow.Author.Tests.{eq-eqb, ne_eqb}
+use Rattle.std.specs.Prelude.{Result, Ok, Err}
 use Rattle.image.specs.Bits.{bits}
 use Rattle.image.specs.Memory.{Memory}
 use Rattle.image.specs.Place.{Place, last_tried}
@@ -14,22 +15,23 @@ use Rattle.image.proofs.Places.{tried-map}
 use Rattle.image.proofs.Trees.{Outside, run-map}
 use Rattle.dma.specs.Page.{host_address}
 use Rattle.dma.specs.Translation.{overflows}
+use Rattle.faults.specs.declared.stop.Stop.{Stop}
 use Rattle.pasid.specs.declared.ScalableRegisters.{ScalableRegisters}
+use Rattle.pasid.specs.declared.reason.ScalableReason.{ScalableReason}
 use Rattle.pasid.specs.declared.table.PasidEntry.{PasidEntry}
 use Rattle.second.specs.Answers.{Grown}
 use Rattle.second.specs.Second.{Walked, fault as no_page, at_top, second_rules}
 use Rattle.second.specs.declared.step.Wanted.{Wanted}
-use Rattle.second.specs.declared.walk.Walked.{Walked as WalkedCode}
-use Rattle.second.specs.declared.walk.Walked.TheVariants as walked
+use Rattle.second.specs.declared.step.Page.{Page}
 use Rattle.nested.specs.Pages.{FirstHanded, wanted_of_entry, to_entry, intermediate_rules, locate}
 use Rattle.nested.specs.Way.{located}
 use Rattle.nested.proofs.Forks.{forks-outside, forks-locate}
 use Rattle.nested.proofs.Ways.{IsLost}
 
 -- the number of flags by a larger bound
-pub grown-more : (w : WalkedCode) (count most most' : ℕ) → most ≤ most' → Grown w count most → Grown w count most'
-grown-more (walked.Page frame level writable n) count most most' h g = (g.0, omega (arith, g.1))
-grown-more (walked.Fault reason fpd at) count most most' h g = tt
+pub grown-more : (w : Result Page (Stop ScalableReason)) (count most most' : ℕ) → most ≤ most' → Grown w count most → Grown w count most'
+grown-more (Ok p) count most most' h g = (g.0, omega (arith, g.1))
+grown-more (Err e) count most most' h g = tt
 
 module _ (r : ScalableRegisters) (p : PasidEntry) (wanted : Wanted) (address : ℕ) (flags : List ℕ) where
   pub beyond : (m : Memory) → overflows r.base p.second_levels address ≡ true

@@ -1,24 +1,25 @@
 -- What a walk's positions and turns say: for the code's contracts, the rules don't use it.
-use Rattle.std.specs.Prelude.{ℕ, ◌+◌, ◌-◌, ◌*◌, ◌%◌, ◌^◌, ◌<◌, ◌≤◌, Bool, List, [], ◌≡◌, eqb, take}
+use Rattle.std.specs.Prelude.{ℕ, ◌+◌, ◌-◌, ◌*◌, ◌%◌, ◌^◌, ◌<◌, ◌≤◌, Bool, List, [], ◌≡◌, eqb, take, Result, Ok, Err}
+use Rattle.std.specs.declared.ops.ControlFlow.{ControlFlow}
+use Rattle.std.specs.declared.ops.ControlFlow.TheVariants.{Continue, Break}
 use Rattle.std.specs.Prelude.{if◌then◌else◌}
 use Rattle.image.specs.Memory.{Memory, entry, on_fetch}
 use Rattle.image.specs.Place.{Place, entry_at, last_tried}
 use Rattle.image.specs.Rules.{Rules, answer, run, map_rules}
 use Rattle.dma.specs.Walk.{Step, done, place_in}
+use Rattle.faults.specs.declared.stop.Stop.{Stop}
 use Rattle.pasid.specs.declared.ScalableRegisters.{ScalableRegisters}
+use Rattle.pasid.specs.declared.reason.ScalableReason.{ScalableReason}
 use Rattle.pasid.specs.declared.table.PasidEntry.{PasidEntry}
 use Rattle.second.specs.declared.step.Wanted.{Wanted}
 use Rattle.nested.specs.Answers.{pages_of, PagesNames, PagesGrows}
 use Rattle.nested.specs.Pages.{Pages, FirstHanded, first_handed, no_first_entry, wanted_of_entry, wanted_of_page, to_page, intermediate_rules, locate, host_page_rules, walk_step, first_rules, pages_rules, Reachable, SecondWalkable, FirstWalkable}
 use Rattle.nested.specs.Then.{then_rules}
 use Rattle.nested.specs.Way.{located}
-use Rattle.nested.specs.declared.Pages.{Pages as PagesCode}
+use Rattle.nested.specs.declared.Reached.{Reached}
+use Rattle.nested.specs.declared.position.EntryAt.{EntryAt}
 use Rattle.nested.specs.declared.position.Position.{Position}
 use Rattle.nested.specs.declared.position.Walk.{Walk}
-use Rattle.nested.specs.declared.turn.Turn.{Turn}
-use Rattle.nested.specs.declared.turn.Turn.TheVariants as turn
-use Rattle.nested.specs.declared.way.Way.{Way}
-use Rattle.nested.specs.declared.way.Way.TheVariants as way
 
 -- the address of a level's entry in its table and what is wanted of it; at level 0 those of the page
 unfoldable pub place_at : (address level at : ℕ) → ℕ
@@ -43,7 +44,7 @@ module _ (r : ScalableRegisters) (p : PasidEntry) (address : ℕ) (write : Bool)
   entry_over m level place s = on_fetch (entry 1 m place) (done (no_first_entry p s)) (walk_step r p address write level place s)
 
 -- the code's answer is what rules answer, and a fault names the entry at which they stop, the place handed in where they try none
-abbrev pub PagesTell : PagesCode → Rules Pages → Memory → Place → (flags : List ℕ) → Type 0
+abbrev pub PagesTell : Result Reached (Stop ScalableReason) → Rules Pages → Memory → Place → (flags : List ℕ) → Type 0
 PagesTell r q m before flags =
     (pages_of r flags ≡ run q m) × PagesNames r (last_tried before q m) × Reachable (pages_of r flags) × PagesGrows r 47
 
@@ -60,34 +61,36 @@ PositionFits p s =
     × (s.level ≡ 0 → SecondWalkable p × (s.count ≤ 41))
 
 -- what a way tells of a position, over the flags before it and after it: where the entry is, or what the walk ends with
-abbrev pub WayTells : Way → Walk → Position → Memory → (before after : List ℕ) → Type 0
-WayTells (way.Entry at writable count) w s m before after =
+abbrev pub WayTells : Result (ControlFlow Reached EntryAt) (Stop ScalableReason) → Walk → Position → Memory → (before after : List ℕ) → Type 0
+WayTells (Ok (Continue e)) w s m before after =
     (0 < s.level)
-    × (at % 8 ≡ 0)
-    × (at < 2 ^ 60)
-    × (count ≤ s.count + 6)
-    × (located at (record { top = s.top; writable = writable; flags = take count after })
+    × (e.at % 8 ≡ 0)
+    × (e.at < 2 ^ 60)
+    × (e.count ≤ s.count + 6)
+    × (located e.at (record { top = s.top; writable = e.writable; flags = take e.count after })
     ≡ run (locate w.space.registers w.space.entry (first_handed s.top (take s.count before)) (place_in w.asked.address s.at (s.level - 1))) m)
-WayTells (way.Done r) w s m before after = PagesTell r (position_rules w s before) m (entry_at s.last) after
+WayTells (Ok (Break r)) w s m before after = PagesTell (Ok r) (position_rules w s before) m (entry_at s.last) after
+WayTells (Err e) w s m before after = PagesTell (Err e) (position_rules w s before) m (entry_at s.last) after
 
 -- a turn leaves the same to be answered, and the same entry to stop at
-abbrev pub TurnTells : Turn → Walk → Position → Memory → (before after : List ℕ) → Type 0
-TurnTells (turn.On next) w s m before after =
+abbrev pub TurnTells : Result (ControlFlow Reached Position) (Stop ScalableReason) → Walk → Position → Memory → (before after : List ℕ) → Type 0
+TurnTells (Ok (Continue next)) w s m before after =
     PositionFits w.space.entry next
     × (next.level < s.level)
     × (run (position_rules w next after) m ≡ run (position_rules w s before) m)
     × (last_tried (entry_at next.last) (position_rules w next after) m ≡ last_tried (entry_at s.last) (position_rules w s before) m)
-TurnTells (turn.Done r) w s m before after = PagesTell r (position_rules w s before) m (entry_at s.last) after
+TurnTells (Ok (Break r)) w s m before after = PagesTell (Ok r) (position_rules w s before) m (entry_at s.last) after
+TurnTells (Err e) w s m before after = PagesTell (Err e) (position_rules w s before) m (entry_at s.last) after
 
--- the rules that follow a turn, and the entry that it tried last: of a fault the one it names
-abbrev pub turn_rules : Turn → Walk → (flags : List ℕ) → Rules Pages
-turn_rules (turn.On next) w flags = position_rules w next flags
-turn_rules (turn.Done r) w flags = answer (pages_of r flags)
+-- the rules that follow a turn, and the entry that it tried last
+abbrev pub turn_rules : ControlFlow Reached Position → Walk → (flags : List ℕ) → Rules Pages
+turn_rules (Continue next) w flags = position_rules w next flags
+turn_rules (Break r) w flags = answer (pages_of (Ok r) flags)
 
-abbrev pub TurnLast : Turn → Place → Type 0
-TurnLast (turn.On next) place = entry_at next.last ≡ place
-TurnLast (turn.Done r) place = PagesNames r place
+abbrev pub TurnLast : ControlFlow Reached Position → Place → Type 0
+TurnLast (Continue next) place = entry_at next.last ≡ place
+TurnLast (Break r) place = PagesNames (Ok r) place
 
-abbrev pub TurnFits : Turn → PasidEntry → (level : ℕ) → Type 0
-TurnFits (turn.On next) p level = PositionFits p next × (next.level < level)
-TurnFits (turn.Done r) p level = Reachable (pages_of r []) × PagesGrows r 47
+abbrev pub TurnFits : ControlFlow Reached Position → PasidEntry → (level : ℕ) → Type 0
+TurnFits (Continue next) p level = PositionFits p next × (next.level < level)
+TurnFits (Break r) p level = Reachable (pages_of (Ok r) []) × PagesGrows (Ok r) 47

@@ -2,29 +2,27 @@
 ghost use Rattle.std.specs.Prelude.{Bool, true, false, [], ◌∷◌, ◌++◌, map, ◌≡◌, length, take, ◌+◌, ◌%◌, ◌^◌, ◌<◌, ◌≤◌};
 ghost use Rattle.std.specs.Prelude.{if◌then◌else◌};
 ghost use Rattle.image.specs.Place.{entry_at};
-ghost use Rattle.image.specs.Spans.{Opened};
-ghost use Rattle.image.specs.Windows.{of_windows};
+ghost use Rattle.image.specs.Answers.{memory_of};
 ghost use Rattle.flags.specs.Flags.{flag};
 ghost use Rattle.first.specs.First.{first_flags};
-ghost use Rattle.nested.specs.Answers.{level_of, level_place, LevelGrows, LevelReachable};
+ghost use Rattle.nested.specs.Answers.{level_of, LevelNames, LevelGrows, LevelReachable};
 ghost use Rattle.nested.specs.Pages.{entry_flags, walk_step};
 ghost use Rattle.nested.specs.Positions.{entry_over};
 
-use crate::position::{Position, Walk};
+use crate::position::{EntryAt, Position, Walk};
+use faults::Stop;
 use first::{FirstStep, first_step, flag_clear, unfetchable};
 use flags::push;
-use image::{Found8, page_entry8_by};
+use image::Memory;
 use pasid::{PasidEntry, ScalableReason};
 
-// What a level makes of its entry, always with the host address of the last entry that was tried.
+// What a level's entry leads to.
 #[derive(Clone, Copy)]
 pub enum Level {
     // The next table, and how many flags there are then.
-    Down(u64, u64, usize),
+    Down(u64, usize),
     // The frame of a page and the entry's level, and how many flags there are then.
-    Page(u64, u32, u64, usize),
-    // Why the walk ends here, and FPD.
-    Fault(ScalableReason, bool, u64),
+    Page(u64, u32, usize),
 }
 
 // A flag of the entry at a host address, where it is wanted.
@@ -69,65 +67,60 @@ fn push_entry(
     count
 }
 
-// The entry at a host address, as it was fetched; writable: the way to it may be written.
+// The entry, as it was fetched.
 fn level_step(
     walk: Walk,
     level: u32,
-    writable: bool,
-    at: u64,
+    here: EntryAt,
     e: u64,
     flags: &mut [u64],
-    count: usize,
-) -> Level
-    requires { (0 < level) × (at < 2 ^ 60) × (count + 3 ≤ length flags.old) }
-    ensures flags_after { (top : Bool) → level_of result walk.asked.address flags.new ≡ walk_step walk.space.registers walk.space.entry walk.asked.address walk.asked.write level at (record { top = top; writable = writable; flags = take count flags.old }) e }
-    ensures result_value { level_place result ≡ entry_at at }
+) -> Result<Level, Stop<ScalableReason>>
+    requires { (0 < level) × (here.at < 2 ^ 60) × (here.count + 3 ≤ length flags.old) }
+    ensures flags_after { (top : Bool) → level_of result walk.asked.address flags.new ≡ walk_step walk.space.registers walk.space.entry walk.asked.address walk.asked.write level here.at (record { top = top; writable = here.writable; flags = take here.count flags.old }) e }
+    ensures level_names { LevelNames result (entry_at here.at) }
     ensures level_reachable { LevelReachable result level }
-    ensures level_grows { LevelGrows result (count + 2) }
+    ensures level_grows { LevelGrows result (here.count + 2) }
 {
+    let entry = walk.space.entry;
     let write = walk.asked.write;
     match first_step(
         walk.space.registers,
-        walk.space.entry,
+        entry,
         write,
-        writable,
+        here.writable,
         level,
-        at,
+        here.at,
         e,
-    ) {
+    )? {
         FirstStep::Down(table) => {
-            let used = push_entry(flags, count, walk.space.entry, false, at, e);
-            Level::Down(table, at, used)
+            let used = push_entry(flags, here.count, entry, false, here.at, e);
+            Ok(Level::Down(table, used))
         }
         FirstStep::Page(frame, of) => {
-            let used = push_entry(flags, count, walk.space.entry, write, at, e);
-            Level::Page(frame, of, at, used)
+            let used = push_entry(flags, here.count, entry, write, here.at, e);
+            Ok(Level::Page(frame, of, used))
         }
-        FirstStep::Fault(reason, fpd, place) => Level::Fault(reason, fpd, place),
     }
 }
 
 // The entry at a host address, fetched.
 pub(crate) fn level_entry(
-    windows: &[u64],
-    image: &[u8],
+    memory: &Memory,
     walk: Walk,
     position: Position,
-    writable: bool,
-    at: u64,
+    here: EntryAt,
     flags: &mut [u64],
-    count: usize,
-) -> Level
-    requires { Opened walk.space.first windows.now (length image.now) × (0 < position.level) × (at % 8 ≡ 0) × (at < 2 ^ 60) × (count + 3 ≤ length flags.old) }
-    ensures flags_after { level_of result walk.asked.address flags.new ≡ entry_over walk.space.registers walk.space.entry walk.asked.address walk.asked.write (of_windows windows.now image.now) position.level at (record { top = position.top; writable = writable; flags = take count flags.old }) }
-    ensures result_value { level_place result ≡ entry_at at }
+) -> Result<Level, Stop<ScalableReason>>
+    requires { (0 < position.level) × (here.at % 8 ≡ 0) × (here.at < 2 ^ 60) × (here.count + 3 ≤ length flags.old) }
+    ensures flags_after { level_of result walk.asked.address flags.new ≡ entry_over walk.space.registers walk.space.entry walk.asked.address walk.asked.write (memory_of memory.now) position.level here.at (record { top = position.top; writable = here.writable; flags = take here.count flags.old }) }
+    ensures level_names { LevelNames result (entry_at here.at) }
     ensures level_reachable { LevelReachable result position.level }
-    ensures level_grows { LevelGrows result (count + 2) }
+    ensures level_grows { LevelGrows result (here.count + 2) }
 {
-    let offset = at % 4096;
-    let Found8::Entry(e) = page_entry8_by(walk.space.first, windows, image, at - offset, offset)
-    else {
-        return Level::Fault(unfetchable(position.top), walk.space.entry.fpd, at);
+    let offset = here.at % 4096;
+    let table = here.at - offset;
+    let Ok(e) = memory.table_entry::<u64>(table, offset) else {
+        return Err(walk.space.entry.stop(unfetchable(position.top), here.at));
     };
-    level_step(walk, position.level, writable, at, e, flags, count)
+    level_step(walk, position.level, here, e, flags)
 }

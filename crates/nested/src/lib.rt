@@ -3,8 +3,7 @@
 
 ghost use Rattle.std.specs.Prelude.{Bool, List, ◌≡◌, length, take, ℕ, ◌≤◌};
 ghost use Rattle.image.specs.Place.{entry_at};
-ghost use Rattle.image.specs.Spans.{Opened};
-ghost use Rattle.image.specs.Windows.{of_windows};
+ghost use Rattle.image.specs.Answers.{memory_of};
 ghost use Rattle.nested.specs.Pages.{first_handed, PagesWalkable};
 ghost use Rattle.nested.specs.Positions.{kind_rules, rest_rules, PagesTell, PositionFits};
 
@@ -13,17 +12,24 @@ mod position;
 mod turn;
 mod way;
 
+use faults::Stop;
+use image::Memory;
 use pasid::{PasidEntry, ScalableReason, ScalableRegisters};
 use position::Position;
 pub use position::{Asked, Walk};
-use turn::{Turn, take_turn};
+use std::ops::ControlFlow;
+use turn::take_turn;
 
+// The page that a translation comes to.
 #[derive(Clone, Copy)]
-pub enum Pages {
-    // The frame of the page, the level of its entry, the host address, and how many flags there are.
-    Reached(u64, u32, u64, usize),
-    // Why, FPD, and the host address of the entry concerned.
-    Fault(ScalableReason, bool, u64),
+pub struct Reached {
+    pub frame: u64,
+    // Of its entry.
+    pub level: u32,
+    // The host address.
+    pub host: u64,
+    // How many flags are collected.
+    pub count: usize,
 }
 
 // at: the host address of the PASID table entry, which was tried last.
@@ -51,15 +57,21 @@ fn first_position(entry: PasidEntry, at: u64, address: u64) -> Position
 }
 
 // By PGTT, where it is none that passes through. at: the host address of the PASID table entry, which was tried last.
-pub fn walk_pages(windows: &[u64], image: &[u8], walk: Walk, at: u64, flags: &mut [u64]) -> Pages
-    requires { Opened walk.space.first windows.now (length image.now) × PagesWalkable walk.space.entry × (47 ≤ length flags.old) }
-    ensures { PagesTell result (kind_rules walk.space.registers walk.space.entry walk.asked.address walk.asked.write) (of_windows windows.now image.now) (entry_at at) flags.new }
+pub fn walk_pages(
+    memory: &Memory,
+    walk: Walk,
+    at: u64,
+    flags: &mut [u64],
+) -> Result<Reached, Stop<ScalableReason>>
+    requires { PagesWalkable walk.space.entry × (47 ≤ length flags.old) }
+    ensures { PagesTell result (kind_rules walk.space.registers walk.space.entry walk.asked.address walk.asked.write) (memory_of memory.now) (entry_at at) flags.new }
 {
     let mut position = first_position(walk.space.entry, at, walk.asked.address);
+    // A loop: an entry tells where the next turn stands, and whether there is one; no range or list has its turns.
     loop {
-        match take_turn(windows, image, walk, position, flags) {
-            Turn::On(next) => position = next,
-            Turn::Done(pages) => return pages,
+        match take_turn(memory, walk, position, flags)? {
+            ControlFlow::Continue(next) => position = next,
+            ControlFlow::Break(page) => return Ok(page),
         }
     }
 }

@@ -28,3 +28,14 @@ pub struct Position {
     // How many flags are collected.
     pub count: usize,
 }
+
+// Where a first-level entry stands.
+#[derive(Clone, Copy)]
+pub struct EntryAt {
+    // Its host address.
+    pub at: u64,
+    // The way to it may be written.
+    pub writable: bool,
+    // How many flags are collected.
+    pub count: usize,
+}

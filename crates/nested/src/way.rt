@@ -2,28 +2,23 @@
 ghost use Rattle.std.specs.Prelude.{◌||◌, ◌≡◌, eqb, length, take, ◌+◌, ◌%◌, ◌^◌, ◌<◌, ◌≤◌};
 ghost use Rattle.image.specs.Place.{entry_at, last_tried};
 ghost use Rattle.image.specs.Rules.{run};
-ghost use Rattle.image.specs.Spans.{Opened};
-ghost use Rattle.image.specs.Windows.{of_windows};
+ghost use Rattle.image.specs.Answers.{memory_of};
 ghost use Rattle.nested.specs.Pages.{intermediate_rules, SecondWalkable};
 ghost use Rattle.nested.specs.Positions.{place_at, wanted_at, PositionFits, WayTells};
 ghost use Rattle.second.specs.Answers.{walked_of, Names, Grown};
 ghost use Rattle.second.specs.Second.{Reachable};
 
-use crate::Pages;
-use crate::position::{Position, Walk};
+use crate::Reached;
+use crate::position::{EntryAt, Position, Walk};
 use dma::{entry_offset, host_address, overflows};
+use faults::Stop;
+use image::Memory;
 use pasid::{PasidEntry, ScalableReason};
-use second::{Walked, Wanted, second_walk};
-
-#[derive(Clone, Copy)]
-pub enum Way {
-    // An entry's host address, whether the way to it may be written, and how many flags there are then.
-    Entry(u64, bool, usize),
-    // The page, or why there is none.
-    Done(Pages),
-}
+use second::{Page, Wanted, second_walk};
+use std::ops::ControlFlow;
 
 // Of the next entry in its table, or of the page itself.
+#[tactic(auto, unfolding(crate::specs::Positions::place_at))]
 fn place_of(address: u64, level: u32, at: u64) -> u64
     requires { (level ≤ 5) × (0 < level → (at % 4096 ≡ 0) × (at < 2 ^ 52)) }
     ensures value { result ≡ place_at address level at }
@@ -43,6 +38,7 @@ fn through_second(kind: u8, level: u32) -> bool
 }
 
 // An entry is read, and with SLADE written; a page is what the request says.
+#[tactic(auto, unfolding(crate::specs::Positions::wanted_at))]
 fn wanted_at(entry: PasidEntry, write: bool, level: u32) -> Wanted
     ensures { result ≡ wanted_at entry write level }
 {
@@ -60,61 +56,58 @@ fn wanted_at(entry: PasidEntry, write: bool, level: u32) -> Wanted
 
 // Through the second level, to an intermediate address.
 fn intermediate(
-    windows: &[u64],
-    image: &[u8],
+    memory: &Memory,
     walk: Walk,
     position: Position,
     address: u64,
     flags: &mut [u64],
-) -> Walked
-    requires { Opened walk.space.first windows.now (length image.now) × SecondWalkable walk.space.entry × (position.count + 6 ≤ length flags.old) }
-    ensures flags_after { walked_of result flags.new ≡ run (intermediate_rules walk.space.registers walk.space.entry (wanted_at walk.space.entry walk.asked.write position.level) address (take position.count flags.old)) (of_windows windows.now image.now) }
-    ensures names { Names result (last_tried (entry_at position.last) (intermediate_rules walk.space.registers walk.space.entry (wanted_at walk.space.entry walk.asked.write position.level) address (take position.count flags.old)) (of_windows windows.now image.now)) }
+) -> Result<Page, Stop<ScalableReason>>
+    requires { SecondWalkable walk.space.entry × (position.count + 6 ≤ length flags.old) }
+    ensures flags_after { walked_of result flags.new ≡ run (intermediate_rules walk.space.registers walk.space.entry (wanted_at walk.space.entry walk.asked.write position.level) address (take position.count flags.old)) (memory_of memory.now) }
+    ensures names { Names result (last_tried (entry_at position.last) (intermediate_rules walk.space.registers walk.space.entry (wanted_at walk.space.entry walk.asked.write position.level) address (take position.count flags.old)) (memory_of memory.now)) }
     ensures reachable { Reachable (walked_of result flags.new) }
     ensures grown { Grown result position.count (position.count + 6) }
 {
     let space = walk.space;
     if overflows(space.registers.base, space.entry.second_levels, address) {
-        return Walked::Fault(
-            ScalableReason::IntermediateOverflow,
-            space.entry.fpd,
-            position.last,
-        );
+        let reason = ScalableReason::IntermediateOverflow;
+        return Err(space.entry.stop(reason, position.last));
     }
     let wanted = wanted_at(space.entry, walk.asked.write, position.level);
-    second_walk(
-        windows,
-        image,
-        walk.space,
-        wanted,
-        address,
-        flags,
-        position.count,
-    )
+    second_walk(memory, space, wanted, address, flags, position.count)
 }
 
+// The next entry, or the page where there is none.
 pub(crate) fn locate(
-    windows: &[u64],
-    image: &[u8],
+    memory: &Memory,
     walk: Walk,
     position: Position,
     flags: &mut [u64],
-) -> Way
-    requires { Opened walk.space.first windows.now (length image.now) × PositionFits walk.space.entry position × (47 ≤ length flags.old) }
-    ensures { WayTells result walk position (of_windows windows.now image.now) flags.old flags.new }
+) -> Result<ControlFlow<Reached, EntryAt>, Stop<ScalableReason>>
+    requires { PositionFits walk.space.entry position × (47 ≤ length flags.old) }
+    ensures { WayTells result walk position (memory_of memory.now) flags.old flags.new }
 {
     let place = place_of(walk.asked.address, position.level, position.at);
     if !through_second(walk.space.entry.kind, position.level) {
-        return Way::Entry(place, true, position.count);
+        return Ok(ControlFlow::Continue(EntryAt {
+            at: place,
+            writable: true,
+            count: position.count,
+        }));
     }
-    match intermediate(windows, image, walk, position, place, flags) {
-        Walked::Page(frame, level, writable, count) => {
-            let host = host_address(level, frame, place);
-            if position.level == 0 {
-                return Way::Done(Pages::Reached(frame, level, host, count));
-            }
-            Way::Entry(host, writable, count)
-        }
-        Walked::Fault(reason, fpd, at) => Way::Done(Pages::Fault(reason, fpd, at)),
+    let page = intermediate(memory, walk, position, place, flags)?;
+    let host = host_address(page.level, page.frame, place);
+    if position.level == 0 {
+        return Ok(ControlFlow::Break(Reached {
+            frame: page.frame,
+            level: page.level,
+            host,
+            count: page.count,
+        }));
     }
+    Ok(ControlFlow::Continue(EntryAt {
+        at: host,
+        writable: page.writable,
+        count: page.count,
+    }))
 }

@@ -5,8 +5,9 @@ use native.Mathlib.Omega.{arith}
 use borrow.Author.Tests.{eqb-true, eqb-false}
 use lib.Dec.{eqb}
 use lib.ListN.{take}
+use Rattle.std.proofs.lemmas.Result.{err_from_is_err_and}
+use Rattle.image.specs.Answers.{memory_of}
 use Rattle.image.specs.Rules.{run}
-use Rattle.image.specs.Windows.{of_windows}
 use Rattle.image.proofs.Choices.{neither, above_zero}
 use Rattle.pasid.specs.declared.table.PasidEntry.{PasidEntry}
 use Rattle.nested.specs.Pages.{first_handed, locate, SecondWalkable}
@@ -37,60 +38,57 @@ asks p s fits second = by (eqb s.level 0) refl
 
 pub place_of-place-requires : goal.place_of-place-requires
 place_of-place-requires c =
-    let fits = c.requires.1 in
+    let fits = c.requires.0 in
     (few c.args.walk.space.entry c.args.position fits, λ more. ((fits.0 more).2, (fits.0 more).3))
 
 -- an entry, which stands at its address itself
 pub returns-then-not-through_second : goal.returns-then-not-through_second
 returns-then-not-through_second c =
     let w = c.args.walk in
+    let s = c.args.position in
+    let m = memory_of c.args.memory.now in
     let at = c.place_of-place in
+    let given = first_handed s.top (take s.count c.args.flags.now) in
     let other = neither _ _ (sym c.through_second.ensures ∙ c.if-not-through_second.true) in
-    let more = above_zero c.args.position.level other.0 in
-    let place = entry_place w.space.registers w.space.entry w.asked.address w.asked.write (of_windows c.args.windows.now c.args.image.now) c.args.position.level c.args.position.at at.result (first_handed c.args.position.top (take c.args.position.count c.args.flags.now)) at.ensures.value more in
+    let more = above_zero s.level other.0 in
+    let place = entry_place w.space.registers w.space.entry w.asked.address w.asked.write m s.level s.at at.result given at.ensures.value more in
     let fine = at.ensures.result_value more in (
       more,
       fine.0,
       omega (arith, fine.1),
       omega arith,
-      itself w.space.registers w.space.entry (first_handed c.args.position.top (take c.args.position.count c.args.flags.now)) at.result (of_windows c.args.windows.now c.args.image.now) (eqb-false w.space.entry.kind 3 other.1)
-          ∙ ap (λ (x : ℕ). run (locate w.space.registers w.space.entry (first_handed c.args.position.top (take c.args.position.count c.args.flags.now)) x) (of_windows c.args.windows.now c.args.image.now)) place,
+      itself w.space.registers w.space.entry given at.result m (eqb-false w.space.entry.kind 3 other.1)
+          ∙ ap (λ (x : ℕ). run (locate w.space.registers w.space.entry given x) m) place,
     )
 
 -- or the second level is asked
-second : (c : Else-not-through_second) → (eqb c.args.position.level 0 || eqb c.args.walk.space.entry.kind 3) ≡ true
-second c = sym c.through_second.ensures ∙ c.if-not-through_second.false
-
 pub intermediate-requires : goal.intermediate-requires
 intermediate-requires c =
-    let may = asks c.args.walk.space.entry c.args.position c.requires.1 (second (goal.at.intermediate-requires c).Else-not-through_second) in
-    (c.requires.0, may.0, omega (arith, may.1, c.requires.2))
+    let may = asks c.args.walk.space.entry c.args.position c.requires.0 (sym c.through_second.ensures ∙ c.if-not-through_second.false) in
+    (may.0, omega (arith, may.1, c.requires.1))
 
-pub host_address-host-requires : goal.host_address-host-requires
-host_address-host-requires c =
-    let page = rw c.in-Page.is at c.intermediate.ensures.reachable in
-    (page.0, page.1, page.2)
+pub returns-in_err-page : goal.returns-in_err-page
+returns-in_err-page c =
+    let a = c.args in
+    let at = c.place_of-place in
+    let e = c.in_err-page.ensures in
+    let p = err_from_is_err_and c.from_residual.result c.from_residual.ensures.1 in
+    rw (p.1, p.2)
+    (fault-tells a.walk a.position (memory_of a.memory.now) a.flags.now c.intermediate.new.flags at.result at.ensures.value
+    (sym c.through_second.ensures ∙ c.if-not-through_second.false) c.in_err-page.field-0.0 e.flags_after e.names)
 
-told : (c : After-host_address-host) → let a = c.args in let n = c.in-Page in
-    PageTells a.walk a.position (of_windows a.windows.now a.image.now) a.flags.now c.intermediate.new.flags c.place_of-place.result n.frame n.level c.host_address-host.result n.writable n.count
+told : (c : After-host_address-host) → let a = c.args in let p = c.in_ok-page.page in
+    PageTells a.walk a.position (memory_of a.memory.now) a.flags.now c.intermediate.new.flags c.place_of-place.result p.frame p.level c.host_address-host.result p.writable p.count
 told c =
     let a = c.args in
     let at = c.place_of-place in
-    let e = c.intermediate.ensures in
-    page-tells a.walk a.position (of_windows a.windows.now a.image.now) a.flags.now c.intermediate.new.flags at.result at.ensures.value
-    (sym c.through_second.ensures ∙ c.if-not-through_second.false) c.requires.1 (λ more. (at.ensures.result_value more).0) c.host_address-host.ensures
-    (rw c.in-Page.is at e.flags_after) (rw c.in-Page.is at e.reachable) (rw c.in-Page.is at e.grown).1
+    let e = c.in_ok-page.ensures in
+    page-tells a.walk a.position (memory_of a.memory.now) a.flags.now c.intermediate.new.flags at.result at.ensures.value
+    (sym c.through_second.ensures ∙ c.if-not-through_second.false) c.requires.0 (λ more. (at.ensures.result_value more).0) c.host_address-host.ensures
+    e.flags_after e.reachable e.grown.1
 
 pub returns-then-position-eq0 : goal.returns-then-position-eq0
 returns-then-position-eq0 c = (told (goal.at.returns-then-position-eq0 c).After-host_address-host).0 c.if-position-eq0.true
 
-pub returns-else-position-eq0 : goal.returns-else-position-eq0
-returns-else-position-eq0 c = (told (goal.at.returns-else-position-eq0 c).After-host_address-host).1 c.if-position-eq0.false
-
-pub returns-in-Fault : goal.returns-in-Fault
-returns-in-Fault c =
-    let a = c.args in
-    let at = c.place_of-place in
-    let e = c.intermediate.ensures in
-    fault-tells a.walk a.position (of_windows a.windows.now a.image.now) a.flags.now c.intermediate.new.flags at.result at.ensures.value
-    (sym c.through_second.ensures ∙ c.if-not-through_second.false) c.in-Fault.reason (rw c.in-Fault.is at e.flags_after) (rw c.in-Fault.is at e.names)
+pub returns : goal.returns
+returns c = (told (goal.at.returns c).After-host_address-host).1 c.if-position-eq0.false
