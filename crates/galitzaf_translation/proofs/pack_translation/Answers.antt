@@ -1,4 +1,4 @@
-use mathlib.Core.Path.{ap, sym, ◌∙◌}
+use mathlib.Core.Path.{ap, sym}
 use Rattle.translation.specs.Answers.{outcome_of, entry_of}
 use Rattle.translation.specs.declared.TranslationAnswer.{TranslationAnswer}
 use Rattle.packing.specs.Translations.{translation_bytes}
@@ -9,8 +9,3 @@ pub returns-in-Passed : goal.returns-in-Passed
 returns-in-Passed c =
     rw (c.head.ensures, low-alone c.in-Passed.address)
     (sym (ap (λ (a : TranslationAnswer). translation_bytes (outcome_of a) (entry_of a)) c.in-Passed.is))
-
-pub returns-in-Empty : goal.returns-in-Empty
-returns-in-Empty c =
-    c.short.ensures ∙ rw c.head-in-Empty.ensures
-    (sym (ap (λ (a : TranslationAnswer). translation_bytes (outcome_of a) (entry_of a)) c.in-Empty.is))
