@@ -1,4 +1,3 @@
-pub mod Laid
 pub mod SpanLaws
 pub mod NextSpan
 pub mod Outcomes

@@ -1,15 +1,12 @@
 -- Rows filled span by span.
-use Prim.Native.Nat.{ℕ, suc, ◌+◌, ◌*◌, ◌≤◌}
-use mathlib.Core.Bool.{true, false}
-use mathlib.Core.List.{List, [], ◌∷◌, ◌++◌, append_assoc, append-nil}
+use Prim.Native.Nat.{ℕ, ◌+◌, ◌*◌, ◌≤◌}
+use mathlib.Core.List.{List, [], ◌∷◌, ◌++◌, append_assoc}
 use mathlib.Core.Path.{◌≡◌, refl, ap, sym, ◌∙◌}
 use native.Mathlib.Omega.{arith}
-use borrow.Author.Tests.{lt-ltb, le-ltb}
-use lib.ListN.{length, take, drop, length-append, length-take, length-drop}
-use lib.Seq.{take_at, take_all, drop-drop, drop-append-add}
+use lib.ListN.{length, take, drop, length-append}
+use lib.Seq.{take_at, drop-drop, drop-append-add}
 use Rattle.dma.specs.InterruptRange.{span_at}
 use Rattle.regions.specs.Region.{Region}
-use Rattle.mapping.specs.Filled.{FilledWith}
 use Rattle.mapping.specs.Rows.{span_row, rows_of, laid_over}
 use Rattle.mapping.specs.Search.{FirstSpan}
 use Rattle.mapping.specs.Spans.{Span, span_of, spans_after}
@@ -24,11 +21,6 @@ pub rows-length : (l : List Span) → length (rows_of l) ≡ 4 * length l
 unfolding rows_of
 rows-length [] = refl
 rows-length (s ∷ ss) = let rest = rows-length ss in omega arith
-
--- a row takes the place of another
-pub put-length : (before after : List ℕ) (n : ℕ) (s : Span) → after ≡ take n before ++ (span_row s ++ drop (n + 4) before)
-    → n + 4 ≤ length before → length after ≡ length before
-put-length before after n s is fits = ap length is ∙ simp (length-append, length-take, length-drop) (omega arith)
 
 -- so many spans from the first on stand in the rows, and the listing goes on from an address
 pub record Done (region : (address : ℕ) → Region) (end : ℕ) (before after : List ℕ) (count from : ℕ) : Type 0 where
@@ -53,32 +45,12 @@ module _ (region : (address : ℕ) → Region) (end : ℕ) (before : List ℕ) w
     laid : {l : List Span} → l ≡ d.spans → after ≡ laid_over (rows_of l) before
     laid is = d.written ∙ rw (is, rows-length d.spans, d.counted)
 
-    pub done_all : spans_after region end from ≡ [] → count ≤ most → FilledWith all before after count false
-    done_all last fits =
-        let whole : all ≡ d.spans = d.parts ∙ ap (λ l. d.spans ++ l) last ∙ append-nil d.spans in
-        let long : length all ≡ count = ap length whole ∙ d.counted in
-        record {
-          counted = rw long (omega arith);
-          told = rw long (sym (le-ltb most count fits));
-          written = laid (take_all most all (omega arith) ∙ whole);
-        }
-
     module _ {start : ℕ} {r : Region} (next : FirstSpan region end from start r) where
       abbrev span : Span
       span = span_of end start r
 
       abbrev rest : List Span
       rest = spans_after region end (start + span_at r.level)
-
-      pub done_full : count ≡ most → FilledWith all before after count true
-      done_full full =
-          let whole : all ≡ d.spans ++ (span ∷ rest) = d.parts ∙ ap (λ l. d.spans ++ l) next.listing in
-          let long : length all ≡ count + suc (length rest) = ap length whole ∙ length-append d.spans (span ∷ rest) ∙ ap (λ (n : ℕ). n + suc (length rest)) d.counted in
-          record {
-            counted = omega arith;
-            told = sym (lt-ltb most (length all) (omega arith));
-            written = laid (ap (take most) whole ∙ take_at d.spans (span ∷ rest) most (d.counted ∙ full));
-          }
 
       pub done_more : {after' : List ℕ} → 4 * count + 4 ≤ length before
           → after' ≡ take (4 * count) after ++ (span_row span ++ drop (4 * count + 4) after)

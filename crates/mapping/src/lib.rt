@@ -1,12 +1,10 @@
 // What is mapped for a source: its pages, and the faults in their place, in address order (document 02, Ask 4).
 #![tactic(auto)]
 
-ghost use Rattle.std.specs.Prelude.{false, ◌≡◌, length, replicate, ℕ, ◌+◌, ◌*◌, ◌%◌, ◌^◌, ◌<◌, ◌≤◌, min};
+ghost use Rattle.std.specs.Prelude.{Ok, false, ◌≡◌, length, replicate, ℕ, ◌+◌, ◌*◌, ◌%◌, ◌^◌, ◌<◌, ◌≤◌, min};
+ghost use Rattle.image.specs.Answers.{memory_of};
 ghost use Rattle.image.specs.Rules.{run};
-ghost use Rattle.image.specs.Windows.{of_windows, bad_windows};
-ghost use Rattle.dma.specs.Answers.{lookup_of};
 ghost use Rattle.dma.specs.Context.{Usable};
-ghost use Rattle.dma.specs.Lookup.{lookup_rules};
 ghost use Rattle.regions.specs.Known.{Sound};
 ghost use Rattle.regions.specs.Outside.{table_outside};
 ghost use Rattle.mapping.specs.Answers.{told_as};
@@ -17,18 +15,16 @@ mod filling;
 mod rows;
 mod search;
 
-use dma::{Context, Lookup, find_context};
+use dma::{Context, find_context};
 use faults::Reason;
 use filling::fill;
-use image::{bad_windows, first_span};
+use image::Memory;
 use regions::{Tables, forget};
-use registers::{Admission, Page4K, Registers, SourceId, admit};
+use registers::{Admission, Page4K, Refusal, Registers, SourceId, admit};
 pub use rows::SPANS;
 
-#[derive(Clone, Copy)]
+#[derive(Clone, Copy, Debug, PartialEq, Eq)]
 pub enum Listing {
-    // By number: 1, bad registers or windows.
-    Refused(u8),
     // TE is off, or the context passes through.
     Passed,
     // Of the root or context entry.
@@ -42,26 +38,20 @@ fn space_end(mgaw: u8, levels: u32) -> u64
     requires { (12 ≤ mgaw) × (0 < levels) × (levels ≤ 5) }
     ensures { (result ≡ 2 ^ min mgaw (12 + 9 * levels)) × (result ≤ 2 ^ 57) × (result % 4096 ≡ 0) }
 {
-    let narrow = mgaw as u32;
-    let wide = Page4K::SHIFT + 9 * levels;
-    if narrow < wide {
-        return 1u64 << narrow;
-    }
-    1u64 << wide
+    1u64 << (mgaw as u32).min(Page4K::SHIFT + 9 * levels)
 }
 
 // Past the root and context entries.
 fn list_context(
-    windows: &[u64],
-    image: &[u8],
+    memory: &Memory,
     registers: Registers,
     context: Context,
     known: &mut [u64],
     rows: &mut [u64],
 ) -> Listing
-    requires { (bad_windows windows.now (length image.now) ≡ false) × Usable context × (12 ≤ registers.mgaw)
-        × Sound registers (of_windows windows.now image.now) (table_outside windows.now) known.old }
-    ensures listed_as { ListedAs (in_context registers (of_windows windows.now image.now) (table_outside windows.now) context) rows.old rows.new (told_as result) }
+    requires { Usable context × (12 ≤ registers.mgaw)
+        × Sound registers (memory_of memory.now) (table_outside memory.now.windows.now) known.old }
+    ensures listed_as { ListedAs (in_context registers (memory_of memory.now) (table_outside memory.now.windows.now) context) rows.old rows.new (told_as (Ok result)) }
     ensures known_len_unchanged { length known.new ≡ length known.old }
 {
     if context.translation_type == 2 {
@@ -73,42 +63,26 @@ fn list_context(
         levels: context.levels,
         top: context.top,
     };
-    let filled = fill(windows, image, tables, end, known, rows);
+    let filled = fill(memory, tables, end, known, rows);
     Listing::Spans(filled.count, filled.more)
-}
-
-fn find_source_context(
-    windows: &[u64],
-    image: &[u8],
-    registers: Registers,
-    source: SourceId,
-) -> Lookup
-    requires { (bad_windows windows.now (length image.now) ≡ false) × (registers.root_table % 4096 ≡ 0) }
-    ensures { lookup_of result ≡ run (lookup_rules registers source.id) (of_windows windows.now image.now) }
-{
-    find_context(first_span(windows), windows, image, registers, source)
 }
 
 // Past the registers.
 fn list_source(
-    windows: &[u64],
-    image: &[u8],
+    memory: &Memory,
     registers: Registers,
     source: SourceId,
     known: &mut [u64],
     rows: &mut [u64],
 ) -> Listing
-    requires { (bad_windows windows.now (length image.now) ≡ false) × (registers.root_table % 4096 ≡ 0) × (12 ≤ registers.mgaw)
-        × Sound registers (of_windows windows.now image.now) (table_outside windows.now) known.old }
-    ensures listed_as { ListedAs (run (source_rules registers (of_windows windows.now image.now) (table_outside windows.now) source.id) (of_windows windows.now image.now)) rows.old rows.new (told_as result) }
+    requires { (registers.root_table % 4096 ≡ 0) × (12 ≤ registers.mgaw)
+        × Sound registers (memory_of memory.now) (table_outside memory.now.windows.now) known.old }
+    ensures listed_as { ListedAs (run (source_rules registers (memory_of memory.now) (table_outside memory.now.windows.now) source.id) (memory_of memory.now)) rows.old rows.new (told_as (Ok result)) }
     ensures known_len_unchanged { length known.new ≡ length known.old }
 {
-    let found = find_source_context(windows, image, registers, source);
-    match found {
-        Lookup::Fault(reason, _, _) => Listing::Fault(reason),
-        Lookup::Found(context, _) => {
-            list_context(windows, image, registers, context, known, rows)
-        }
+    match find_context(memory, registers, source) {
+        Ok(found) => list_context(memory, registers, found.context, known, rows),
+        Err(stop) => Listing::Fault(stop.reason),
     }
 }
 
@@ -122,21 +96,20 @@ pub fn list_spans(
     source: SourceId,
     known: &mut [u64],
     rows: &mut [u64],
-) -> Listing
+) -> Result<Listing, Refusal>
     ensures listed_as { ListedAs (mapping_answer registers source.id windows.now image.now) rows.old rows.new (told_as result) }
     ensures known_after { known.new ≡ replicate {A = ℕ} (length known.old) 0 }
 {
     forget(known);
-    if bad_windows(windows, image.len()) {
-        return Listing::Refused(1);
-    }
-    match admit(registers, false, registers.te) {
-        Admission::Refused(number) => Listing::Refused(number),
-        Admission::Passed => Listing::Passed,
+    let Some(memory) = Memory::open(windows, image) else {
+        return Err(Refusal::BadRegisters);
+    };
+    match admit(registers, false, registers.te)? {
+        Admission::Passed => Ok(Listing::Passed),
         Admission::Taken => {
-            let listing = list_source(windows, image, registers, source, known, rows);
+            let listing = list_source(&memory, registers, source, known, rows);
             forget(known);
-            listing
+            Ok(listing)
         }
     }
 }

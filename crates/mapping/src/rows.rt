@@ -1,9 +1,9 @@
 // The lent rows, four numbers a span.
-ghost use Rattle.std.specs.Prelude.{[], ◌∷◌, ◌++◌, ◌≡◌, length, take, drop, ◌+◌, ◌*◌, ◌<◌, ◌≤◌, min};
+ghost use Rattle.std.specs.Prelude.{[], ◌∷◌, ◌++◌, ◌≡◌, length, take, drop, ◌+◌, ◌*◌, ◌<◌, ◌≤◌};
 ghost use Rattle.regions.specs.Answers.{what_of, region_of};
 ghost use Rattle.mapping.specs.Rows.{value_of, what_kind, span_row};
 ghost use Rattle.mapping.specs.Spans.{span_of};
-ghost use Rattle.mapping.specs.Told.{room as roomIn};
+ghost use Rattle.mapping.specs.Told.{room as room_in};
 
 use regions::{Region, What, rights_number, table_span};
 
@@ -11,33 +11,30 @@ use regions::{Region, What, rights_number, table_span};
 pub const SPANS: usize = 4096;
 
 pub(crate) fn room(numbers: usize) -> usize
-    ensures { result ≡ roomIn numbers }
+    ensures { result ≡ room_in numbers }
 {
-    if numbers / 4 < SPANS {
-        return numbers / 4;
-    }
-    SPANS
+    (numbers / 4).min(SPANS)
 }
 
-fn value(what: What) -> u64
+fn value(what: Option<What>) -> u64
     ensures { result ≡ value_of (what_of what) }
 {
     match what {
-        What::Page(frame) => frame,
-        What::Fault(reason) => reason.number() as u64,
-        What::Refused(number) => number as u64,
-        What::Nothing => 0,
+        Some(What::Page(frame)) => frame,
+        Some(What::Fault(reason)) => reason.number() as u64,
+        Some(What::Refused(refusal)) => refusal.number() as u64,
+        None => 0,
     }
 }
 
-fn kind(what: What) -> u64
+fn kind(what: Option<What>) -> u64
     ensures { (result ≡ what_kind (what_of what)) × (result < 4) }
 {
     match what {
-        What::Page(_) => 0,
-        What::Fault(_) => 1,
-        What::Refused(_) => 2,
-        What::Nothing => 3,
+        Some(What::Page(_)) => 0,
+        Some(What::Fault(_)) => 1,
+        Some(What::Refused(_)) => 2,
+        None => 3,
     }
 }
 
@@ -47,23 +44,14 @@ fn put_row(rows: &mut [u64], count: usize, start: u64, size: u64, value: u64, la
     ensures { rows.new ≡ take (4 * count) rows.old ++ ((start ∷ size ∷ value ∷ last ∷ []) ++ drop (4 * count + 4) rows.old) }
 {
     let at = 4 * count;
-    rows[at] = start;
-    rows[at + 1] = size;
-    rows[at + 2] = value;
-    rows[at + 3] = last;
-}
-
-fn smaller(a: u64, b: u64) -> u64
-    ensures { result ≡ min a b }
-{
-    if a < b { a } else { b }
+    rows[at..at + 4].copy_from_slice(&[start, size, value, last]);
 }
 
 pub(crate) fn put_span(rows: &mut [u64], count: usize, end: u64, start: u64, region: Region)
     requires { (4 * count + 4 ≤ length rows.old) × (start < end) × (0 < region.level) × (region.level ≤ 6) }
     ensures { rows.new ≡ take (4 * count) rows.old ++ (span_row (span_of end start (region_of region)) ++ drop (4 * count + 4) rows.old) }
 {
-    let size = smaller(table_span(region.level - 1), end - start);
+    let size = table_span(region.level - 1).min(end - start);
     let what = region.what;
     let rights = region.rights;
     put_row(

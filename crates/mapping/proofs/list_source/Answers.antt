@@ -1,5 +1,6 @@
-use mathlib.Core.Path.{refl, ap, sym, ◌∙◌, subst}
-use Rattle.image.specs.Windows.{of_windows}
+use mathlib.Core.Path.{ap, sym, ◌∙◌, subst}
+use Rattle.std.specs.Prelude.{Ok}
+use Rattle.image.specs.Answers.{memory_of}
 use Rattle.faults.specs.Reason.{number_of}
 use Rattle.dma.specs.Answers.{lookup_of}
 use Rattle.dma.proofs.Lookups.{Finds, finds}
@@ -14,31 +15,21 @@ use Rattle.mapping.proofs.list_source.Goals as goal
 pub list_context-requires : goal.list_context-requires
 list_context-requires c =
     let a = c.args in (
-      c.requires.0,
-      subst Finds (sym c.find_source_context-found.ensures ∙ ap lookup_of c.in-Found.is) (finds a.registers a.source.id (of_windows a.windows.now a.image.now)),
+      subst Finds (sym c.find_context.ensures.result_value ∙ ap lookup_of c.in-Ok.is) (finds a.registers a.source.id (memory_of a.memory.now)),
+      c.requires.1,
       c.requires.2,
-      c.requires.3,
     )
 
-pub returns-in-Fault : goal.returns-in-Fault
-returns-in-Fault c =
+pub returns-in-Err-clause-listed_as : goal.returns-in-Err-clause-listed_as
+returns-in-Err-clause-listed_as c =
     let a = c.args in
-    record {
-      listed_as = subst (λ (k : Mapped). ListedAs k a.rows.now a.rows.now (told.faulted (number_of c.in-Fault.reason)))
-          (sym (source-fault a.registers (of_windows a.windows.now a.image.now) (table_outside a.windows.now) a.source.id _ _ (sym c.find_source_context-found.ensures ∙ ap lookup_of c.in-Fault.is)))
-          (told-faulted _ a.rows.now);
-      known_len_unchanged = refl;
-    }
+    subst (λ (k : Mapped). ListedAs k a.rows.now a.rows.now (told.faulted (number_of c.in-Err.stop.reason)))
+    (sym (source-fault a.registers (memory_of a.memory.now) (table_outside a.memory.now.windows.now) a.source.id _ _ (sym c.find_context.ensures.result_value ∙ ap lookup_of c.in-Err.is)))
+    (told-faulted _ a.rows.now)
 
-pub shape_of-known : goal.shape_of-known
-shape_of-known c = c.list_context.ensures.known_len_unchanged
-
-pub returns-in-Found : goal.returns-in-Found
-returns-in-Found c =
+pub returns-in-Ok-clause-listed_as : goal.returns-in-Ok-clause-listed_as
+returns-in-Ok-clause-listed_as c =
     let a = c.args in
-    record {
-      listed_as = subst (λ (k : Mapped). ListedAs k a.rows.now c.list_context.new.rows (told_as c.list_context.result))
-          (sym (source-context a.registers (of_windows a.windows.now a.image.now) (table_outside a.windows.now) a.source.id _ (sym c.find_source_context-found.ensures ∙ ap lookup_of c.in-Found.is)))
-          c.list_context.ensures.listed_as;
-      known_len_unchanged = c.list_context.ensures.known_len_unchanged;
-    }
+    subst (λ (k : Mapped). ListedAs k a.rows.now c.list_context.new.rows (told_as (Ok c.list_context.result)))
+    (sym (source-context a.registers (memory_of a.memory.now) (table_outside a.memory.now.windows.now) a.source.id _ (sym c.find_context.ensures.result_value ∙ ap lookup_of c.in-Ok.is)))
+    c.list_context.ensures.listed_as

@@ -1,7 +1,6 @@
 use Prim.Native.Nat.{◌-◌, ◌%◌, ◌^◌, ◌<◌, ◌≤◌}
 use mathlib.Core.Path.{◌≡◌}
-use lib.ListN.{length}
-use Rattle.image.specs.Windows.{of_windows}
+use Rattle.image.specs.Answers.{memory_of}
 use Rattle.regions.specs.Known.{Sound}
 use Rattle.regions.specs.Outside.{table_outside}
 use Rattle.mapping.specs.Mapping.{regions_over}
@@ -14,10 +13,9 @@ invariant-loop-at l =
     (l.from ≤ l.at)
     × (l.at % 4096 ≡ 0)
     × (l.at < 2 ^ 59)
-    × QuietFrom (regions_over l.tables l.windows l.image) l.end l.from l.at
-    × Fresh (regions_over l.tables l.windows l.image) l.at
-    × (length l.known ≡ length l.initial.known)
-    × Sound l.tables.registers (of_windows l.windows l.image) (table_outside l.windows) l.known
+    × QuietFrom (regions_over l.tables l.memory.windows.now l.memory.image.now) l.end l.from l.at
+    × Fresh (regions_over l.tables l.memory.windows.now l.memory.image.now) l.at
+    × Sound l.tables.registers (memory_of l.memory) (table_outside l.memory.windows.now) l.known
 
 abbrev pub decreases-loop-at : goal.decreases-loop-at
 decreases-loop-at l = l.end - l.at
