@@ -8,7 +8,7 @@ ghost use Rattle.galitzaf_listing.specs.Listing.{listing_status, Few, list_call}
 
 use mapping::{Listing, list_spans};
 use packing::{BAD_REGISTERS, BAD_WINDOWS, malformed, unpack};
-use registers::SourceId;
+use registers::{Refusal, SourceId};
 
 // Plus a fault's reason.
 const LISTING_FAULT: u32 = 0x80;
@@ -20,20 +20,18 @@ const LISTED: u32 = 0x2000;
 
 const LISTED_MORE: u32 = 0x6000;
 
-fn listing_status(listing: Listing) -> u32
+fn listing_status(listing: Result<Listing, Refusal>) -> u32
     requires { Few (told_as listing) }
     ensures { result ≡ listing_status (told_as listing) }
 {
     match listing {
-        Listing::Refused(number) => number as u32,
-        Listing::Passed => LISTING_PASSED,
-        Listing::Fault(reason) => LISTING_FAULT + reason.number() as u32,
-        Listing::Spans(count, more) => {
-            if more {
-                return LISTED_MORE + count as u32;
-            }
-            LISTED + count as u32
+        Ok(Listing::Passed) => LISTING_PASSED,
+        Ok(Listing::Fault(reason)) => LISTING_FAULT + reason.number() as u32,
+        Ok(Listing::Spans(count, more)) => {
+            let listed = if more { LISTED_MORE } else { LISTED };
+            listed + count as u32
         }
+        Err(refusal) => refusal.number() as u32,
     }
 }
 
