@@ -4,18 +4,19 @@ ghost use Rattle.takes.specs.Answers.{take_outcome_of};
 ghost use Rattle.galitzaf.specs.Takes.{take_status, take_call};
 
 use packing::{BAD_REGISTERS, BAD_WINDOWS, NONE_STANDS, TAKEN, malformed, unpack};
-use unit::{TakeAnswer, take};
+use unit::{Refusal, take};
 
-fn take_status(answer: TakeAnswer) -> u32
+fn take_status(answer: Result<Option<u8>, Refusal>) -> u32
     ensures { result ≡ take_status (take_outcome_of answer) }
 {
     match answer {
-        TakeAnswer::Vector(vector) => TAKEN + vector as u32,
-        TakeAnswer::Nothing => NONE_STANDS,
-        TakeAnswer::Refused(number) => number as u32,
+        Ok(Some(vector)) => TAKEN + vector as u32,
+        Ok(None) => NONE_STANDS,
+        Err(refusal) => refusal.number() as u32,
     }
 }
 
+#[tactic(auto, unfolding(crate::specs::Takes::take_call))]
 #[unsafe(no_mangle)]
 pub extern "C" fn galitzaf_take(
     registers: &[u8],
