@@ -57,7 +57,7 @@ pub fn record_of(fault: Fault) -> FaultRecord
     }
 }
 
-// The slots of a buffer by its length: none where it isn't one of these.
+// The slots of a buffer by its length: 0 where it isn't one of these, and no Option, since one comparison with a slot then refuses both.
 #[tactic(auto, unfolding(crate::specs::Slots::slots_of))]
 pub fn slot_count(len: usize) -> usize
     ensures { result ≡ slots_of len }

@@ -40,7 +40,7 @@ pub enum Irte {
     },
 }
 
-// All 32 bits only with EIME.
+// All 32 bits only with EIME. A posted descriptor has its own elsewhere: one function for both would take four numbers of bits.
 #[tactic(auto, unfolding(image::specs::Bits::bits))]
 fn destination(eime: bool, e: Entry16) -> u32
     ensures { result ≡ destination_of eime (number16 e) }

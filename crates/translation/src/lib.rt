@@ -42,6 +42,7 @@ pub enum PageSize {
 }
 
 impl PageSize {
+    // A match and no discriminants, which would repeat the spans.
     pub fn bytes(self) -> u64
         ensures { result ≡ size_of self }
     {
