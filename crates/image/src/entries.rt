@@ -9,7 +9,6 @@ ghost use Rattle.image.specs.Windows.{windows_of, window_at, end_of, holds_all, 
 
 use crate::buffer::word;
 use crate::{Entry16, Entry64, Missing, Span};
-use std::num::{wrapping_add_u64, wrapping_sub_u64};
 
 fn span_at(windows: &[u64], i: usize) -> Span
     requires { i + 3 ≤ length windows.now }
@@ -17,7 +16,7 @@ fn span_at(windows: &[u64], i: usize) -> Span
 {
     let start = windows[i];
     let size = windows[i + 2];
-    let shift = wrapping_sub_u64(windows[i + 1], start);
+    let shift = windows[i + 1].wrapping_sub(start);
     Span { start, size, shift }
 }
 
@@ -41,7 +40,7 @@ fn contains(span: Span, at: u64) -> bool
     requires { end_of (window_by span) ≤ 2 ^ 64 }
     ensures { result ≡ holds_all (window_by span) 1 at }
 {
-    wrapping_sub_u64(at, span.start) < span.size
+    at.wrapping_sub(span.start) < span.size
 }
 
 // Unrolled: a loop over the windows is slower than their tests.
@@ -97,7 +96,7 @@ pub fn place_in(span: Span, at: u64) -> usize
     requires { (holds_all (window_by span) 1 at ≡ true) × ((window_by span).place + (window_by span).size < 2 ^ 64) }
     ensures { result ≡ (window_by span).place + (at - (window_by span).start) }
 {
-    wrapping_add_u64(at, span.shift) as usize
+    at.wrapping_add(span.shift) as usize
 }
 
 // The 4 KiB page of a table, as a part of the run: as much of it as the window in which it begins holds.

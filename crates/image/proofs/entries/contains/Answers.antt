@@ -7,4 +7,4 @@ pub returns : goal.returns
 returns c =
     let k = c in
     let s = k in
-    one-test (window_by s.args.span) s.args.at (omega arith) s.requires (omega arith) k.wrapping_sub_u64.ensures.value
+    one-test (window_by s.args.span) s.args.at (omega arith) s.requires (omega arith) (omega arith)

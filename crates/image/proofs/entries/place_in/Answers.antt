@@ -6,4 +6,4 @@ use Rattle.image.proofs.entries.place_in.Goals as goal
 pub returns : goal.returns
 returns c =
     let s = c in
-    one-sum (window_by s.args.span) s.args.at (omega arith) (omega arith) s.requires.1 s.requires.0 refl (omega arith) c.wrapping_add_u64.ensures.value
+    one-sum (window_by s.args.span) s.args.at (omega arith) (omega arith) s.requires.1 s.requires.0 refl (omega arith) refl

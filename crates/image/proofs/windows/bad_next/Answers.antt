@@ -1,4 +1,4 @@
-use Rattle.std.proofs.Common.{◌+◌, sym, ◌∙◌}
+use Rattle.std.proofs.Common.{refl, ◌+◌, sym, ◌∙◌}
 use Rattle.image.specs.Windows.{window_at}
 use Rattle.image.proofs.WindowRows.{part-next, next-wraps, next-is}
 use Rattle.image.proofs.windows.bad_next.Goals as goal
@@ -15,7 +15,7 @@ returns-then-end-start c =
     let a = k.args in
     next-wraps (window_at a.windows.now a.i) a.run (sym k.bad_part.ensures ∙ k.if-bad_part.false)
     (known a.i).fits (known (a.i + 2)).fits (window_at a.windows.now (a.i + 3)) (known (a.i + 3)).fits
-    c.wrapping_add_u64-end.ensures.value c.if-end-start.true
+    refl c.if-end-start.true
 
 pub returns : goal.returns
 returns c =
@@ -24,4 +24,4 @@ returns c =
     let a = k.args in
     next-is (window_at a.windows.now a.i) a.run (sym k.bad_part.ensures ∙ k.if-bad_part.false)
     (known a.i).fits (known (a.i + 2)).fits (window_at a.windows.now (a.i + 3))
-    c.wrapping_add_u64-end.ensures.value c.if-end-start.false
+    refl c.if-end-start.false

@@ -1,4 +1,4 @@
-use Rattle.std.proofs.Common.{◌+◌, arith}
+use Rattle.std.proofs.Common.{refl, ◌+◌, arith}
 use Rattle.image.specs.Windows.{window_at}
 use Rattle.image.proofs.WindowRows.{part_off, part-wraps, part-is}
 use Rattle.image.proofs.windows.bad_part.Goals as goal
@@ -15,11 +15,11 @@ returns-then-end-place c =
     let k = c in
     let a = k.args in
     part-wraps (window_at a.windows.now a.i) a.run (k.type_inv.windows (a.i + 1)).fits (k.type_inv.windows (a.i + 2)).fits
-    (omega arith) (omega arith) c.wrapping_add_u64-end.ensures.value c.if-end-place.true
+    (omega arith) (omega arith) refl c.if-end-place.true
 
 pub returns : goal.returns
 returns c =
     let k = c in
     let a = k.args in
     part-is (window_at a.windows.now a.i) a.run (k.type_inv.windows (a.i + 1)).fits (k.type_inv.windows (a.i + 2)).fits
-    (omega arith) c.wrapping_add_u64-end.ensures.value c.if-end-place.false
+    (omega arith) refl c.if-end-place.false

@@ -1,11 +1,9 @@
-use Rattle.std.proofs.Common.{◌≡◌, ◌+◌, arith}
+use Rattle.std.proofs.Common.{◌≡◌, ◌+◌, ◌%◌, ◌^◌, mod-eq_of_lt}
 use Rattle.image.specs.Windows.{window_at}
 use Rattle.image.proofs.windows.ends_before.Goals as goal
 
 pub returns : goal.returns
 returns c =
-    let k = c in
-    let a = k.args in
-    let w = window_at a.windows.now a.i in
-    let whole : k.wrapping_add_u64.result ≡ w.place + w.size = omega (arith, k.wrapping_add_u64.ensures.value) in
+    let w = window_at c.args.windows.now c.args.i in
+    let whole : (w.place + w.size) % 2 ^ 64 ≡ w.place + w.size = mod-eq_of_lt c.requires.2 in
     rw whole
