@@ -16,25 +16,23 @@ mod page;
 
 use dma::{MemoryAnswer, MemoryRequest};
 use faults::Fault;
-use image::EntryAddress;
-use interrupts::{InterruptAnswer, InterruptRequest, Notification, Posted, Remapped};
+use interrupts::{InterruptAnswer, InterruptRequest, Notice, Posted, Remapped};
 pub use packed::with_answer;
 pub use page::translation_entry;
 use traced::Traced;
 
-pub(crate) const REFUSED: u8 = 1;
-
-const FAULT: u8 = 2;
-
-pub(crate) const GRANTED: u8 = 3;
-
-const PASSED: u8 = 4;
-
-const REMAPPED: u8 = 5;
-
-const POSTED: u8 = 6;
-
-const NOTIFIED: u8 = 7;
+// Document 02's number of an answer in an entry. An entry holds the number itself: it may be one that isn't laid out well.
+#[derive(Clone, Copy, Debug, PartialEq, Eq)]
+pub(crate) enum Answer {
+    Refused = 1,
+    Fault = 2,
+    Granted = 3,
+    Passed = 4,
+    Remapped = 5,
+    Posted = 6,
+    Notified = 7,
+    Page = 8,
+}
 
 // A request with nothing but its answer's number.
 pub fn asked(kind: u8, source: u16, address: u64, data: u32) -> Traced
@@ -55,10 +53,17 @@ pub fn asked(kind: u8, source: u16, address: u64, data: u32) -> Traced
     }
 }
 
+// The request of an entry, without its answer.
+pub(crate) fn request_of(e: Traced) -> Traced
+    ensures { result ≡ plain e.kind e.source e.address e.«data» 0 0 0 0 }
+{
+    asked(e.kind, e.source, e.address, e.data)
+}
+
 pub(crate) fn flag(on: bool) -> u8
     ensures { (result ≡ one-if on) × (result < 2) }
 {
-    if on { 1 } else { 0 }
+    u8::from(on)
 }
 
 fn kind(write: bool) -> u8
@@ -67,6 +72,7 @@ fn kind(write: bool) -> u8
     if write { 2 } else { 1 }
 }
 
+#[tactic(auto, unfolding(crate::specs::Answered::memory_traced))]
 pub fn memory_entry(request: MemoryRequest, answer: MemoryAnswer) -> Traced
     ensures { result ≡ memory_traced request (outcome_of answer) (entry_of answer) }
 {
@@ -74,40 +80,36 @@ pub fn memory_entry(request: MemoryRequest, answer: MemoryAnswer) -> Traced
     let e = asked(kind(request.write), source.id, request.address, 0);
     match answer {
         MemoryAnswer::Granted(host) => Traced {
-            answer: GRANTED,
+            answer: Answer::Granted as u8,
             value: host,
             ..e
         },
         MemoryAnswer::Blocked(fault, entry) => with_fault(e, fault, entry),
-        MemoryAnswer::Refused(number) => Traced {
-            answer: REFUSED,
-            number,
+        MemoryAnswer::Refused(refusal) => Traced {
+            answer: Answer::Refused as u8,
+            number: refusal.number(),
             ..e
         },
     }
 }
 
 // Flag 0 that the fault may be recorded, flag 1 that the value is the address of the entry concerned.
-pub(crate) fn with_fault(e: Traced, fault: Fault, entry: EntryAddress) -> Traced
+pub(crate) fn with_fault(e: Traced, fault: Fault, entry: Option<u64>) -> Traced
     ensures { result ≡ fault_traced e.kind e.source e.address e.«data» (fault_of fault) (place_of entry) }
 {
     let reason = fault.reason;
-    let number = reason.number();
+    let blocked = Traced {
+        answer: Answer::Fault as u8,
+        number: reason.number(),
+        ..request_of(e)
+    };
     let flags = flag(fault.recordable);
-    let kept = asked(e.kind, e.source, e.address, e.data);
     match entry {
-        EntryAddress::NoEntry => Traced {
-            answer: FAULT,
-            number,
-            flags,
-            ..kept
-        },
-        EntryAddress::At(at) => Traced {
-            answer: FAULT,
-            number,
+        None => Traced { flags, ..blocked },
+        Some(at) => Traced {
             flags: flags + 2,
             value: at,
-            ..kept
+            ..blocked
         },
     }
 }
@@ -134,7 +136,7 @@ fn remapped(request: InterruptRequest, r: Remapped) -> Traced
     let flags = modes(r);
     let e = message(request);
     Traced {
-        answer: REMAPPED,
+        answer: Answer::Remapped as u8,
         flags,
         vector: r.vector,
         destination: r.destination,
@@ -146,19 +148,20 @@ fn posted(request: InterruptRequest, p: Posted) -> Traced
     ensures { result ≡ post_traced request p.descriptor p.vector (due_of p.notification) }
 {
     let e = message(request);
-    let due = p.notification;
-    match due {
-        Notification::Silent => Traced {
-            answer: POSTED,
+    match p.notification {
+        None => Traced {
+            answer: Answer::Posted as u8,
             posted: p.vector,
             value: p.descriptor,
             ..e
         },
-        Notification::Due {
-            vector,
-            destination,
-        } => Traced {
-            answer: NOTIFIED,
+        Some(
+            Notice {
+                vector,
+                destination,
+            },
+        ) => Traced {
+            answer: Answer::Notified as u8,
             vector,
             posted: p.vector,
             destination,
@@ -168,21 +171,22 @@ fn posted(request: InterruptRequest, p: Posted) -> Traced
     }
 }
 
+#[tactic(auto, unfolding(crate::specs::Answered::interrupt_traced))]
 pub fn interrupt_entry(request: InterruptRequest, answer: InterruptAnswer) -> Traced
     ensures { result ≡ interrupt_traced request (interrupts.outcome_of answer) (interrupts.entry_of answer) }
 {
     let e = message(request);
     match answer {
         InterruptAnswer::Passed => Traced {
-            answer: PASSED,
+            answer: Answer::Passed as u8,
             ..e
         },
         InterruptAnswer::Remapped(r) => remapped(request, r),
         InterruptAnswer::Posted(p) => posted(request, p),
         InterruptAnswer::Blocked(fault, entry) => with_fault(e, fault, entry),
-        InterruptAnswer::Refused(number) => Traced {
-            answer: REFUSED,
-            number,
+        InterruptAnswer::Refused(refusal) => Traced {
+            answer: Answer::Refused as u8,
+            number: refusal.number(),
             ..e
         },
     }

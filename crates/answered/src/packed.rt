@@ -1,86 +1,49 @@
 // An answer's 32 bytes, by their four words, as an entry of the trace.
-ghost use Rattle.std.specs.Prelude.{◌≡◌, ◌<◌, min};
+ghost use Rattle.std.specs.Prelude.{◌≡◌, ◌+◌, ◌*◌, ◌<◌};
 ghost use Rattle.image.specs.Bits.{bits};
-ghost use Rattle.answered.specs.Answered.{width_of};
-ghost use Rattle.answered.specs.Packed.{with, fault_packed, remapped_packed, posted_packed, page_packed, passed_packed, entry_packed, packed_in};
+ghost use Rattle.answered.specs.Answered.{plain, width_of};
+ghost use Rattle.answered.specs.Packed.{fault_packed, remapped_packed, posted_packed, page_packed, passed_packed, entry_packed, packed_in};
 
-use image::word_or_zero;
+use crate::{Answer, request_of};
+use image::{field, word_or_zero};
 use traced::Traced;
 
-// Bytes 0 to 3, and bytes 7:4.
-fn zero(head: u64) -> u64
-    ensures { result ≡ bits head 7 0 }
+// One of an answer's first 8 bytes.
+fn byte(head: u64, n: u32) -> u8
+    requires { n < 8 }
+    ensures { result ≡ bits head (8 * n + 7) (8 * n) }
 {
-    head % 0x100
+    field(head, 8 * n + 7, 8 * n) as u8
 }
 
-fn one(head: u64) -> u64
-    ensures { (result ≡ bits head 15 8) × (result < 256) }
-{
-    head / 0x100 % 0x100
-}
-
-fn two(head: u64) -> u64
-    ensures { (result ≡ bits head 23 16) × (result < 256) }
-{
-    head / 0x1_0000 % 0x100
-}
-
-fn three(head: u64) -> u64
-    ensures { (result ≡ bits head 31 24) × (result < 256) }
-{
-    head / 0x100_0000 % 0x100
-}
-
-fn four(head: u64) -> u32
+// Bytes 7:4.
+fn upper(head: u64) -> u32
     ensures { result ≡ bits head 63 32 }
 {
-    (head / 0x1_0000_0000 % 0x1_0000_0000) as u32
+    field(head, 63, 32) as u32
 }
 
-// A sum of bytes as flags: what doesn't fit a byte is 255, which no answer has as its flags.
-fn capped(sum: u64) -> u8
-    ensures { result ≡ min 255 sum }
-{
-    if sum < 255 {
-        return sum as u8;
-    }
-    255
-}
-
-fn with(
-    e: Traced,
-    answer: u8,
-    number: u8,
-    flags: u8,
-    vector: u8,
-    posted: u8,
-    destination: u32,
-    value: u64,
-) -> Traced
-    ensures { result ≡ with e answer number flags vector posted destination value }
-{
-    Traced {
-        kind: e.kind,
-        answer,
-        number,
-        flags,
-        source: e.source,
-        vector,
-        posted,
-        address: e.address,
-        data: e.data,
-        destination,
-        value,
-    }
-}
-
+// Here and below, flags that don't fit a byte are 255, which no answer has.
 fn fault(e: Traced, head: u64, last: u64) -> Traced
     ensures { result ≡ fault_packed e head last }
 {
-    let number = one(head) as u8;
-    let flags = capped(two(head) + 2 * three(head));
-    with(e, 2, number, flags, 0, 0, 0, last)
+    Traced {
+        answer: Answer::Fault as u8,
+        number: byte(head, 1),
+        flags: byte(head, 2).saturating_add(byte(head, 3).saturating_mul(2)),
+        value: last,
+        ..request_of(e)
+    }
+}
+
+fn granted(e: Traced, low: u64) -> Traced
+    ensures { result ≡ plain e.kind e.source e.address e.«data» 3 0 0 low }
+{
+    Traced {
+        answer: Answer::Granted as u8,
+        value: low,
+        ..request_of(e)
+    }
 }
 
 // Of an interrupt nothing is kept; a translation request is granted its own address.
@@ -88,68 +51,99 @@ fn passed(e: Traced, low: u64) -> Traced
     ensures { result ≡ passed_packed e low }
 {
     if e.kind == 3 {
-        return with(e, 4, 0, 0, 0, 0, 0, 0);
+        return Traced {
+            answer: Answer::Passed as u8,
+            ..request_of(e)
+        };
     }
-    with(e, 3, 0, 0, 0, 0, 0, low)
+    granted(e, low)
 }
 
 fn remapped(e: Traced, head: u64) -> Traced
     ensures { result ≡ remapped_packed e head }
 {
-    let vector = one(head) as u8;
-    let flags = capped(three(head) + 8 * two(head));
-    with(e, 5, 0, flags, vector, 0, four(head), 0)
+    Traced {
+        answer: Answer::Remapped as u8,
+        flags: byte(head, 3).saturating_add(byte(head, 2).saturating_mul(8)),
+        vector: byte(head, 1),
+        destination: upper(head),
+        ..request_of(e)
+    }
 }
 
 fn posted(e: Traced, head: u64, low: u64) -> Traced
     ensures { result ≡ posted_packed e head low }
 {
-    let posted = three(head) as u8;
-    if one(head) == 0 {
-        return with(e, 6, 0, 0, 0, posted, 0, low);
+    let post = Traced {
+        answer: Answer::Posted as u8,
+        posted: byte(head, 3),
+        value: low,
+        ..request_of(e)
+    };
+    if byte(head, 1) == 0 {
+        return post;
     }
-    let vector = two(head) as u8;
-    with(e, 7, 0, 0, vector, posted, four(head), low)
+    Traced {
+        answer: Answer::Notified as u8,
+        vector: byte(head, 2),
+        destination: upper(head),
+        ..post
+    }
 }
 
-fn width(size: u64) -> u8
+pub(crate) fn width(size: u64) -> u8
     ensures { result ≡ width_of size }
 {
-    if size == 0x1000 {
-        return 12;
+    match size {
+        0x1000 => 12,
+        0x20_0000 => 21,
+        0x4000_0000 => 30,
+        _ => 0,
     }
-    if size == 0x20_0000 {
-        return 21;
-    }
-    if size == 0x4000_0000 {
-        return 30;
-    }
-    0
 }
 
 fn page(e: Traced, head: u64, low: u64, middle: u64) -> Traced
     ensures { result ≡ page_packed e head low middle }
 {
-    let number = width(middle);
-    let flags = capped(one(head) + 2 * two(head));
-    with(e, 8, number, flags, 0, 0, 0, low)
+    Traced {
+        answer: Answer::Page as u8,
+        number: width(middle),
+        flags: byte(head, 1).saturating_add(byte(head, 2).saturating_mul(2)),
+        value: low,
+        ..request_of(e)
+    }
 }
 
-// By the answer's kind. One of no kind has answer 0, which is malformed.
+// A translation request that is granted nothing.
+fn empty(e: Traced) -> Traced
+    ensures { result ≡ plain e.kind e.source e.address e.«data» 8 0 0 0 }
+{
+    Traced {
+        answer: Answer::Page as u8,
+        ..request_of(e)
+    }
+}
+
+// By the answer's kind, a number of the C interface. One of no kind has answer 0, which is malformed.
+#[tactic(auto, unfolding(crate::specs::Packed::entry_packed))]
 fn of_words(e: Traced, head: u64, low: u64, middle: u64, last: u64) -> Traced
     ensures { result ≡ entry_packed e head low middle last }
 {
-    let kind = zero(head);
+    let kind = byte(head, 0);
     match kind {
         1 => fault(e, head, last),
-        2 => with(e, 1, one(head) as u8, 0, 0, 0, 0, 0),
+        2 => Traced {
+            answer: Answer::Refused as u8,
+            number: byte(head, 1),
+            ..request_of(e)
+        },
         3 => passed(e, low),
         4 => remapped(e, head),
         5 => posted(e, head, low),
-        6 => with(e, 3, 0, 0, 0, 0, 0, low),
+        6 => granted(e, low),
         7 => page(e, head, low, middle),
-        8 => with(e, 8, 0, 0, 0, 0, 0, 0),
-        _ => with(e, 0, 0, 0, 0, 0, 0, 0),
+        8 => empty(e),
+        _ => request_of(e),
     }
 }
 

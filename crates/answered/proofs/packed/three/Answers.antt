@@ -1,8 +1,0 @@
-use mathlib.Core.Path.{refl}
-use native.Mathlib.Omega.{arith}
-use Rattle.image.specs.Bits.{bits}
-use Rattle.answered.proofs.packed.three.Goals as goal
-
-pub returns : goal.returns
-unfolding bits
-returns c = (refl, omega arith)
