@@ -1,5 +1,4 @@
-// The calls on traces, for C, over the buffers that a caller lends: a writer and a reader's place are two numbers each. A crate that is exported by
-// itself, so that its object is one of its own, which a unit that traces nothing doesn't link.
+// The calls on traces, over the buffers that a caller lends: a writer and a reader's place are two numbers each. trace_calls_c exports them for C.
 #![tactic(auto)]
 
 mod reading;
@@ -10,7 +9,7 @@ pub use reading::{galitzaf_trace_check, galitzaf_trace_next};
 pub use reading::replay_entry;
 pub use writing::{galitzaf_trace_append, galitzaf_trace_close};
 
-// What a call answers, by number, beside the statuses of every call.
+// What a call answers, beside the statuses of every call. Numbers: they are the C interface's, as packing's are.
 pub(crate) const BLOCK: u32 = 0x50;
 
 pub(crate) const ENTRY: u32 = 0x51;
