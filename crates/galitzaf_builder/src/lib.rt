@@ -35,6 +35,7 @@ fn tell(built: Result<(), BuildError>, item: &mut [u64]) -> u32
     }
 }
 
+#[tactic(auto, unfolding(crate::specs::Calls::build_call))]
 #[unsafe(no_mangle)]
 pub extern "C" fn galitzaf_build(
     registers: &[u8],
