@@ -15,11 +15,12 @@ mod lookup;
 mod translation;
 
 use dma::meets_interrupt_range;
+use faults::Stop;
 use flags::set_flags;
-pub use image::EntryAddress;
-use image::bad_windows;
-use pasid::{Pasid, ScalableFault, ScalableRegisters, scalable_fault};
-use registers::{Admission, SourceId, admit, in_interrupt_range};
+use image::{Memory, bad_windows, first_span};
+use nested::Reached;
+use pasid::{Pasid, ScalableFault, ScalableReason, ScalableRegisters, scalable_fault};
+use registers::{Admission, Refusal, SourceId, admit, in_interrupt_range};
 use translation::{Translation, translate};
 
 #[derive(Clone, Copy)]
@@ -35,9 +36,9 @@ pub enum ScalableAnswer {
     // The host address.
     Granted(u64),
     // With the entry concerned.
-    Blocked(ScalableFault, EntryAddress),
-    // By number: 1 bad registers or windows, 2 an address in the interrupt range, 4 a page with a byte in it, 6 a PASID of more than 20 bits.
-    Refused(u8),
+    Blocked(ScalableFault, Option<u64>),
+    // Bad registers or windows, an address in the interrupt range, a page with a byte in it, or a PASID of more than 20 bits.
+    Refused(Refusal),
 }
 
 fn pasid_too_wide(pasid: Pasid) -> bool
@@ -47,26 +48,29 @@ fn pasid_too_wide(pasid: Pasid) -> bool
 }
 
 // A page that is reached: refusal 4, or the host address.
-fn page_answer(frame: u64, level: u32, host: u64) -> ScalableAnswer
-    requires { (frame < 2 ^ 52) × (0 < level) × (level ≤ 3) }
-    ensures result_value { (request : ScalableRequest) (flags : List ℕ) → outcome_of result ≡ (decision request (translated (reached frame level host flags))).outcome }
+fn page_answer(page: Reached) -> ScalableAnswer
+    requires { (page.frame < 2 ^ 52) × (0 < page.level) × (page.level ≤ 3) }
+    ensures result_value { (request : ScalableRequest) (flags : List ℕ) → outcome_of result ≡ (decision request (translated (reached page.frame page.level page.host flags))).outcome }
     ensures result_value_2 { (place : Place) → entry_of result ≡ concerned (outcome_of result) place }
 {
-    if meets_interrupt_range(level, frame) {
-        return ScalableAnswer::Refused(4);
+    if meets_interrupt_range(page.level, page.frame) {
+        return ScalableAnswer::Refused(Refusal::InterruptPage);
     }
-    ScalableAnswer::Granted(host)
+    ScalableAnswer::Granted(page.host)
 }
 
-fn answer(request: ScalableRequest, translated: Translation) -> ScalableAnswer
+fn answer(
+    request: ScalableRequest,
+    translated: Result<Translation, Stop<ScalableReason>>,
+) -> ScalableAnswer
     requires { TranslationReachable translated }
     ensures by_index { (flags : List ℕ) → outcome_of result ≡ (decision request (translation_of translated flags)).outcome }
     ensures result_value { (place : Place) → TranslationNames translated place → entry_of result ≡ concerned (outcome_of result) place }
 {
     match translated {
-        Translation::Through => ScalableAnswer::Granted(request.address),
-        Translation::Page(frame, level, host, _) => page_answer(frame, level, host),
-        Translation::Fault(reason, fpd, at) => ScalableAnswer::Blocked(
+        Ok(Translation::Through) => ScalableAnswer::Granted(request.address),
+        Ok(Translation::Page(page)) => page_answer(page),
+        Err(Stop { reason, fpd, at }) => ScalableAnswer::Blocked(
             scalable_fault(
                 reason,
                 fpd,
@@ -75,26 +79,26 @@ fn answer(request: ScalableRequest, translated: Translation) -> ScalableAnswer
                 request.write,
                 request.pasid,
             ),
-            EntryAddress::At(at),
+            Some(at),
         ),
     }
 }
 
 // How many of the collected flags are set: none where the page is refused.
-fn flags_to_set(translated: Translation) -> usize
+fn flags_to_set(translated: Result<Translation, Stop<ScalableReason>>) -> usize
     requires { TranslationReachable translated }
     ensures flags_value { (request : ScalableRequest) (flags : List ℕ) → take result flags ≡ (decision request (translation_of translated flags)).flags }
     ensures upper_bound { result ≤ 47 }
 {
     match translated {
-        Translation::Through => 0,
-        Translation::Page(frame, level, _, count) => {
-            if meets_interrupt_range(level, frame) {
+        Ok(Translation::Through) => 0,
+        Ok(Translation::Page(page)) => {
+            if meets_interrupt_range(page.level, page.frame) {
                 return 0;
             }
-            count
+            page.count
         }
-        Translation::Fault(_, _, _) => 0,
+        Err(_) => 0,
     }
 }
 
@@ -111,12 +115,17 @@ fn take_up(
     ensures image_after { image.new ≡ set_flags windows.now (run (taken_rules registers request) (of_windows windows.now image.old)).flags image.old }
 {
     if pasid_too_wide(request.pasid) {
-        return ScalableAnswer::Refused(6);
+        return ScalableAnswer::Refused(Refusal::WidePasid);
     }
     let mut flags = [0u64; 47];
-    let translated = translate(windows, image, registers, request, &mut flags);
+    let memory = Memory {
+        first: first_span(windows),
+        windows,
+        image,
+    };
+    let translated = translate(&memory, registers, request, &mut flags);
     let count = flags_to_set(translated);
-    set_flags(windows, image, &flags, count);
+    set_flags(windows, image, &flags[..count]);
     answer(request, translated)
 }
 
@@ -132,20 +141,20 @@ pub fn scalable_request(
     ensures image_after { image.new ≡ scalable_written registers request windows.now image.old }
 {
     if bad_windows(windows, image.len()) {
-        return ScalableAnswer::Refused(1);
+        return ScalableAnswer::Refused(Refusal::BadRegisters);
     }
     match admit(
         registers.base,
         in_interrupt_range(request.address),
         registers.base.te,
     ) {
-        Admission::Refused(number) => ScalableAnswer::Refused(number),
-        Admission::Passed => {
+        Err(refusal) => ScalableAnswer::Refused(refusal),
+        Ok(Admission::Passed) => {
             if pasid_too_wide(request.pasid) {
-                return ScalableAnswer::Refused(6);
+                return ScalableAnswer::Refused(Refusal::WidePasid);
             }
             ScalableAnswer::Granted(request.address)
         }
-        Admission::Taken => take_up(registers, windows, image, request),
+        Ok(Admission::Taken) => take_up(registers, windows, image, request),
     }
 }

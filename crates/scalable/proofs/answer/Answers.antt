@@ -1,40 +1,16 @@
-use mathlib.Core.Path.{refl, ap, sym, ◌∙◌, subst}
+use mathlib.Core.Path.{◌≡◌, ap, sym, ◌∙◌}
 use lib.ListN.{take}
-use Rattle.dma.specs.Requests.{blocked}
-use Rattle.scalable.specs.Answers.{translation_of, TranslationNames, TranslationReachable}
+use Rattle.std.specs.Prelude.{Ok}
+use Rattle.scalable.specs.Answers.{translation_of}
 use Rattle.scalable.specs.Requests.{decision}
+use Rattle.scalable.specs.declared.translation.Translation.TheVariants.{Page}
 use Rattle.scalable.proofs.answer.Goals as goal
 
-pub page_answer-requires : goal.page_answer-requires
-page_answer-requires c =
-    let r = subst TranslationReachable c.in-Page.is c.requires in
-    (r.0, r.1, r.2)
-
-pub returns-in-Through : goal.returns-in-Through
-returns-in-Through c =
-    record {
-      by_index = λ flags. sym (ap (λ t. (decision c.args.request (translation_of t flags)).outcome) c.in-Through.is);
-      result_value = λ place names. refl;
-    }
-
-pub returns-in-Page : goal.returns-in-Page
-returns-in-Page c =
-    let t = c in
-    let a = t.args in
-    record {
-      by_index = λ flags.
-          c.page_answer.ensures.result_value a.request (take t.in-Page.field-3 flags)
-          ∙ sym (ap (λ t. (decision a.request (translation_of t flags)).outcome) t.in-Page.is);
-      result_value = λ place names. c.page_answer.ensures.result_value_2 place;
-    }
-
-pub returns-in-Fault : goal.returns-in-Fault
-returns-in-Fault c =
-    let t = c in
-    let a = t.args in
-    record {
-      by_index = λ flags.
-          ap blocked c.scalable_fault.ensures
-          ∙ sym (ap (λ t. (decision a.request (translation_of t flags)).outcome) t.in-Fault.is);
-      result_value = λ place names. subst (λ t. TranslationNames t place) t.in-Fault.is names;
-    }
+pub returns-in-Ok-Page-clause-by_index : goal.returns-in-Ok-Page-clause-by_index
+returns-in-Ok-Page-clause-by_index c =
+    let a = c.args in
+    let inner : c.in-Ok-Page.field-0 ≡ Page c.in-Ok-Page.page = rw c.in-Ok-Page.is at c.in-Ok-Page.field-0-is in
+    let page : a.translated ≡ Ok (Page c.in-Ok-Page.page) = rw inner at c.in-Ok-Page.is in
+    λ flags.
+    c.page_answer.ensures.result_value a.request (take c.in-Ok-Page.page.count flags)
+    ∙ sym (ap (λ t. (decision a.request (translation_of t flags)).outcome) page)

@@ -1,9 +1,10 @@
 use Prim.Native.Nat.{ℕ}
 use mathlib.Core.List.{List}
 use mathlib.Core.Path.{refl, ap, sym, ◌∙◌, subst}
-use native.Mathlib.Omega.{arith}
+use lib.ListN.{length}
 use Rattle.image.specs.Place.{Place}
 use Rattle.image.specs.Windows.{of_windows}
+use Rattle.image.proofs.GoodWindows.{three-each}
 use Rattle.flags.specs.Flags.{set_flags}
 use Rattle.scalable.specs.Answers.{TranslationNames}
 use Rattle.scalable.specs.Requests.{Decision, decision}
@@ -20,8 +21,8 @@ returns-then-pasid_too_wide c =
       image_after = ap (λ (d : Decision). set_flags a.windows.now d.flags a.image.now) is;
     }
 
-pub translate-translated-requires : goal.translate-translated-requires
-translate-translated-requires c = let p = c.requires in (p.0, p.1, p.2, omega arith)
+pub first_span-requires : goal.first_span-requires
+first_span-requires c = (three-each c.args.windows.now (length c.args.image.now) c.requires.0).1
 
 pub returns : goal.returns
 returns c =

@@ -3,9 +3,9 @@ use mathlib.Core.Bool.{Bool, false}
 use mathlib.Core.List.{[]}
 use mathlib.Core.Path.{◌≡◌, ap, sym, ◌∙◌, subst}
 use borrow.Author.Tests.{eq-eqb, ne_eqb}
+use Rattle.image.specs.Answers.{memory_of}
 use Rattle.image.specs.Place.{entry_at, last_tried}
 use Rattle.image.specs.Rules.{run, map_rules}
-use Rattle.image.specs.Windows.{of_windows}
 use Rattle.dma.specs.Translation.{overflows}
 use Rattle.pasid.specs.declared.ScalableRegisters.{ScalableRegisters}
 use Rattle.pasid.specs.declared.table.PasidEntry.{PasidEntry}
@@ -29,35 +29,26 @@ module _ (r : ScalableRegisters) (p : PasidEntry) (address : ℕ) (write : Bool)
   unfolding kind_rules paged_rules
   first-too other fine = rw (ne_eqb p.kind 2 other, fine)
 
-pub overflows-requires : goal.overflows-requires
-overflows-requires c = (c.requires.1.0 c.if-entry-eq2.true).1
+pub returns-then-overflows-clause-flags_after : goal.returns-then-overflows-clause-flags_after
+unfolding paged_rules second_pages run
+returns-then-overflows-clause-flags_after c = rw (c.stop.ensures, eq-eqb _ 2 c.if-entry-eq2.true, ← c.overflows.ensures, c.if-overflows.true)
 
-pub returns-then-overflows : goal.returns-then-overflows
-unfolding paged_rules second_pages run last_tried
-returns-then-overflows c = record {
-  flags_after = rw (eq-eqb _ 2 c.if-entry-eq2.true, ← c.overflows.ensures, c.if-overflows.true);
-  pages_names = rw (eq-eqb _ 2 c.if-entry-eq2.true, ← c.overflows.ensures, c.if-overflows.true);
-  reachable = (tt, tt);
-}
+pub returns-then-overflows-clause-pages_names : goal.returns-then-overflows-clause-pages_names
+unfolding paged_rules second_pages last_tried
+returns-then-overflows-clause-pages_names c = rw (c.stop.ensures, eq-eqb _ 2 c.if-entry-eq2.true, ← c.overflows.ensures, c.if-overflows.true)
 
-pub not_canonical-requires : goal.not_canonical-requires
-not_canonical-requires c = (c.requires.1.1 c.if-entry-eq2.false).1
+pub returns-then-not_canonical-clause-flags_after : goal.returns-then-not_canonical-clause-flags_after
+unfolding paged_rules run
+returns-then-not_canonical-clause-flags_after c = rw (c.stop-then-not_canonical.ensures, ne_eqb _ _ c.if-entry-eq2.false, ← c.not_canonical.ensures, c.if-not_canonical.true)
 
-pub returns-then-not_canonical : goal.returns-then-not_canonical
-unfolding paged_rules run last_tried
-returns-then-not_canonical c = record {
-  flags_after = rw (ne_eqb _ _ c.if-entry-eq2.false, ← c.not_canonical.ensures, c.if-not_canonical.true);
-  pages_names = rw (ne_eqb _ _ c.if-entry-eq2.false, ← c.not_canonical.ensures, c.if-not_canonical.true);
-  reachable = (tt, tt);
-}
-
-pub walk_pages-requires : goal.walk_pages-requires
-walk_pages-requires c = c.requires
+pub returns-then-not_canonical-clause-pages_names : goal.returns-then-not_canonical-clause-pages_names
+unfolding paged_rules last_tried
+returns-then-not_canonical-clause-pages_names c = rw (c.stop-then-not_canonical.ensures, ne_eqb _ _ c.if-entry-eq2.false, ← c.not_canonical.ensures, c.if-not_canonical.true)
 
 pub returns : goal.returns
 returns c =
     let a = c.args in
-    let m = of_windows a.windows.now a.image.now in
+    let m = memory_of a.memory.now in
     let e = c.walk_pages.ensures in
     let r = a.walk.space.registers in
     let p = a.walk.space.entry in

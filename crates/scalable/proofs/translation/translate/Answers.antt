@@ -1,11 +1,10 @@
 use mathlib.Core.Path.{◌≡◌, ap, sym, ◌∙◌, subst}
-use lib.ListN.{length}
+use Rattle.std.proofs.lemmas.Result.{err_from_is_err_and}
+use Rattle.image.specs.Answers.{memory_of}
 use Rattle.image.specs.Memory.{Memory}
 use Rattle.image.specs.Place.{Place, no_entry, last_tried}
 use Rattle.image.specs.Rules.{Rules, run}
-use Rattle.image.specs.Windows.{of_windows}
-use Rattle.image.proofs.GoodWindows.{three-each}
-use Rattle.scalable.specs.Answers.{lookup_of, lookup_place, TranslationNames}
+use Rattle.scalable.specs.Answers.{TranslationNames}
 use Rattle.scalable.specs.Lookup.{Lookup, lookup_rules}
 use Rattle.scalable.specs.Requests.{Translation, looked_up, translation_rules}
 use Rattle.scalable.proofs.Found.{looked-up, looked-up-at, Finds, finds}
@@ -33,39 +32,36 @@ module _ (registers : ScalableRegisters) (q : ScalableRequest) (m : Memory) wher
       ∙ ap (λ (x : Lookup). last_tried (last_tried no_entry first m) (next x) m) told
       ∙ sym (looked-up-at registers q.address q.write q.pasid q.source.id m no_entry)
 
-pub first_span-first-requires : goal.first_span-first-requires
-first_span-first-requires c = (three-each c.args.windows.now (length c.args.image.now) c.requires.0).1
+pub returns-in_err-found-clause-flags_after : goal.returns-in_err-found-clause-flags_after
+unfolding run
+returns-in_err-found-clause-flags_after c =
+    let a = c.args in
+    let p = err_from_is_err_and c.from_residual.result c.from_residual.ensures.1 in
+    rw (p.1, p.2) (ran a.registers a.request (memory_of a.memory.now) c.in_err-found.ensures.result_value)
+
+pub returns-in_err-found-clause-translation_names : goal.returns-in_err-found-clause-translation_names
+unfolding last_tried
+returns-in_err-found-clause-translation_names c =
+    let a = c.args in
+    let e = c.in_err-found.ensures in
+    let p = err_from_is_err_and c.from_residual.result c.from_residual.ensures.1 in
+    rw (p.1, p.2) (stopped a.registers a.request (memory_of a.memory.now) e.result_value (e.result_value_2 no_entry))
 
 pub translate_in-requires : goal.translate_in-requires
 translate_in-requires c =
     let a = c.args in
-    let told = sym (ap lookup_of c.in-Found.is) ∙ c.find_pasid_entry.ensures.result_value in
-    let good = Finds a.registers c.requires.2 in (
-      (c.requires.0, c.first_span-first.ensures),
-      subst good (sym told) (finds a.registers c.requires.2 a.request.pasid a.request.source.id (of_windows a.windows.now a.image.now)),
-      c.requires.3,
+    let good = Finds a.registers c.requires.1 in (
+      subst good (sym c.in_ok-found.ensures.result_value) (finds a.registers c.requires.1 a.request.pasid a.request.source.id (memory_of a.memory.now)),
+      c.requires.2,
     )
 
-pub returns-in-Found : goal.returns-in-Found
-returns-in-Found c =
+pub returns-clause-flags_after : goal.returns-clause-flags_after
+returns-clause-flags_after c =
     let a = c.args in
-    let m = of_windows a.windows.now a.image.now in
-    let told = sym (ap lookup_of c.in-Found.is) ∙ c.find_pasid_entry.ensures.result_value in
-    let there = sym (ap lookup_place c.in-Found.is) ∙ c.find_pasid_entry.ensures.result_value_2 no_entry in
-    let e = c.translate_in.ensures in record {
-      flags_after = e.flags_after ∙ ran a.registers a.request m told;
-      translation_names = subst (λ (place : Place). TranslationNames c.translate_in.result place) (stopped a.registers a.request m told there) e.translation_names;
-      translation_reachable = e.translation_reachable;
-    }
+    c.translate_in.ensures.flags_after ∙ ran a.registers a.request (memory_of a.memory.now) c.in_ok-found.ensures.result_value
 
-pub returns-in-Fault : goal.returns-in-Fault
-unfolding run last_tried
-returns-in-Fault c =
+pub returns-clause-translation_names : goal.returns-clause-translation_names
+returns-clause-translation_names c =
     let a = c.args in
-    let m = of_windows a.windows.now a.image.now in
-    let told = sym (ap lookup_of c.in-Fault.is) ∙ c.find_pasid_entry.ensures.result_value in
-    let there = sym (ap lookup_place c.in-Fault.is) ∙ c.find_pasid_entry.ensures.result_value_2 no_entry in record {
-      flags_after = ran a.registers a.request m told;
-      translation_names = stopped a.registers a.request m told there;
-      translation_reachable = tt;
-    }
+    let e = c.in_ok-found.ensures in
+    subst (λ (place : Place). TranslationNames c.translate_in.result place) (stopped a.registers a.request (memory_of a.memory.now) e.result_value (e.result_value_2 no_entry)) c.translate_in.ensures.translation_names
