@@ -20,7 +20,8 @@ fn bucket_of(key: u64) -> usize
     ((folded * 0x4F1B_BCDD) >> 23) as usize % 512
 }
 
-// The age of the newest place with this key, 64 where there is none.
+// The age of the newest place with this key, 64 where there is none. No Option: 64 is older than any place, so that the least of several
+// ages is told with no test for a missing one (`newest` of cache, whose answer is an Option).
 fn first_age(state: &[u64], key: u64) -> u64
     requires { length state.now ≡ words }
     ensures { result ≡ first_age state.now key }
