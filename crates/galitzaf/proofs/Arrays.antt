@@ -8,8 +8,8 @@ use lib.Dec.{T, eqb, eqb→eq}
 use lib.ListN.{length, get_or, set, drop}
 use lib.Ieee.{Float}
 use Rattle.std.specs.List.{zip, list_all, list_any, range_with_len}
-use Rattle.std.proofs.lemmas.List.Folds.{list_all-map}
-use Rattle.std.proofs.lemmas.List.FromFn.{fill_by_all}
+use Rattle.std.proofs.lemmas.List.Folds.{list_all-map, list_all-append}
+use Rattle.std.proofs.lemmas.List.FromFn.{fill_by_all, map-range_with_len_more}
 use Rattle.std.proofs.lemmas.Slice.Zip.{length-zip, get_or-zip}
 use Rattle.meter.specs.declared.Meter.{Meter}
 use Rattle.meter.specs.Meter.{nought, ticked, meter_byte}
@@ -38,6 +38,19 @@ pub some_is_any : {A : Type 0} (test : A → Bool) (xs : List A) → list_any te
 unfolding some
 some_is_any test [] = refl
 some_is_any test (x ∷ xs) = ap (λ (t : Bool). test x || t) (some_is_any test xs)
+
+-- a test of one number more
+pub all_more : (f : ℕ → Bool) (n : ℕ) → (list_all f (range_with_len 0 n) && f n) ≡ list_all f (range_with_len 0 (n + 1))
+all_more f n =
+    let id : Bool → Bool = λ b. b in
+    sym (sym (list_all-map id f (range_with_len 0 (n + 1)))
+    ∙ ap (list_all id) (map-range_with_len_more f 0 n n (omega arith))
+    ∙ list_all-append id (map f (range_with_len 0 n)) (f n ∷ [])
+    ∙ ap₂ (λ (s t : Bool). s && t) (list_all-map id f (range_with_len 0 n)) (alone (f n)))
+  where
+    alone : (b : Bool) → (b && true) ≡ b
+    alone true = refl
+    alone false = refl
 
 -- ---- the row
 pub row-length : (ks : List ℕ) (ls hs xs : List Float) → length (row_of ks ls hs xs) ≡ length xs

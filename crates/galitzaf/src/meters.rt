@@ -1,4 +1,4 @@
-// A row of meters, an array for each part of a meter.
+// A row of meters, an array for each part of a meter: C could write a kind into a `Meter` that is none of the three.
 ghost use Rattle.std.specs.Prelude.{◌≡◌, not, ◌||◌, ltb, length};
 ghost use Rattle.meter.specs.Refused.{some, bad_count, bad_meter};
 ghost use Rattle.galitzaf.specs.Meters.{gate_of, meter_of, row_of, malformed_meters, tick_meters_call, reset_meters_call};
@@ -43,7 +43,12 @@ fn all_fit(kinds: &[u8], lows: &[f64], highs: &[f64], loads: &[f64], counts: &[u
     requires { (length kinds.now ≡ length loads.now) × (length lows.now ≡ length loads.now) × (length highs.now ≡ length loads.now) × (length counts.now ≡ length loads.now) }
     ensures { result ≡ not (some bad_count counts.now || some bad_meter (row_of kinds.now lows.now highs.now loads.now)) }
 {
-    (0..loads.len()).all(|i| fits(meter(kinds[i], lows[i], highs[i], loads[i]), counts[i]))
+    let mut good = true;
+    // All are looked at: with `all`, which stops at the first that doesn't fit, a tick of a good row took longer.
+    for i in 0..loads.len() {
+        good &= fits(meter(kinds[i], lows[i], highs[i], loads[i]), counts[i]);
+    }
+    good
 }
 
 #[unsafe(no_mangle)]
