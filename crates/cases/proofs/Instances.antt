@@ -4,7 +4,7 @@ use mathlib.Core.Bool.{Bool, true, false}
 use mathlib.Core.Path.{◌≡◌, refl, ap, sym, ◌∙◌, fun_ext, subst}
 use mathlib.Core.List.Memᴰ
 use mathlib.Core.List.{List, [], ◌∷◌, Memᴰ}
-use mathlib.Core.Logic.{◌⊎◌, inr, ⊎_elim}
+use mathlib.Core.Logic.{inr, ⊎_elim}
 use native.Mathlib.Omega.{arith}
 use native.Mathlib.Decide.{dec_le}
 use borrow.Author.Tests.{leb-true}
@@ -14,7 +14,7 @@ use lib.Seq.{get_or-set_same, get_or-set_other, take-append-le, drop-append-le}
 use Rattle.image.specs.Bits.{bits}
 use Rattle.image.specs.Bytes.{little_endian, bytes_of}
 use Rattle.std.specs.Prelude.{if◌then◌else◌}
-use Rattle.image.specs.Memory.{Memory, Fetched, missing, found, word_at, of_image, entry}
+use Rattle.image.specs.Memory.{Fetched, missing, found, word_at, of_image, entry}
 use Rattle.image.specs.Rules.{run, map_rules, named, entries_of, words_from}
 use Rattle.image.specs.Windows.{Window, windows_of, Spot, nowhere, here, on_spot, spot_in, entry_in, of_windows, bad_with_any, bad_list, bad_windows, flat}
 use Rattle.image.proofs.FlatWindow.{flat-is, flat-fine}

@@ -1,5 +1,5 @@
 -- The rows of Ask 1 hold, proved together by computing the table.
-use mathlib.Core.Path.{◌≡◌, refl}
+use mathlib.Core.Path.{refl}
 use Rattle.image.specs.Bits.{bits}
 use Rattle.image.specs.Bytes.{spell}
 use Rattle.image.specs.Memory.{entry}
