@@ -1,10 +1,8 @@
 pub mod Admissions
 pub mod Agree
-pub mod Completed
 pub mod Entries
 pub mod Forks
 pub mod Injective
-pub mod Joined
 pub mod Local
 pub mod Pages
 pub mod Stepped

@@ -16,6 +16,7 @@ use image::Memory;
 use registers::Registers;
 
 // In a context: its type, then the width, then the walk. None is the empty answer.
+#[tactic(auto, unfolding(crate::specs::Completion::type_rules, image::specs::Rules::run, image::specs::Place::last_tried))]
 fn complete_in(
     memory: &Memory,
     registers: Registers,
