@@ -17,6 +17,7 @@ use pasid::{Pasid, ScalableRegisters};
 use registers::SourceId;
 use scalable::{ScalableAnswer, ScalableRequest, scalable_request};
 
+#[tactic(auto, unfolding(crate::specs::Scalable::unpacked_scalable))]
 fn unpack_scalable(registers: &[u8], capabilities: u32) -> ScalableRegisters
     requires { malformed_registers registers.now ≡ false }
     ensures { result ≡ unpacked_scalable registers.now capabilities }
@@ -37,6 +38,7 @@ fn unpack_scalable(registers: &[u8], capabilities: u32) -> ScalableRegisters
     }
 }
 
+#[tactic(auto, unfolding(crate::specs::Scalable::scalable_request_of))]
 fn request_of(source: u16, address: u64, kind: u8, pasid: u32) -> ScalableRequest
     ensures { result ≡ scalable_request_of source address kind pasid }
 {
@@ -66,7 +68,7 @@ fn pack_scalable(answer: ScalableAnswer) -> Packed
             };
             pack_blocked(reason.number(), told, entry)
         }
-        ScalableAnswer::Refused(number) => pack_refusal(number),
+        ScalableAnswer::Refused(refusal) => pack_refusal(refusal),
     }
 }
 
