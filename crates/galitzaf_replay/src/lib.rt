@@ -8,6 +8,7 @@ ghost use Rattle.galitzaf_replay.specs.Replay.{trace_replay_call};
 use packing::{BAD_REGISTERS, BAD_WINDOWS, malformed, unpack};
 use trace_calls::replay_entry;
 
+#[tactic(auto, unfolding(crate::specs::Replay::trace_replay_call))]
 #[unsafe(no_mangle)]
 pub extern "C" fn galitzaf_trace_replay(
     registers: &[u8],

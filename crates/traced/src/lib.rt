@@ -14,7 +14,7 @@ use image::{field, store8, word_or_zero};
 pub use well::is_well;
 
 // What each number says is told with the test that an entry is laid out well. A field that a kind and an answer
-// don't use is 0.
+// don't use is 0. Kind and answer are numbers: bytes that are no entry are read and judged too, and C hands in any kind.
 #[derive(Clone, Copy, Debug, PartialEq, Eq)]
 pub struct Traced {
     pub kind: u8,
