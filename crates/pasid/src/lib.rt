@@ -39,7 +39,7 @@ pub struct ScalableRegisters {
     pub smpwc: bool,
 }
 
-// The PASID of a request; its value is looked at only where one is present.
+// The PASID of a request; its value is looked at only where one is present. No Option: `context_check` and `pasid_word` name both fields.
 #[derive(Clone, Copy)]
 pub struct Pasid {
     pub present: bool,

@@ -13,7 +13,7 @@ use registers::at_or_above_power;
 // What a PASID table entry says of a request.
 #[derive(Clone, Copy)]
 pub struct PasidEntry {
-    // PGTT: 1 first level, 2 second level, 3 nested, 4 pass-through.
+    // PGTT: 1 first level, 2 second level, 3 nested, 4 pass-through. A number: `pasid_entry_of` says bits 8:6, whatever they are.
     pub kind: u8,
     // The second level's top table, and its levels: 3, 4 or 5 where AW is 1, 2 or 3.
     pub second_top: u64,
