@@ -2,4 +2,3 @@ pub mod Answers
 pub mod Known
 pub mod Outside
 pub mod Region
-pub mod Walkable
