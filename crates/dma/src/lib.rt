@@ -34,6 +34,7 @@ pub struct MemoryRequest {
     pub write: bool,
 }
 
+// An enum and no Result: a blocked request is an answer as much as a granted one, and a refusal is neither.
 #[derive(Clone, Copy)]
 pub enum MemoryAnswer {
     // The host address.

@@ -23,7 +23,7 @@ pub struct Walk {
     pub fpd: bool,
 }
 
-// A page entry: its host address, and what is found there.
+// A page entry: its host address, and what is found there. The address stands beside the Result, since a stop names it where it was found, too.
 #[derive(Clone, Copy)]
 pub struct Fetch {
     pub at: u64,

@@ -185,6 +185,7 @@ fn bad_count(count: usize) -> bool
 }
 
 // Refusal 1's part on windows: these are refused on a run of so many bytes.
+#[inline(never)]
 pub fn bad_several(windows: &[u64], run: usize) -> bool
     ensures { result ≡ bad_windows windows.now run }
 {
@@ -204,8 +205,9 @@ pub fn bad_several(windows: &[u64], run: usize) -> bool
     any_share(windows)
 }
 
-// The same, a single window told by its tests alone. The compiler puts a small function into its callers, and leaves one of several callers
-// where it is: so requests have one window's tests, the usual case, without a call, and share the others'.
+// The same, a single window told by its tests alone. The compiler puts a small function into its callers: so requests have one window's
+// tests, the usual case, without a call, and share the others', which stay a function of their own.
+#[inline]
 pub fn bad_windows(windows: &[u64], run: usize) -> bool
     ensures { result ≡ bad_windows windows.now run }
 {

@@ -11,7 +11,7 @@ use Rattle.dma.specs.declared.context.Context.{Context}
 use Rattle.translation.specs.Rights.{both}
 use Rattle.regions.specs.Outside.{table_outside}
 use Rattle.regions.specs.Region.{Region, region_in}
-use Rattle.regions.specs.declared.Tables.{Tables}
+use Rattle.regions.specs.declared.tables.Tables.{Tables}
 use Rattle.mapping.specs.Spans.{Span, spans_after}
 
 -- refused, by number; passed unchanged; a root or context entry that faults, by its reason; or pages, and then every span

@@ -1,7 +1,6 @@
 // A listing, span by span into the lent rows.
 ghost use Rattle.std.specs.Prelude.{false, ◌≡◌, length, ◌+◌, ◌-◌, ◌%◌, ◌^◌, ◌<◌, ◌≤◌};
 ghost use Rattle.image.specs.Answers.{memory_of};
-ghost use Rattle.regions.specs.Answers.{Walkable};
 ghost use Rattle.regions.specs.Known.{Sound};
 ghost use Rattle.regions.specs.Outside.{table_outside};
 ghost use Rattle.mapping.specs.Filled.{FilledWith};
@@ -26,8 +25,7 @@ pub(crate) fn fill(
     known: &mut [u64],
     rows: &mut [u64],
 ) -> Filled
-    requires { Walkable tables
-        × (end ≤ 2 ^ 57) × (end % 4096 ≡ 0)
+    requires { (end ≤ 2 ^ 57) × (end % 4096 ≡ 0)
         × Sound tables.registers (memory_of memory.now) (table_outside memory.now.windows.now) known.old }
     ensures filled_with { FilledWith (spans_after (regions_over tables memory.now.windows.now memory.now.image.now) end 0) rows.old rows.new result.count result.more }
     ensures known_len_unchanged { length known.new ≡ length known.old }

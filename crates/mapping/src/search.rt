@@ -2,7 +2,7 @@
 ghost use Rattle.std.specs.Prelude.{false, ◌≡◌, length, ◌+◌, ◌-◌, ◌%◌, ◌^◌, ◌<◌, ◌≤◌};
 ghost use Rattle.image.specs.Answers.{memory_of};
 ghost use Rattle.dma.specs.InterruptRange.{span_at};
-ghost use Rattle.regions.specs.Answers.{region_of, Walkable};
+ghost use Rattle.regions.specs.Answers.{region_of};
 ghost use Rattle.regions.specs.Known.{Sound};
 ghost use Rattle.regions.specs.Outside.{table_outside};
 ghost use Rattle.mapping.specs.Answers.{next_of};
@@ -23,8 +23,7 @@ fn block_end(address: u64, level: u32) -> u64
 
 // A table that is known to list nothing stands for all of its span.
 fn quick_region(memory: &Memory, tables: Tables, address: u64, known: &[u64]) -> Region
-    requires { Walkable tables
-        × Sound tables.registers (memory_of memory.now) (table_outside memory.now.windows.now) known.now }
+    requires { Sound tables.registers (memory_of memory.now) (table_outside memory.now.windows.now) known.now }
     ensures { Tells (regions_over tables memory.now.windows.now memory.now.image.now) address (region_of result) }
 {
     match known_level(memory, tables, address, known) {
@@ -41,8 +40,7 @@ pub(crate) fn next_span(
     from: u64,
     known: &mut [u64],
 ) -> Option<(u64, Region)>
-    requires { Walkable tables
-        × (end ≤ 2 ^ 57) × (end % 4096 ≡ 0) × (from % 4096 ≡ 0) × (from < 2 ^ 59)
+    requires { (end ≤ 2 ^ 57) × (end % 4096 ≡ 0) × (from % 4096 ≡ 0) × (from < 2 ^ 59)
         × Fresh (regions_over tables memory.now.windows.now memory.now.image.now) from
         × Sound tables.registers (memory_of memory.now) (table_outside memory.now.windows.now) known.old }
     ensures next { IsNext (regions_over tables memory.now.windows.now memory.now.image.now) end from (next_of result) }

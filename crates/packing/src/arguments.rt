@@ -5,7 +5,8 @@ ghost use Rattle.packing.specs.Arguments.{argument_status};
 use crate::status::{BAD_ANSWER, BAD_REGISTERS, BAD_WINDOWS, OK};
 use crate::unpacking::malformed;
 
-// The status where one of them isn't laid out as it should be; the size is that of the buffer for the answer.
+// The status where one of them isn't laid out as it should be; the size is that of the buffer for the answer. A number and no Result: it is
+// what the C interface hands out, OK among the others.
 pub fn bad_arguments(registers: &[u8], windows: &[u64], size: usize) -> u32
     ensures { result ≡ argument_status registers.now windows.now size }
 {

@@ -21,8 +21,8 @@ use Rattle.regions.specs.Answers.{onward_of}
 use Rattle.regions.specs.Known.{rights_number, key_of, PutIn, Remembers, Quiet, Sound, QuietTo}
 use Rattle.regions.specs.Region.{Region, is_listed, region_step, region_in}
 use Rattle.regions.specs.declared.Region.{Region as RegionCode}
-use Rattle.regions.specs.declared.Tables.{Tables}
-use Rattle.regions.specs.declared.walk.Reached.{Reached}
+use Rattle.regions.specs.declared.tables.Tables.{Tables}
+use Rattle.regions.specs.declared.tables.Reached.{Reached}
 use Rattle.regions.proofs.Regions.{low_bits, led-to, led-at}
 
 pub pow-le : (i j : ℕ) → i ≤ j → 2 ^ i ≤ 2 ^ j
@@ -186,8 +186,7 @@ module _ (registers : Registers) (m : Memory) (outside : (table : ℕ) → Bool)
   -- the walk from table to table
   abbrev pub Standing : Tables → (address level : ℕ) → Reached → Type 0
   Standing tables address level at =
-      (0 < level) × (level ≤ 5) × (at.table % 4096 ≡ 0)
-      × OnWalk tables.levels tables.top address level at.table at.rights
+      (0 < level) × (level ≤ 5) × OnWalk tables.levels tables.top address level at.table at.rights
 
   pub standing-down : (tables : Tables) (address level : ℕ) (at : Reached) {step : Result Reached RegionCode} {next : Reached}
       → Standing tables address level at → step ≡ Ok next → onward_of step ≡ region_step registers m outside address (level - 1) at.table at.rights
@@ -195,4 +194,4 @@ module _ (registers : Registers) (m : Memory) (outside : (table : ℕ) → Bool)
   standing-down tables address level at {step} {next} on is told =
       let t = sym (ap onward_of is) ∙ told in
       let to = led-to registers m outside address (level - 1) at.table at.rights t in
-      (to.1, omega (arith, on.1), to.0, on-down tables.levels tables.top address level at.table at.rights on.0 on.3 t)
+      (to.1, omega (arith, on.1), on-down tables.levels tables.top address level at.table at.rights on.0 on.2 t)

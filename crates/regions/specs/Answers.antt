@@ -1,5 +1,5 @@
 -- What the code's enums say, in document 02's values.
-use Rattle.std.specs.Prelude.{◌%◌, ◌<◌, ◌≤◌, ◌≡◌, Option, Some, None, Result, Ok, Err}
+use Rattle.std.specs.Prelude.{Option, Some, None, Result, Ok, Err}
 use Rattle.registers.specs.Refusal.{refusal_number}
 use Rattle.faults.specs.Reason.{number_of}
 use Rattle.dma.specs.Walk.{Step, done, down}
@@ -9,8 +9,8 @@ use Rattle.regions.specs.Region.{What, page, fault, refused, nothing, Region}
 use Rattle.regions.specs.declared.What.{What as WhatCode}
 use Rattle.regions.specs.declared.What.TheVariants as what
 use Rattle.regions.specs.declared.Region.{Region as RegionCode}
-use Rattle.regions.specs.declared.Tables.{Tables}
-use Rattle.regions.specs.declared.walk.Reached.{Reached}
+use Rattle.regions.specs.declared.tables.Tables.{Tables}
+use Rattle.regions.specs.declared.tables.Reached.{Reached}
 
 abbrev pub what_of : Option WhatCode → What
 what_of (Some (what.Page frame)) = page frame
@@ -25,9 +25,6 @@ abbrev pub onward_of : Result Reached RegionCode → Step Rights Region
 onward_of (Ok at) = down at.table at.rights
 onward_of (Err r) = done (region_of r)
 
--- tables that a walk can begin at, and its beginning
-abbrev pub Walkable : Tables → Type 0
-Walkable tables = (0 < tables.levels) × (tables.levels ≤ 5) × (tables.top % 4096 ≡ 0)
-
+-- where a walk begins
 abbrev pub at_top : Tables → Reached
-at_top tables = record { table = tables.top; rights = both }
+at_top tables = record { table = tables.top; rights = both; begins_page = tables.walkable.2 }

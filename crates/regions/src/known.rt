@@ -2,12 +2,11 @@
 // A number for each, at a place that it shares with few others: one that is overwritten is worked out once more.
 ghost use Rattle.std.specs.Prelude.{true, IfSome, ◌≡◌, length, replicate, ◌+◌, ◌*◌, ◌/◌, ◌%◌, ◌^◌, ◌<◌, ◌≤◌};
 ghost use Rattle.image.specs.Answers.{memory_of};
-ghost use Rattle.regions.specs.Answers.{Walkable};
 ghost use Rattle.regions.specs.Known.{rights_number, key_of, StandsIn, Remembers, Sound, QuietAround, QuietTo};
 ghost use Rattle.regions.specs.Outside.{table_outside};
 
-use crate::Tables;
-use crate::walk::{Reached, at_top, table_step};
+use crate::tables::{Reached, Tables};
+use crate::walk::{at_top, table_step};
 use image::{Memory, place64};
 use registers::Page4K;
 use translation::Rights;
@@ -20,7 +19,7 @@ pub fn rights_number(rights: Rights) -> u64
 }
 
 fn key(level: u32, at: Reached) -> u64
-    requires { (at.table % 4096 ≡ 0) × (level ≤ 5) }
+    requires { level ≤ 5 }
     ensures { result ≡ key_of at.table level at.rights }
 {
     at.table + (4 * level as u64 + rights_number(at.rights))
@@ -44,7 +43,7 @@ pub fn forget(known: &mut [u64])
 
 // Whether a table of a level is known.
 fn is_known(memory: &Memory, known: &[u64], level: u32, at: Reached) -> bool
-    requires { (at.table % 4096 ≡ 0) × (level ≤ 5) }
+    requires { level ≤ 5 }
     ensures { result ≡ true → StandsIn known.now (key_of at.table level at.rights) }
 {
     if known.is_empty() {
@@ -65,7 +64,7 @@ pub fn table_span(level: u32) -> u64
 
 // A table that lists nothing, where its span ends with an address and begins no earlier than from.
 fn remember(memory: &Memory, from: u64, last: u64, level: u32, at: Reached, known: &mut [u64])
-    requires { (at.table % 4096 ≡ 0) × (level ≤ 5) × (from < 2 ^ 60) × (last < 2 ^ 60) }
+    requires { (level ≤ 5) × (from < 2 ^ 60) × (last < 2 ^ 60) }
     ensures { Remembers known.old known.new (key_of at.table level at.rights) from last level }
 {
     let span = table_span(level);
@@ -85,8 +84,7 @@ fn remember(memory: &Memory, from: u64, last: u64, level: u32, at: Reached, know
 
 // The level of the highest known table on the walk of an address.
 pub fn known_level(memory: &Memory, tables: Tables, address: u64, known: &[u64]) -> Option<u32>
-    requires { Walkable tables
-        × Sound tables.registers (memory_of memory.now) (table_outside memory.now.windows.now) known.now }
+    requires { Sound tables.registers (memory_of memory.now) (table_outside memory.now.windows.now) known.now }
     ensures { IfSome result (λ level. (0 < level) × (level ≤ 5)
         × QuietAround tables.registers (memory_of memory.now) (table_outside memory.now.windows.now) tables.levels tables.top level address) }
 {
@@ -103,8 +101,7 @@ pub fn known_level(memory: &Memory, tables: Tables, address: u64, known: &[u64])
 // Nothing is listed from an address up to the last one: of the tables on the walk of the last, those that begin no earlier and end there
 // list nothing.
 pub fn remember_tables(memory: &Memory, tables: Tables, from: u64, last: u64, known: &mut [u64])
-    requires { Walkable tables
-        × (from < 2 ^ 60) × (last < 2 ^ 60)
+    requires { (from < 2 ^ 60) × (last < 2 ^ 60)
         × QuietTo tables.registers (memory_of memory.now) (table_outside memory.now.windows.now) tables.levels tables.top from (last + 1)
         × Sound tables.registers (memory_of memory.now) (table_outside memory.now.windows.now) known.old }
     ensures { (length known.new ≡ length known.old)

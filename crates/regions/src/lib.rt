@@ -2,22 +2,15 @@
 #![tactic(auto)]
 
 mod known;
+mod tables;
 mod walk;
 
 use faults::Reason;
 pub use known::{forget, known_level, remember_tables, rights_number, table_span};
-use registers::{Refusal, Registers};
+use registers::Refusal;
+pub use tables::Tables;
 use translation::Rights;
 pub use walk::{empty_region, region_at};
-
-// The page tables of a context, and the registers by which their entries are read.
-#[derive(Clone, Copy, Debug, PartialEq, Eq)]
-pub struct Tables {
-    pub registers: Registers,
-    pub levels: u32,
-    // The top table's address.
-    pub top: u64,
-}
 
 // What is listed of an address.
 #[derive(Clone, Copy, Debug, PartialEq, Eq)]

@@ -4,23 +4,17 @@ ghost use Rattle.image.specs.Answers.{memory_of};
 ghost use Rattle.faults.specs.Reason.{number_of};
 ghost use Rattle.translation.specs.Completion.{page, empty, fault, Reachable};
 ghost use Rattle.translation.specs.Rights.{both};
-ghost use Rattle.regions.specs.Answers.{region_of, onward_of, Walkable, at_top};
+ghost use Rattle.regions.specs.Answers.{region_of, onward_of, at_top};
 ghost use Rattle.regions.specs.Outside.{table_outside};
 ghost use Rattle.regions.specs.Region.{ended, region_step, region_in};
 
-use crate::{Region, Tables, What};
+use crate::tables::{Reached, Tables};
+use crate::{Region, What};
 use dma::{Walk, meets_interrupt_range};
 use faults::Reason;
 use image::Memory;
 use registers::{Refusal, Registers};
 use translation::{Page, Rights, Step, entry_step};
-
-// A table that a walk has come to: its address, and the rights joined above it.
-#[derive(Clone, Copy, Debug, PartialEq, Eq)]
-pub struct Reached {
-    pub table: u64,
-    pub rights: Rights,
-}
 
 // None of a table's bytes is in a window: windows begin at multiples of 4096, so the first byte tells.
 fn table_outside(memory: &Memory, table: u64) -> bool
@@ -79,7 +73,7 @@ pub fn table_step(
     below: u32,
     at: Reached,
 ) -> Result<Reached, Region>
-    requires { (below < 5) × (at.table % 4096 ≡ 0) }
+    requires { below < 5 }
     ensures { onward_of result ≡ region_step registers (memory_of memory.now) (table_outside memory.now.windows.now) address below at.table at.rights }
 {
     if table_outside(memory, at.table) {
@@ -115,7 +109,6 @@ pub fn at_top(tables: Tables) -> Reached
 }
 
 pub fn region_at(memory: &Memory, tables: Tables, address: u64) -> Region
-    requires { Walkable tables }
     ensures { region_of result ≡ region_in tables.registers (memory_of memory.now) (table_outside memory.now.windows.now) address tables.levels tables.top both }
 {
     let mut at = at_top(tables);

@@ -9,5 +9,6 @@ use Rattle.blocks.proofs.blank.Goals as goal
 pub returns : goal.returns
 unfolding zeros
 returns c =
-    all_from_yields_List (λ b. eqb b 0) _ _ c.all.result c.all.ensures.ran (YieldsList-from_slice c.args.bytes.now cc) (λ x b q k. search (rules, tests))
+    all_from_yields_List (λ b. eqb b 0) _ _ c.all.result c.all.ensures.ran (YieldsList-from_slice c.args.bytes.now cc)
+    (λ x b q k. search (rules, tests))
     ∙ same_from_clauses (list_all (λ b. eqb b 0)) zeros (λ b r. eqb b 0 && r) refl (λ _ _. refl) (λ _ _. refl) c.args.bytes.now

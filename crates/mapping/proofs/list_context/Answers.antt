@@ -2,9 +2,11 @@ use Prim.Native.Nat.{ℕ}
 use mathlib.Core.Path.{refl, sym, subst}
 use borrow.Author.Tests.{ne_eqb}
 use Rattle.image.specs.Answers.{memory_of}
+use Rattle.translation.specs.Rights.{both}
 use Rattle.regions.specs.Outside.{table_outside}
+use Rattle.regions.specs.Region.{Region, region_in}
 use Rattle.mapping.specs.Filled.{FilledWith}
-use Rattle.mapping.specs.Mapping.{Mapped, regions_over}
+use Rattle.mapping.specs.Mapping.{Mapped}
 use Rattle.mapping.specs.Spans.{spans_after}
 use Rattle.mapping.specs.Told.{ListedAs}
 use Rattle.mapping.specs.Told as told
@@ -25,7 +27,8 @@ shape_of-known c = c.fill-filled.ensures.known_len_unchanged
 pub returns : goal.returns
 returns c =
     let a = c.args in
-    let region = regions_over (record { registers = a.registers; levels = a.context.levels; top = a.context.top }) a.memory.now.windows.now a.memory.now.image.now in
+    let region : (address : ℕ) → Region =
+        λ address. region_in a.registers (memory_of a.memory.now) (table_outside a.memory.now.windows.now) address a.context.levels a.context.top both in
     record {
       listed_as = subst (λ (k : Mapped). ListedAs k a.rows.now c.fill-filled.new.rows (told.listed c.fill-filled.result.count c.fill-filled.result.more))
           (sym (translates a.registers (memory_of a.memory.now) (table_outside a.memory.now.windows.now) a.context (ne_eqb _ _ c.if-context-eq2.false)))

@@ -6,4 +6,5 @@ use Rattle.traced.specs.Decoded.{entry_well}
 use Rattle.trace.proofs.entries_well.Given as goal
 
 abbrev pub invariant-loop-i : goal.invariant-loop-i
-invariant-loop-i l = entries_well entry_well l.count (drop 8 l.block) ≡ entries_well entry_well (l.count - l.i) (drop (8 + 32 * l.i) l.block)
+invariant-loop-i l =
+    entries_well entry_well l.count (drop 8 l.block) ≡ entries_well entry_well (l.count - l.i) (drop (8 + 32 * l.i) l.block)

@@ -24,7 +24,7 @@ loop-count-init c =
       omega arith,
       fresh-zero region a.end
           (λ x y. same-region a.tables.registers (memory_of a.memory.now) (table_outside a.memory.now.windows.now) x y a.tables.levels a.tables.top both),
-      c.requires.3,
+      c.requires.2,
     )
 
 -- the span that was found
@@ -47,7 +47,7 @@ loop-count-preserved c =
       subst (λ (s : ℕ). Done region a.end a.rows.now c.put_span.new.rows (l.count + 1) (start + s)) span
           (done_more region a.end a.rows.now l.invariant.0 found fits c.put_span.ensures),
       subst (λ (s : ℕ). (start + s) % 4096 ≡ 0) span found.page,
-      omega (arith, found.below, c.requires.1, c.table_span.ensures.2),
+      omega (arith, found.below, c.requires.0, c.table_span.ensures.2),
       subst (λ (s : ℕ). Fresh region (start + s)) span found.fresh,
       c.next_span.ensures.known_len_unchanged.1,
     )

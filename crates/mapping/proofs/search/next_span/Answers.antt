@@ -29,7 +29,7 @@ returns-then-is_some-clause-next c =
     let a = c.args in
     found (regions_over a.tables a.memory.now.windows.now a.memory.now.image.now) a.end
     (λ x y. same-region a.tables.registers (memory_of a.memory.now) (table_outside a.memory.now.windows.now) x y a.tables.levels a.tables.top both)
-    a.from l.at (region_of c.quick_region-region.result) c.requires.3 l.invariant.1 c.requires.2 l.invariant.0 c.loop-at-test.true l.invariant.3 l.invariant.4
+    a.from l.at (region_of c.quick_region-region.result) c.requires.2 l.invariant.1 c.requires.1 l.invariant.0 c.loop-at-test.true l.invariant.3 l.invariant.4
     c.quick_region-region.ensures (listed _ ∙ sym c.is_some.ensures ∙ c.if-is_some.true)
 
 -- the end of a block lies behind its addresses
@@ -53,9 +53,8 @@ pub remember_tables-requires : goal.remember_tables-requires
 remember_tables-requires c =
     let pre = c.requires in
     let here = (goal.at.remember_tables-requires c).After-block_end-at in (
-      pre.0,
-      omega (arith, pre.4),
-      omega (arith, c.block_end-at.ensures.1, c.loop-at-test.true, pre.1),
+      omega (arith, pre.3),
+      omega (arith, c.block_end-at.ensures.1, c.loop-at-test.true, pre.0),
       λ x low high. quiet here x low (omega (arith, high, more here)),
       c.loop-at.invariant.5,
     )
@@ -68,7 +67,7 @@ loop-at-preserved c =
     let here = (goal.at.loop-at-preserved c).After-block_end-at in (
       omega (arith, l.invariant.0, more here),
       block-page width l.at c.block_end-at.ensures.0 (omega arith) l.invariant.1,
-      omega (arith, c.block_end-at.ensures.1, c.loop-at-test.true, c.requires.1),
+      omega (arith, c.block_end-at.ensures.1, c.loop-at-test.true, c.requires.0),
       quiet here,
       fresh_on (regions_over a.tables a.memory.now.windows.now a.memory.now.image.now) a.end
           (λ x y. same-region a.tables.registers (memory_of a.memory.now) (table_outside a.memory.now.windows.now) x y a.tables.levels a.tables.top both)
@@ -82,4 +81,4 @@ returns-clause-next c =
     let a = c.args in
     none_left (regions_over a.tables a.memory.now.windows.now a.memory.now.image.now) a.end
     (λ x y. same-region a.tables.registers (memory_of a.memory.now) (table_outside a.memory.now.windows.now) x y a.tables.levels a.tables.top both)
-    a.from l.at c.requires.3 l.invariant.1 l.invariant.0 l.invariant.3 c.loop-at-test.false
+    a.from l.at c.requires.2 l.invariant.1 l.invariant.0 l.invariant.3 c.loop-at-test.false

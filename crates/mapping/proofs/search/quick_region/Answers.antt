@@ -21,6 +21,6 @@ returns-in-None c =
     let a = c.args in
     tells-region (regions_over a.tables a.memory.now.windows.now a.memory.now.image.now) 0
     (λ x y. same-region a.tables.registers (memory_of a.memory.now) (table_outside a.memory.now.windows.now) x y a.tables.levels a.tables.top both)
-    a.address a.tables.levels (region_of c.region_at.result) c.requires.0.1
+    a.address a.tables.levels (region_of c.region_at.result) a.tables.walkable.1
     (within a.tables.registers (memory_of a.memory.now) (table_outside a.memory.now.windows.now) a.address a.tables.levels a.tables.top both)
     c.region_at.ensures

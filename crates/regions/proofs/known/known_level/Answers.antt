@@ -4,7 +4,7 @@ use Rattle.std.specs.Result.{result_ok}
 use Rattle.image.specs.Answers.{memory_of}
 use Rattle.regions.specs.Outside.{table_outside}
 use Rattle.regions.specs.declared.Region.{Region}
-use Rattle.regions.specs.declared.walk.Reached.{Reached}
+use Rattle.regions.specs.declared.tables.Reached.{Reached}
 use Rattle.regions.proofs.KnownTables.{standing-down}
 use Rattle.regions.proofs.known.known_level.Goals as goal
 

@@ -18,7 +18,7 @@ kept c =
     let l = c.loop-below in
     let here : l.below - 1 + 1 ≡ l.below = omega (arith, l.invariant.0.0) in
     sound-after a.tables.registers (memory_of a.memory.now) (table_outside a.memory.now.windows.now) a.tables.levels a.tables.top a.from a.last l.below l.at.table
-    l.at.rights l.known c.remember.new.known l.invariant.0.3 c.requires.3 l.invariant.0.2 l.invariant.0.1 (rw here at c.remember.ensures) l.invariant.1
+    l.at.rights l.known c.remember.new.known l.invariant.0.2 c.requires.2 l.at.begins_page l.invariant.0.1 (rw here at c.remember.ensures) l.invariant.1
 
 pub returns-in_default : goal.returns-in_default
 returns-in_default c =

@@ -19,4 +19,4 @@ returns-in-Err c =
     let l = c.loop-below in
     ended_at a.tables.registers (memory_of a.memory.now) (table_outside a.memory.now.windows.now) a.address l.below l.at.table l.at.rights l.invariant.0
     (sym (ap onward_of c.in-Err.is) ∙ c.table_step.ensures)
-    ∙ l.invariant.3 a.address refl
+    ∙ l.invariant.2 a.address refl

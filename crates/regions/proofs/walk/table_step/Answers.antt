@@ -6,6 +6,7 @@ use Rattle.image.specs.Answers.{memory_of}
 use Rattle.dma.specs.Walk.{done}
 use Rattle.translation.specs.Answers.{step_of}
 use Rattle.translation.specs.Completion.{Completion, entry_over}
+use Rattle.translation.proofs.Stepped.{down_to}
 use Rattle.regions.specs.Outside.{table_outside}
 use Rattle.regions.specs.Region.{ended, region_step}
 use Rattle.regions.proofs.Regions.{page-reached, step-outside, step-done, step-page, step_down}
@@ -55,6 +56,12 @@ pub returns-in-Err : goal.returns-in-Err
 returns-in-Err c =
     ap done (c.fault_region-in-Err.ensures false)
     ∙ ends (goal.at.returns-in-Err c).After-entry_step (sym (ap step_of c.in-Err.is) ∙ c.entry_step.ensures.result_value)
+
+pub invariant_of-result : goal.invariant_of-result
+invariant_of-result c =
+    let a = c.args in
+    let told = sym (ap (λ k. step_of (Ok k)) c.in-Down.is) ∙ c.in-Ok.ensures.result_value in
+    record { begins_page = (down_to a.registers a.address false (memory_of a.memory.now) a.below a.at.table a.at.rights told).0 }
 
 pub returns-in-Down : goal.returns-in-Down
 returns-in-Down c =
