@@ -2,5 +2,6 @@ pub mod Answers
 pub mod Mapped
 pub mod Pages
 pub mod Tables
+pub mod Tree
 pub mod Unmapped
 pub mod Way
