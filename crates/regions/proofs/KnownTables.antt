@@ -10,20 +10,18 @@ use native.Mathlib.Omega.{arith}
 use lib.ListN.{length, get_or, set, length-set, get_or-replicate, length-replicate, replicate}
 use lib.Pow.{split, high, low, pow_pos, pow-lt}
 use lib.Seq.{get_or-set_same, get_or-set_other}
-use Rattle.std.specs.Prelude.{if◌then◌else◌, Result, Ok}
+use Rattle.std.specs.Prelude.{if◌then◌else◌}
 use Rattle.image.specs.Memory.{Memory}
 use Rattle.registers.specs.declared.Registers.{Registers}
 use Rattle.dma.specs.Walk.{down}
 use Rattle.translation.specs.Rights.{both}
 use Rattle.translation.specs.declared.Rights.{Rights}
 use Rattle.translation.proofs.Pages.{same_above}
-use Rattle.regions.specs.Answers.{onward_of}
 use Rattle.regions.specs.Known.{rights_number, key_of, PutIn, Remembers, Quiet, Sound, QuietTo}
 use Rattle.regions.specs.Region.{Region, is_listed, region_step, region_in}
-use Rattle.regions.specs.declared.Region.{Region as RegionCode}
 use Rattle.regions.specs.declared.tables.Tables.{Tables}
 use Rattle.regions.specs.declared.tables.Reached.{Reached}
-use Rattle.regions.proofs.Regions.{low_bits, led-to, led-at}
+use Rattle.regions.proofs.Regions.{low_bits, led-at}
 
 pub pow-le : (i j : ℕ) → i ≤ j → 2 ^ i ≤ 2 ^ j
 pow-le i j h = by (dec_le j i)
@@ -184,14 +182,12 @@ module _ (registers : Registers) (m : Memory) (outside : (table : ℕ) → Bool)
       ∙ on x (same_above address x (12 + 9 * (level - 1)) (12 + 9 * level) (omega arith) near)
 
   -- the walk from table to table
-  abbrev pub Standing : Tables → (address level : ℕ) → Reached → Type 0
-  Standing tables address level at =
-      (0 < level) × (level ≤ 5) × OnWalk tables.levels tables.top address level at.table at.rights
+  abbrev pub Standing : Tables → (address : ℕ) → Reached → Type 0
+  Standing tables address at = OnWalk tables.levels tables.top address at.level at.table at.rights
 
-  pub standing-down : (tables : Tables) (address level : ℕ) (at : Reached) {step : Result Reached RegionCode} {next : Reached}
-      → Standing tables address level at → step ≡ Ok next → onward_of step ≡ region_step registers m outside address (level - 1) at.table at.rights
-      → Standing tables address (level - 1) next
-  standing-down tables address level at {step} {next} on is told =
-      let t = sym (ap onward_of is) ∙ told in
-      let to = led-to registers m outside address (level - 1) at.table at.rights t in
-      (to.1, omega (arith, on.1), on-down tables.levels tables.top address level at.table at.rights on.0 on.2 t)
+  pub standing-down : (tables : Tables) (address : ℕ) (at next : Reached) → Standing tables address at
+      → down next.table next.rights ≡ region_step registers m outside address (at.level - 1) at.table at.rights → next.level ≡ at.level - 1
+      → Standing tables address next
+  standing-down tables address at next on told lower =
+      subst (λ (l : ℕ). OnWalk tables.levels tables.top address l next.table next.rights) (sym lower)
+      (on-down tables.levels tables.top address at.level at.table at.rights at.walkable.0 on told)

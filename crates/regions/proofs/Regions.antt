@@ -19,7 +19,6 @@ use Rattle.translation.specs.Completion as completion
 use Rattle.translation.specs.declared.Rights.{Rights}
 use Rattle.translation.proofs.Entries.{step-cases, page-low}
 use Rattle.translation.proofs.Pages.{same_place}
-use Rattle.translation.proofs.Stepped.{down_to}
 use Rattle.regions.specs.Region.{fault, Region, ended, region_step, region_in}
 
 pub span-suc : (n : ℕ) → span_at (suc n) ≡ 2 ^ (12 + 9 * n)
@@ -193,7 +192,7 @@ module _ (registers : Registers) (m : Memory) (outside : (table : ℕ) → Bool)
       by true is h = let z : ◌≡◌ {A = ℕ} 0 1 = cc in absurd (omega arith)
       by false is h = (is, on (entry_over registers address false m n table above) h)
 
-  -- it leads on for every address below its entry, to a table that begins a page, and not from level 1
+  -- it leads on for every address below its entry
   pub led_on : (address n table : ℕ) (above : Rights) {next : ℕ} {t : Rights}
       → down next t ≡ region_step registers m outside address n table above
       → (x : ℕ) → address / 2 ^ (12 + 9 * n) ≡ x / 2 ^ (12 + 9 * n)
@@ -206,10 +205,6 @@ module _ (registers : Registers) (m : Memory) (outside : (table : ℕ) → Bool)
       (ap (λ (p : ℕ). rest x n above (step_at n above p)) (sym (same_place address x table n (suc n) (omega arith) (omega arith)
       (rw (span-suc n) near)))
       ∙ ap (rest x n above) (sym is.1))
-
-  pub led-to : (address n table : ℕ) (above : Rights) {next : ℕ} {t : Rights}
-      → down next t ≡ region_step registers m outside address n table above → (next % 4096 ≡ 0) × (0 < n)
-  led-to address n table above told = down_to registers address false m n table above (down_step address n table above told).1
 
   -- the end of a walk
   pub end-here : (address n table : ℕ) (above : Rights) {r : Region} → done r ≡ region_step registers m outside address n table above

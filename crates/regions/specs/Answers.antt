@@ -27,4 +27,4 @@ onward_of (Err r) = done (region_of r)
 
 -- where a walk begins
 abbrev pub at_top : Tables → Reached
-at_top tables = record { table = tables.top; rights = both; begins_page = tables.walkable.2 }
+at_top tables = record { level = tables.levels; table = tables.top; rights = both; walkable = tables.walkable }

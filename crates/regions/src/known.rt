@@ -18,11 +18,10 @@ pub fn rights_number(rights: Rights) -> u64
     rights.read as u64 + 2 * rights.write as u64
 }
 
-fn key(level: u32, at: Reached) -> u64
-    requires { level ≤ 5 }
-    ensures { result ≡ key_of at.table level at.rights }
+fn key(at: Reached) -> u64
+    ensures { result ≡ key_of at.table at.level at.rights }
 {
-    at.table + (4 * level as u64 + rights_number(at.rights))
+    at.table + (4 * at.level as u64 + rights_number(at.rights))
 }
 
 // Where a key stands: by its table's place in the run, so that no two whole tables share a place where there is room for all.
@@ -41,15 +40,13 @@ pub fn forget(known: &mut [u64])
     known.fill(0);
 }
 
-// Whether a table of a level is known.
-fn is_known(memory: &Memory, known: &[u64], level: u32, at: Reached) -> bool
-    requires { level ≤ 5 }
-    ensures { result ≡ true → StandsIn known.now (key_of at.table level at.rights) }
+fn is_known(memory: &Memory, known: &[u64], at: Reached) -> bool
+    ensures { result ≡ true → StandsIn known.now (key_of at.table at.level at.rights) }
 {
     if known.is_empty() {
         return false;
     }
-    let key = key(level, at);
+    let key = key(at);
     let place = slot(memory, at.table, key, known.len());
     known[place] == key
 }
@@ -62,12 +59,12 @@ pub fn table_span(level: u32) -> u64
     1u64 << (Page4K::SHIFT + 9 * level)
 }
 
-// A table that lists nothing, where its span ends with an address and begins no earlier than from.
-fn remember(memory: &Memory, from: u64, last: u64, level: u32, at: Reached, known: &mut [u64])
-    requires { (level ≤ 5) × (from < 2 ^ 60) × (last < 2 ^ 60) }
-    ensures { Remembers known.old known.new (key_of at.table level at.rights) from last level }
+// A table that lists nothing is remembered where its span ends with an address and begins no earlier than from.
+fn remember(memory: &Memory, from: u64, last: u64, at: Reached, known: &mut [u64])
+    requires { (from < 2 ^ 60) × (last < 2 ^ 60) }
+    ensures { Remembers known.old known.new (key_of at.table at.level at.rights) from last at.level }
 {
-    let span = table_span(level);
+    let span = table_span(at.level);
     if (last + 1) % span != 0 {
         return;
     }
@@ -77,7 +74,7 @@ fn remember(memory: &Memory, from: u64, last: u64, level: u32, at: Reached, know
     if known.is_empty() {
         return;
     }
-    let key = key(level, at);
+    let key = key(at);
     let place = slot(memory, at.table, key, known.len());
     known[place] = key;
 }
@@ -89,11 +86,11 @@ pub fn known_level(memory: &Memory, tables: Tables, address: u64, known: &[u64])
         × QuietAround tables.registers (memory_of memory.now) (table_outside memory.now.windows.now) tables.levels tables.top level address) }
 {
     let mut at = at_top(tables);
-    for below in (0..tables.levels).rev() {
-        if is_known(memory, known, below + 1, at) {
-            return Some(below + 1);
+    for _ in 0..tables.levels {
+        if is_known(memory, known, at) {
+            return Some(at.level);
         }
-        at = table_step(memory, tables.registers, address, below, at).ok()?;
+        at = table_step(memory, tables.registers, address, at).ok()?;
     }
     None
 }
@@ -108,9 +105,9 @@ pub fn remember_tables(memory: &Memory, tables: Tables, from: u64, last: u64, kn
         × Sound tables.registers (memory_of memory.now) (table_outside memory.now.windows.now) known.new }
 {
     let mut at = at_top(tables);
-    for below in (0..tables.levels).rev() {
-        remember(memory, from, last, below + 1, at, known);
-        let step = table_step(memory, tables.registers, last, below, at);
+    for _ in 0..tables.levels {
+        remember(memory, from, last, at, known);
+        let step = table_step(memory, tables.registers, last, at);
         let Ok(next) = step else {
             return;
         };

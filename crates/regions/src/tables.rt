@@ -1,5 +1,4 @@
 // The page tables that a walk goes down.
-ghost use Rattle.std.specs.Prelude.{◌≡◌, ◌%◌};
 ghost use Rattle.regions.specs.Walkable.{Walkable};
 
 use registers::Registers;
@@ -15,10 +14,11 @@ pub struct Tables {
     ghost walkable: { Walkable levels top },
 }
 
-// A table that a walk has come to: its address, and the rights joined above it.
+// A table that a walk has come to: its level and address, and the rights joined above it.
 #[derive(Clone, Copy, Debug, PartialEq, Eq)]
 pub struct Reached {
+    pub level: u32,
     pub table: u64,
     pub rights: Rights,
-    ghost begins_page: { table % 4096 ≡ 0 },
+    ghost walkable: { Walkable level table },
 }

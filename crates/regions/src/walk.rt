@@ -1,5 +1,5 @@
 // The region of an address: the walk of a translation request, with the span at whose entry or table it ends.
-ghost use Rattle.std.specs.Prelude.{true, false, ◌≡◌, length, ◌%◌, ◌<◌};
+ghost use Rattle.std.specs.Prelude.{IfOk, true, false, ◌≡◌, length, ◌-◌, ◌%◌, ◌<◌};
 ghost use Rattle.image.specs.Answers.{memory_of};
 ghost use Rattle.faults.specs.Reason.{number_of};
 ghost use Rattle.translation.specs.Completion.{page, empty, fault, Reachable};
@@ -65,19 +65,19 @@ pub fn empty_region(level: u32) -> Region
     }
 }
 
-// One level of the walk, with below levels after it: the table that it leads to, or the region at which the walk ends.
+// One level of the walk: the table that it leads to, or the region at which the walk ends.
 pub fn table_step(
     memory: &Memory,
     registers: Registers,
     address: u64,
-    below: u32,
     at: Reached,
 ) -> Result<Reached, Region>
-    requires { below < 5 }
-    ensures { onward_of result ≡ region_step registers (memory_of memory.now) (table_outside memory.now.windows.now) address below at.table at.rights }
+    ensures onward { onward_of result ≡ region_step registers (memory_of memory.now) (table_outside memory.now.windows.now) address (at.level - 1) at.table at.rights }
+    ensures a_level_down { IfOk result (λ next. next.level ≡ at.level - 1) }
 {
+    let below = at.level - 1;
     if table_outside(memory, at.table) {
-        return Err(fault_region(below + 2, Reason::PageEntryAccess, at.rights));
+        return Err(fault_region(at.level + 1, Reason::PageEntryAccess, at.rights));
     }
     // FPD plays no part in a listing.
     let walk = Walk {
@@ -86,12 +86,16 @@ pub fn table_step(
     };
     let step = match entry_step(memory, registers, walk, below, at.table, at.rights) {
         Ok(step) => step,
-        Err(stop) => return Err(fault_region(below + 1, stop.reason, at.rights)),
+        Err(stop) => return Err(fault_region(at.level, stop.reason, at.rights)),
     };
     match step {
-        Step::Down(table, rights) => Ok(Reached { table, rights }),
+        Step::Down(table, rights) => Ok(Reached {
+            level: below,
+            table,
+            rights,
+        }),
         Step::Page(found) => Err(page_region(found)),
-        Step::Empty => Err(empty_region(below + 1)),
+        Step::Empty => Err(empty_region(at.level)),
     }
 }
 
@@ -100,6 +104,7 @@ pub fn at_top(tables: Tables) -> Reached
     ensures { result ≡ at_top tables }
 {
     Reached {
+        level: tables.levels,
         table: tables.top,
         rights: Rights {
             read: true,
@@ -112,8 +117,8 @@ pub fn region_at(memory: &Memory, tables: Tables, address: u64) -> Region
     ensures { region_of result ≡ region_in tables.registers (memory_of memory.now) (table_outside memory.now.windows.now) address tables.levels tables.top both }
 {
     let mut at = at_top(tables);
-    for below in (0..tables.levels).rev() {
-        match table_step(memory, tables.registers, address, below, at) {
+    for _ in 0..tables.levels {
+        match table_step(memory, tables.registers, address, at) {
             Ok(next) => at = next,
             Err(region) => return region,
         }

@@ -12,9 +12,10 @@ made : (r : Result Reached Region) {next : Reached} → result_ok r ≡ Some nex
 made (Ok at) is = cc
 made (Err region) is = cc
 
-pub loop-below-preserved : goal.loop-below-preserved
-loop-below-preserved c =
+pub loop-preserved : goal.loop-preserved
+loop-preserved c =
     let a = c.args in
-    let l = c.loop-below in
-    standing-down a.tables.registers (memory_of a.memory.now) (table_outside a.memory.now.windows.now) a.tables a.address l.below l.at l.invariant
-    (made _ (sym c.ok.ensures.value ∙ c.in_ok-at.was)) c.table_step.ensures
+    let l = c.loop in
+    let went = made _ (sym c.ok.ensures.value ∙ c.in_ok-at.was) in
+    standing-down a.tables.registers (memory_of a.memory.now) (table_outside a.memory.now.windows.now) a.tables a.address l.at c.in_ok-at.at l.invariant
+    (rw went at c.table_step.ensures.onward) (rw went at c.table_step.ensures.a_level_down)

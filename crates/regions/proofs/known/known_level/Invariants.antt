@@ -3,6 +3,6 @@ use Rattle.regions.specs.Outside.{table_outside}
 use Rattle.regions.proofs.KnownTables.{Standing}
 use Rattle.regions.proofs.known.known_level.Given as goal
 
-abbrev pub invariant-loop-below : goal.invariant-loop-below
-invariant-loop-below l =
-    Standing l.tables.registers (memory_of l.memory) (table_outside l.memory.windows.now) l.tables l.address l.below l.at
+abbrev pub invariant-loop : goal.invariant-loop
+invariant-loop l =
+    Standing l.tables.registers (memory_of l.memory) (table_outside l.memory.windows.now) l.tables l.address l.at

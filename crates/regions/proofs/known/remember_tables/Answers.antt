@@ -1,6 +1,4 @@
-use Prim.Native.Nat.{◌+◌, ◌-◌}
 use mathlib.Core.Path.{◌≡◌, ◌∙◌}
-use native.Mathlib.Omega.{arith}
 use Rattle.image.specs.Answers.{memory_of}
 use lib.ListN.{length}
 use Rattle.regions.specs.Known.{Sound}
@@ -11,25 +9,24 @@ use Rattle.regions.proofs.known.remember_tables.Goals as goal
 
 -- what is known after a level
 kept : (c : After-remember)
-    → (length c.remember.new.known ≡ length c.loop-below.known)
+    → (length c.remember.new.known ≡ length c.loop.known)
     × Sound c.args.tables.registers (memory_of c.args.memory.now) (table_outside c.args.memory.now.windows.now) c.remember.new.known
 kept c =
     let a = c.args in
-    let l = c.loop-below in
-    let here : l.below - 1 + 1 ≡ l.below = omega (arith, l.invariant.0.0) in
-    sound-after a.tables.registers (memory_of a.memory.now) (table_outside a.memory.now.windows.now) a.tables.levels a.tables.top a.from a.last l.below l.at.table
-    l.at.rights l.known c.remember.new.known l.invariant.0.2 c.requires.2 l.at.begins_page l.invariant.0.1 (rw here at c.remember.ensures) l.invariant.1
+    let l = c.loop in
+    sound-after a.tables.registers (memory_of a.memory.now) (table_outside a.memory.now.windows.now) a.tables.levels a.tables.top a.from a.last l.at.level l.at.table
+    l.at.rights l.known c.remember.new.known l.invariant.0 c.requires.2 l.at.walkable.2 l.at.walkable.1 c.remember.ensures l.invariant.1
 
 pub returns-in_default : goal.returns-in_default
 returns-in_default c =
     let k = kept (goal.at.returns-in_default c).After-remember in
-    (k.0 ∙ c.loop-below.auto.known, k.1)
+    (k.0 ∙ c.loop.auto.known, k.1)
 
-pub loop-below-preserved : goal.loop-below-preserved
-loop-below-preserved c =
+pub loop-preserved : goal.loop-preserved
+loop-preserved c =
     let a = c.args in
-    let l = c.loop-below in (
-      standing-down a.tables.registers (memory_of a.memory.now) (table_outside a.memory.now.windows.now) a.tables a.last l.below l.at l.invariant.0
-          c.in-Ok.is c.table_step-step.ensures,
-      (kept (goal.at.loop-below-preserved c).After-remember).1,
+    let l = c.loop in (
+      standing-down a.tables.registers (memory_of a.memory.now) (table_outside a.memory.now.windows.now) a.tables a.last l.at c.in-Ok.next l.invariant.0
+          c.in-Ok.ensures.onward c.in-Ok.ensures.a_level_down,
+      (kept (goal.at.loop-preserved c).After-remember).1,
     )
