@@ -14,8 +14,8 @@ use registers::{Refusal, SourceId};
 #[derive(Clone, Copy, Debug, PartialEq, Eq)]
 pub struct Posted {
     pub notification: Option<Notice>,
-    pub vector: u8,
     pub descriptor: u64,
+    pub vector: u8,
 }
 
 // What the table makes of a request that it doesn't block.
