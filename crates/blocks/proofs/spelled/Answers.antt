@@ -27,8 +27,8 @@ grows now xs x v l = rw (map-append now xs (x ∷ []), reverse-append (map now x
 few : (c : After-from) → length c.loop-byte.yielded < 6
 few c =
     let turn =
-        YieldsList-turn (YieldsList-from_rev_slice c.args.bytes.now cc)
-        c.loop-byte.yielded _ c.loop-byte.yielded_by _ _ c.in-Some.byte c.in-Some.is c.next.ensures.steps in
+    YieldsList-turn (YieldsList-from_rev_slice c.args.bytes.now cc)
+    c.loop-byte.yielded _ c.loop-byte.yielded_by _ _ c.in-Some.byte c.in-Some.is c.next.ensures.steps in
     omega (arith, turn.0, length-reverse c.args.bytes.now)
 
 pub loop-byte-init : goal.loop-byte-init
@@ -37,13 +37,19 @@ loop-byte-init c = (refl, omega arith)
 
 pub overflow_mul-value : goal.overflow_mul-value
 overflow_mul-value c =
-    omega (arith, fits (length c.loop-byte.yielded) {low = c.from.result} c.loop-byte.invariant.1 (omega arith)
-    (few (goal.at.overflow_mul-value c).After-from))
+    omega (
+      arith,
+      fits (length c.loop-byte.yielded) {low = c.from.result} c.loop-byte.invariant.1 (omega arith)
+          (few (goal.at.overflow_mul-value c).After-from),
+    )
 
 pub overflow_add-value : goal.overflow_add-value
 overflow_add-value c =
-    omega (arith, fits (length c.loop-byte.yielded) {low = c.from.result} c.loop-byte.invariant.1 (omega arith)
-    (few (goal.at.overflow_add-value c).After-from))
+    omega (
+      arith,
+      fits (length c.loop-byte.yielded) {low = c.from.result} c.loop-byte.invariant.1 (omega arith)
+          (few (goal.at.overflow_add-value c).After-from),
+    )
 
 pub loop-byte-preserved : goal.loop-byte-preserved
 loop-byte-preserved c =
@@ -55,6 +61,6 @@ loop-byte-preserved c =
 pub returns : goal.returns
 returns c =
     let end =
-        YieldsList-end (YieldsList-from_rev_slice c.args.bytes.now cc)
-        c.loop-byte.yielded _ c.loop-byte.yielded_by _ _ c.in-None.is c.next.ensures.steps in
+    YieldsList-end (YieldsList-from_rev_slice c.args.bytes.now cc)
+    c.loop-byte.yielded _ c.loop-byte.yielded_by _ _ c.in-None.is c.next.ensures.steps in
     c.loop-byte.invariant.0 ∙ ap (λ l. little_endian (reverse l)) end.0 ∙ ap little_endian (reverse-reverse c.args.bytes.now)

@@ -28,7 +28,7 @@ pub returns : goal.returns
 returns c =
     let a = c.args in
     let region : (address : ℕ) → Region =
-        λ address. region_in a.registers (memory_of a.memory.now) (table_outside a.memory.now.windows.now) address a.context.levels a.context.top both in
+    λ address. region_in a.registers (memory_of a.memory.now) (table_outside a.memory.now.windows.now) address a.context.levels a.context.top both in
     record {
       listed_as = subst (λ (k : Mapped). ListedAs k a.rows.now c.fill-filled.new.rows (told.listed c.fill-filled.result.count c.fill-filled.result.more))
           (sym (translates a.registers (memory_of a.memory.now) (table_outside a.memory.now.windows.now) a.context (ne_eqb _ _ c.if-context-eq2.false)))

@@ -16,10 +16,10 @@ returns c =
     let zeros = c.fill.ensures.after (λ y e. e) ∙ ap (λ (k : ℕ). replicate k 0) (sym c.fill.ensures.len ∙ sized) in
     let cleared = put_mid (8 + 32 * n) (508 - (8 + 32 * n)) buffer c.fill.new.self in
     let one : cleared ≡ take (8 + 32 * n) buffer ++ replicate (500 - 32 * n) 0 ++ drop (8 + 32 * n + (500 - 32 * n)) buffer =
-        rw behind (written_over buffer (8 + 32 * n) (500 - 32 * n) zeros) in
+    rw behind (written_over buffer (8 + 32 * n) (500 - 32 * n) zeros) in
     let headed = set (set cleared 0 0x56) 1 n in
     let two = written_over headed 2 6 (c.copy_from_slice.ensures.after ∙ lowest-six c.args.number c.to_le_bytes.ensures) in
     let last =
-        written_over (put_mid 2 6 headed c.copy_from_slice.new.self) 508 4
-        (c.copy_from_slice-2.ensures.after ∙ lowest-four c.sum-sum.result c.to_le_bytes-2.ensures) in
+    written_over (put_mid 2 6 headed c.copy_from_slice.new.self) 508 4
+    (c.copy_from_slice-2.ensures.after ∙ lowest-four c.sum-sum.result c.to_le_bytes-2.ensures) in
     finished buffer c.args.number n c.requires.1 c.requires.0 one two c.sum-sum.ensures last
