@@ -1,17 +1,12 @@
 -- Flags of entries: accessed, extended accessed and dirty bits (document 003, 3.6.2 and 3.7.2). A granted request sets those of the entries
 -- that it used, all of them after its last read; anything else sets none.
-use Rattle.std.specs.Prelude.{ℕ, ◌+◌, ◌*◌, ◌/◌, ◌%◌, List, [], ◌∷◌, take, slice_index, slice_set}
+use Rattle.std.specs.Prelude.{ℕ, ◌+◌, ◌*◌, ◌/◌, ◌%◌, List, [], ◌∷◌, slice_index, slice_set}
 use Rattle.image.specs.Windows.{windows_of, on_spot, spot_in}
 use Rattle.interrupts.specs.Post.{with_bit}
-use Rattle.flags.specs.declared.collected.Flags.{Flags}
 
 -- a bit of the entry at a host address, by its number from host address 0: bit n % 8 of the byte at host address n / 8
 abbrev pub flag : (entry number : ℕ) → ℕ
 flag entry number = 8 * entry + number
-
--- the flags that the code has collected
-abbrev pub collected : Flags → List ℕ
-collected f = take f.count f.words
 
 -- the run with a flag set, where a window shows its byte
 unfoldable pub set_flag : (windows : List ℕ) (n : ℕ) → List ℕ → List ℕ

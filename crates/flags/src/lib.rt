@@ -1,51 +1,23 @@
 // The flags that a granted request sets in the entries it used: accessed, extended accessed and dirty bits. They are collected during the
-// walks, and set at the end.
+// walks, in a lent buffer whose first numbers are the flags so far, and set at the end.
 #![tactic(auto)]
 
 ghost use Rattle.std.specs.Prelude.{◌≡◌, ◌+◌, ◌^◌, ◌<◌, ◌≤◌, false, [], ◌∷◌, ◌++◌, length, take};
 ghost use Rattle.image.specs.Spans.{Opened};
 ghost use Rattle.image.specs.Answers.{HeldBy};
 ghost use Rattle.image.specs.Windows.{windows_of, bad_windows};
-ghost use Rattle.flags.specs.Flags.{flag, set_flag, set_flags, collected};
+ghost use Rattle.flags.specs.Flags.{flag, set_flag, set_flags};
 
-mod collected;
-
-pub use collected::Flags;
 use image::{Span, find_window, first_span, place_in};
 
-impl Flags {
-    pub fn new() -> Self
-        ensures { collected result ≡ [] }
-    {
-        Self {
-            words: [0; 47],
-            count: 0,
-        }
-    }
-
-    // None are collected any more.
-    pub fn clear(&mut self)
-        ensures { (collected self.new ≡ []) × (self.new.count ≡ 0) }
-    {
-        self.count = 0;
-    }
-
-    // One more: a bit of the entry at a host address.
-    pub fn push(&mut self, entry: u64, bit: u32)
-        requires { (self.old.count < 47) × (entry < 2 ^ 60) × (bit < 64) }
-        ensures count_after { self.new.count ≡ self.old.count + 1 }
-        ensures flags_after { collected self.new ≡ collected self.old ++ (flag entry bit ∷ []) }
-    {
-        self.words[self.count] = 8 * entry + bit as u64;
-        self.count += 1;
-    }
-
-    // Those to be set.
-    pub fn as_slice(&self) -> &[u64]
-        ensures { result.now ≡ collected self.now }
-    {
-        &self.words[..self.count]
-    }
+// One more: a bit of the entry at a host address. Back comes how many there are then.
+pub fn push(flags: &mut [u64], count: usize, entry: u64, bit: u32) -> usize
+    requires { (count < length flags.old) × (entry < 2 ^ 60) × (bit < 64) }
+    ensures value { result ≡ count + 1 }
+    ensures flags_after { take (count + 1) flags.new ≡ take count flags.old ++ (flag entry bit ∷ []) }
+{
+    flags[count] = 8 * entry + bit as u64;
+    count + 1
 }
 
 // Most flags lie in the first window, which is read once. The tests of the others stay a function: put in here, a nested read takes 3 % more

@@ -166,6 +166,6 @@ module _ (r : ScalableRegisters) (p : PasidEntry) (address : ℕ) (write : Bool)
   led-at = onward-way-at first_level_entry address (locate r p) (no_first_entry p) (walk_step r p address write) (no-entry r p) m level table s more
 
 -- the number of flags by a larger bound
-pub grows-more : (l : Level) (most most' count : ℕ) → most ≤ most' → LevelGrows (Ok l) most count → LevelGrows (Ok l) most' count
-grows-more (level.Down table) most most' count h g = omega (arith, g)
-grows-more (level.Page frame of) most most' count h g = omega (arith, g)
+pub grows-more : (l : Level) (most most' : ℕ) → most ≤ most' → LevelGrows (Ok l) most → LevelGrows (Ok l) most'
+grows-more (level.Down table n) most most' h g = omega (arith, g)
+grows-more (level.Page frame of n) most most' h g = omega (arith, g)

@@ -29,9 +29,9 @@ use Rattle.nested.proofs.Forks.{forks-outside, forks-locate}
 use Rattle.nested.proofs.Ways.{IsLost}
 
 -- the number of flags by a larger bound
-pub grown-more : (w : Result Page (Stop ScalableReason)) (count most most' after : ℕ) → most ≤ most' → Grown w count most after → Grown w count most' after
-grown-more (Ok p) count most most' after h g = (g.0, omega (arith, g.1))
-grown-more (Err e) count most most' after h g = tt
+pub grown-more : (w : Result Page (Stop ScalableReason)) (count most most' : ℕ) → most ≤ most' → Grown w count most → Grown w count most'
+grown-more (Ok p) count most most' h g = (g.0, omega (arith, g.1))
+grown-more (Err e) count most most' h g = tt
 
 module _ (r : ScalableRegisters) (p : PasidEntry) (wanted : Wanted) (address : ℕ) (flags : List ℕ) where
   pub beyond : (m : Memory) → overflows r.base p.second_levels address ≡ true

@@ -1,9 +1,9 @@
 // One level of the first-level walk.
-ghost use Rattle.std.specs.Prelude.{Bool, true, false, [], ◌∷◌, ◌++◌, map, ◌≡◌, ◌+◌, ◌%◌, ◌^◌, ◌<◌, ◌≤◌};
+ghost use Rattle.std.specs.Prelude.{Bool, true, false, [], ◌∷◌, ◌++◌, map, ◌≡◌, length, take, ◌+◌, ◌%◌, ◌^◌, ◌<◌, ◌≤◌};
 ghost use Rattle.std.specs.Prelude.{if◌then◌else◌};
 ghost use Rattle.image.specs.Place.{entry_at};
 ghost use Rattle.image.specs.Answers.{memory_of};
-ghost use Rattle.flags.specs.Flags.{flag, collected};
+ghost use Rattle.flags.specs.Flags.{flag};
 ghost use Rattle.first.specs.First.{first_flags};
 ghost use Rattle.nested.specs.Answers.{level_of, LevelNames, LevelGrows, LevelReachable};
 ghost use Rattle.nested.specs.Pages.{entry_flags, walk_step};
@@ -12,50 +12,59 @@ ghost use Rattle.nested.specs.Positions.{entry_over};
 use crate::position::{EntryAt, Position, Walk};
 use faults::Stop;
 use first::{FirstStep, first_step, flag_clear, unfetchable};
-use flags::Flags;
+use flags::push;
 use image::Memory;
 use pasid::{PasidEntry, ScalableReason};
 
 // What a level's entry leads to.
 #[derive(Clone, Copy)]
 pub enum Level {
-    // The next table.
-    Down(u64),
-    // The frame of a page and the entry's level.
-    Page(u64, u32),
+    // The next table, and how many flags there are then.
+    Down(u64, usize),
+    // The frame of a page and the entry's level, and how many flags there are then.
+    Page(u64, u32, usize),
 }
 
 // A flag of the entry at a host address, where it is wanted.
-fn push_if(flags: &mut Flags, wanted: bool, at: u64, bit: u32)
-    requires { (flags.old.count < 47) × (at < 2 ^ 60) × (bit < 64) }
-    ensures flags_after { collected flags.new ≡ collected flags.old ++ (if wanted then flag at bit ∷ [] else []) }
-    ensures upper_bound { (flags.new.count ≤ flags.old.count + 1) × (wanted ≡ false → flags.new.count ≤ flags.old.count) }
+fn push_if(flags: &mut [u64], count: usize, wanted: bool, at: u64, bit: u32) -> usize
+    requires { (count < length flags.old) × (at < 2 ^ 60) × (bit < 64) }
+    ensures flags_after { take result flags.new ≡ take count flags.old ++ (if wanted then flag at bit ∷ [] else []) }
+    ensures upper_bound { (result ≤ count + 1) × (wanted ≡ false → result ≤ count) }
 {
     if wanted {
-        flags.push(at, bit);
+        return push(flags, count, at, bit);
     }
+    count
 }
 
 // A, D where it is to be set, and EA with EAFE, of the entry at a host address.
-fn push_all(flags: &mut Flags, entry: PasidEntry, dirty: bool, at: u64)
-    requires { (flags.old.count + 3 ≤ 47) × (at < 2 ^ 60) }
-    ensures flags_after { collected flags.new ≡ collected flags.old ++ map (flag at) (first_flags entry dirty true) }
-    ensures upper_bound { (flags.new.count ≤ flags.old.count + 3) × (dirty ≡ false → flags.new.count ≤ flags.old.count + 2) }
+fn push_all(flags: &mut [u64], count: usize, entry: PasidEntry, dirty: bool, at: u64) -> usize
+    requires { (count + 3 ≤ length flags.old) × (at < 2 ^ 60) }
+    ensures flags_after { take result flags.new ≡ take count flags.old ++ map (flag at) (first_flags entry dirty true) }
+    ensures upper_bound { (result ≤ count + 3) × (dirty ≡ false → result ≤ count + 2) }
 {
-    push_if(flags, true, at, 5);
-    push_if(flags, dirty, at, 6);
-    push_if(flags, entry.eafe, at, 10);
+    let accessed = push_if(flags, count, true, at, 5);
+    let written = push_if(flags, accessed, dirty, at, 6);
+    push_if(flags, written, entry.eafe, at, 10)
 }
 
 // The flags of an entry, where one of them is still clear. dirty: it is that of a page to be written.
-fn push_entry(flags: &mut Flags, entry: PasidEntry, dirty: bool, at: u64, e: u64)
-    requires { (flags.old.count + 3 ≤ 47) × (at < 2 ^ 60) }
-    ensures flags_after { collected flags.new ≡ collected flags.old ++ entry_flags entry dirty true at e }
-    ensures upper_bound { (flags.new.count ≤ flags.old.count + 3) × (dirty ≡ false → flags.new.count ≤ flags.old.count + 2) }
+fn push_entry(
+    flags: &mut [u64],
+    count: usize,
+    entry: PasidEntry,
+    dirty: bool,
+    at: u64,
+    e: u64,
+) -> usize
+    requires { (count + 3 ≤ length flags.old) × (at < 2 ^ 60) }
+    ensures flags_after { take result flags.new ≡ take count flags.old ++ entry_flags entry dirty true at e }
+    ensures upper_bound { (result ≤ count + 3) × (dirty ≡ false → result ≤ count + 2) }
 {
     if flag_clear(entry, dirty, true, e) {
-        push_all(flags, entry, dirty, at);
+        return push_all(flags, count, entry, dirty, at);
     }
+    count
 }
 
 // The entry, as it was fetched.
@@ -64,13 +73,13 @@ fn level_step(
     level: u32,
     here: EntryAt,
     e: u64,
-    flags: &mut Flags,
+    flags: &mut [u64],
 ) -> Result<Level, Stop<ScalableReason>>
-    requires { (0 < level) × (here.at < 2 ^ 60) × (flags.old.count + 3 ≤ 47) }
-    ensures flags_after { (top : Bool) → level_of result walk.asked.address (collected flags.new) ≡ walk_step walk.space.registers walk.space.entry walk.asked.address walk.asked.write level here.at (record { top = top; writable = here.writable; flags = collected flags.old }) e }
+    requires { (0 < level) × (here.at < 2 ^ 60) × (here.count + 3 ≤ length flags.old) }
+    ensures flags_after { (top : Bool) → level_of result walk.asked.address flags.new ≡ walk_step walk.space.registers walk.space.entry walk.asked.address walk.asked.write level here.at (record { top = top; writable = here.writable; flags = take here.count flags.old }) e }
     ensures level_names { LevelNames result (entry_at here.at) }
     ensures level_reachable { LevelReachable result level }
-    ensures level_grows { LevelGrows result (flags.old.count + 2) flags.new.count }
+    ensures level_grows { LevelGrows result (here.count + 2) }
 {
     let entry = walk.space.entry;
     let write = walk.asked.write;
@@ -84,12 +93,12 @@ fn level_step(
         e,
     )? {
         FirstStep::Down(table) => {
-            push_entry(flags, entry, false, here.at, e);
-            Ok(Level::Down(table))
+            let used = push_entry(flags, here.count, entry, false, here.at, e);
+            Ok(Level::Down(table, used))
         }
         FirstStep::Page(frame, of) => {
-            push_entry(flags, entry, write, here.at, e);
-            Ok(Level::Page(frame, of))
+            let used = push_entry(flags, here.count, entry, write, here.at, e);
+            Ok(Level::Page(frame, of, used))
         }
     }
 }
@@ -100,13 +109,13 @@ pub(crate) fn level_entry(
     walk: Walk,
     position: Position,
     here: EntryAt,
-    flags: &mut Flags,
+    flags: &mut [u64],
 ) -> Result<Level, Stop<ScalableReason>>
-    requires { (0 < position.level) × (here.at % 8 ≡ 0) × (here.at < 2 ^ 60) × (flags.old.count + 3 ≤ 47) }
-    ensures flags_after { level_of result walk.asked.address (collected flags.new) ≡ entry_over walk.space.registers walk.space.entry walk.asked.address walk.asked.write (memory_of memory.now) position.level here.at (record { top = position.top; writable = here.writable; flags = collected flags.old }) }
+    requires { (0 < position.level) × (here.at % 8 ≡ 0) × (here.at < 2 ^ 60) × (here.count + 3 ≤ length flags.old) }
+    ensures flags_after { level_of result walk.asked.address flags.new ≡ entry_over walk.space.registers walk.space.entry walk.asked.address walk.asked.write (memory_of memory.now) position.level here.at (record { top = position.top; writable = here.writable; flags = take here.count flags.old }) }
     ensures level_names { LevelNames result (entry_at here.at) }
     ensures level_reachable { LevelReachable result position.level }
-    ensures level_grows { LevelGrows result (flags.old.count + 2) flags.new.count }
+    ensures level_grows { LevelGrows result (here.count + 2) }
 {
     let offset = here.at % 4096;
     let table = here.at - offset;

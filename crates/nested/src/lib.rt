@@ -1,10 +1,9 @@
 // First-level and nested translation: the walk by levels whose entries, in a nested translation, are found through the second level.
 #![tactic(auto)]
 
-ghost use Rattle.std.specs.Prelude.{Bool, List, [], ◌≡◌, ℕ};
+ghost use Rattle.std.specs.Prelude.{Bool, List, ◌≡◌, length, take, ℕ, ◌≤◌};
 ghost use Rattle.image.specs.Place.{entry_at};
 ghost use Rattle.image.specs.Answers.{memory_of};
-ghost use Rattle.flags.specs.Flags.{collected};
 ghost use Rattle.nested.specs.Pages.{first_handed, PagesWalkable};
 ghost use Rattle.nested.specs.Positions.{kind_rules, rest_rules, PagesTell, PositionFits};
 
@@ -14,7 +13,6 @@ mod turn;
 mod way;
 
 use faults::Stop;
-use flags::Flags;
 use image::Memory;
 use pasid::{PasidEntry, ScalableReason, ScalableRegisters};
 use position::Position;
@@ -30,13 +28,15 @@ pub struct Reached {
     pub level: u32,
     // The host address.
     pub host: u64,
+    // How many flags are collected.
+    pub count: usize,
 }
 
 // at: the host address of the PASID table entry, which was tried last.
 fn first_position(entry: PasidEntry, at: u64, address: u64) -> Position
     requires { PagesWalkable entry }
-    ensures position_fits { PositionFits entry result 0 × (result.last ≡ at) }
-    ensures flags_value { (registers : ScalableRegisters) (write : Bool) (flags : List ℕ) → flags ≡ [] → rest_rules registers entry address write result.level result.at (first_handed result.top flags) ≡ kind_rules registers entry address write }
+    ensures position_fits { PositionFits entry result × (result.last ≡ at) }
+    ensures flags_value { (registers : ScalableRegisters) (write : Bool) (flags : List ℕ) → rest_rules registers entry address write result.level result.at (first_handed result.top (take result.count flags)) ≡ kind_rules registers entry address write }
 {
     if entry.kind == 2 {
         return Position {
@@ -44,6 +44,7 @@ fn first_position(entry: PasidEntry, at: u64, address: u64) -> Position
             at: address,
             top: true,
             last: at,
+            count: 0,
         };
     }
     Position {
@@ -51,21 +52,20 @@ fn first_position(entry: PasidEntry, at: u64, address: u64) -> Position
         at: entry.first_top,
         top: true,
         last: at,
+        count: 0,
     }
 }
 
-// By PGTT, where it is none that passes through. at: the host address of the PASID table entry, which was tried last. The flags are
-// collected anew.
+// By PGTT, where it is none that passes through. at: the host address of the PASID table entry, which was tried last.
 pub fn walk_pages(
     memory: &Memory,
     walk: Walk,
     at: u64,
-    flags: &mut Flags,
+    flags: &mut [u64],
 ) -> Result<Reached, Stop<ScalableReason>>
-    requires { PagesWalkable walk.space.entry }
-    ensures { PagesTell result (kind_rules walk.space.registers walk.space.entry walk.asked.address walk.asked.write) (memory_of memory.now) (entry_at at) (collected flags.new) }
+    requires { PagesWalkable walk.space.entry × (47 ≤ length flags.old) }
+    ensures { PagesTell result (kind_rules walk.space.registers walk.space.entry walk.asked.address walk.asked.write) (memory_of memory.now) (entry_at at) flags.new }
 {
-    flags.clear();
     let mut position = first_position(walk.space.entry, at, walk.asked.address);
     // A loop: an entry tells where the next turn stands, and whether there is one; no range or list has its turns.
     loop {

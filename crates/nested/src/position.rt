@@ -25,6 +25,8 @@ pub struct Position {
     pub top: bool,
     // The host address of the entry that was tried last.
     pub last: u64,
+    // How many flags are collected.
+    pub count: usize,
 }
 
 // Where a first-level entry stands.
@@ -34,4 +36,6 @@ pub struct EntryAt {
     pub at: u64,
     // The way to it may be written.
     pub writable: bool,
+    // How many flags are collected.
+    pub count: usize,
 }

@@ -1,9 +1,8 @@
 // Where a first-level entry or a page stands.
-ghost use Rattle.std.specs.Prelude.{◌||◌, ◌≡◌, eqb, ◌+◌, ◌%◌, ◌^◌, ◌<◌, ◌≤◌};
+ghost use Rattle.std.specs.Prelude.{◌||◌, ◌≡◌, eqb, length, take, ◌+◌, ◌%◌, ◌^◌, ◌<◌, ◌≤◌};
 ghost use Rattle.image.specs.Place.{entry_at, last_tried};
 ghost use Rattle.image.specs.Rules.{run};
 ghost use Rattle.image.specs.Answers.{memory_of};
-ghost use Rattle.flags.specs.Flags.{collected};
 ghost use Rattle.nested.specs.Pages.{intermediate_rules, SecondWalkable};
 ghost use Rattle.nested.specs.Positions.{place_at, wanted_at, PositionFits, WayTells};
 ghost use Rattle.second.specs.Answers.{walked_of, Names, Grown};
@@ -13,7 +12,6 @@ use crate::Reached;
 use crate::position::{EntryAt, Position, Walk};
 use dma::{entry_offset, host_address, overflows};
 use faults::Stop;
-use flags::Flags;
 use image::Memory;
 use pasid::{PasidEntry, ScalableReason};
 use second::{Page, Wanted, second_walk};
@@ -62,13 +60,13 @@ fn intermediate(
     walk: Walk,
     position: Position,
     address: u64,
-    flags: &mut Flags,
+    flags: &mut [u64],
 ) -> Result<Page, Stop<ScalableReason>>
-    requires { SecondWalkable walk.space.entry × (flags.old.count + 6 ≤ 47) }
-    ensures flags_after { walked_of result (collected flags.new) ≡ run (intermediate_rules walk.space.registers walk.space.entry (wanted_at walk.space.entry walk.asked.write position.level) address (collected flags.old)) (memory_of memory.now) }
-    ensures names { Names result (last_tried (entry_at position.last) (intermediate_rules walk.space.registers walk.space.entry (wanted_at walk.space.entry walk.asked.write position.level) address (collected flags.old)) (memory_of memory.now)) }
-    ensures reachable { Reachable (walked_of result (collected flags.new)) }
-    ensures grown { Grown result flags.old.count (flags.old.count + 6) flags.new.count }
+    requires { SecondWalkable walk.space.entry × (position.count + 6 ≤ length flags.old) }
+    ensures flags_after { walked_of result flags.new ≡ run (intermediate_rules walk.space.registers walk.space.entry (wanted_at walk.space.entry walk.asked.write position.level) address (take position.count flags.old)) (memory_of memory.now) }
+    ensures names { Names result (last_tried (entry_at position.last) (intermediate_rules walk.space.registers walk.space.entry (wanted_at walk.space.entry walk.asked.write position.level) address (take position.count flags.old)) (memory_of memory.now)) }
+    ensures reachable { Reachable (walked_of result flags.new) }
+    ensures grown { Grown result position.count (position.count + 6) }
 {
     let space = walk.space;
     if overflows(space.registers.base, space.entry.second_levels, address) {
@@ -76,7 +74,7 @@ fn intermediate(
         return Err(space.entry.stop(reason, position.last));
     }
     let wanted = wanted_at(space.entry, walk.asked.write, position.level);
-    second_walk(memory, space, wanted, address, flags)
+    second_walk(memory, space, wanted, address, flags, position.count)
 }
 
 // The next entry, or the page where there is none.
@@ -84,9 +82,9 @@ pub(crate) fn locate(
     memory: &Memory,
     walk: Walk,
     position: Position,
-    flags: &mut Flags,
+    flags: &mut [u64],
 ) -> Result<ControlFlow<Reached, EntryAt>, Stop<ScalableReason>>
-    requires { PositionFits walk.space.entry position flags.old.count }
+    requires { PositionFits walk.space.entry position × (47 ≤ length flags.old) }
     ensures { WayTells result walk position (memory_of memory.now) flags.old flags.new }
 {
     let place = place_of(walk.asked.address, position.level, position.at);
@@ -94,6 +92,7 @@ pub(crate) fn locate(
         return Ok(ControlFlow::Continue(EntryAt {
             at: place,
             writable: true,
+            count: position.count,
         }));
     }
     let page = intermediate(memory, walk, position, place, flags)?;
@@ -103,10 +102,12 @@ pub(crate) fn locate(
             frame: page.frame,
             level: page.level,
             host,
+            count: page.count,
         }));
     }
     Ok(ControlFlow::Continue(EntryAt {
         at: host,
         writable: page.writable,
+        count: page.count,
     }))
 }

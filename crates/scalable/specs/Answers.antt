@@ -1,4 +1,4 @@
--- What the code answers, in VT-d's numbers, with the flags that are collected then.
+-- What the code answers, in VT-d's numbers, over the buffer that flags are collected in.
 use Rattle.std.specs.Prelude.{ℕ, ◌^◌, ◌<◌, ◌≤◌, List, ◌≡◌, Result, Ok, Err}
 use Rattle.image.specs.Answers.{place_of}
 use Rattle.image.specs.Place.{Place, no_entry, entry_at}
@@ -27,6 +27,7 @@ abbrev pub lookup_place : Result FoundEntry (Stop ScalableReason) → Place
 lookup_place (Ok f) = entry_at f.at
 lookup_place (Err s) = entry_at s.at
 
+-- the flags are the buffer's first
 abbrev pub translation_of : Result TranslationCode (Stop ScalableReason) → (flags : List ℕ) → Translation
 translation_of (Ok translation.Through) flags = through
 translation_of (Ok (translation.Page r)) flags = translated (pages_of (Ok r) flags)
@@ -38,7 +39,7 @@ TranslationNames r place = stop_place r place ≡ place
 
 abbrev pub TranslationReachable : Result TranslationCode (Stop ScalableReason) → Type 0
 TranslationReachable (Ok translation.Through) = Unit {0}
-TranslationReachable (Ok (translation.Page r)) = (r.frame < 2 ^ 52) × (0 < r.level) × (r.level ≤ 3)
+TranslationReachable (Ok (translation.Page r)) = (r.frame < 2 ^ 52) × (0 < r.level) × (r.level ≤ 3) × (r.count ≤ 47)
 TranslationReachable (Err s) = Unit {0}
 
 abbrev pub outcome_of : ScalableAnswer → MemoryOutcome

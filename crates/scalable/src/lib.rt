@@ -1,12 +1,12 @@
 // Requests in scalable mode: untranslated reads and writes, with a PASID or none.
 #![tactic(auto)]
 
-ghost use Rattle.std.specs.Prelude.{false, List, ◌≡◌, length, ℕ, ◌%◌, ◌^◌, ◌<◌, ◌≤◌};
+ghost use Rattle.std.specs.Prelude.{false, List, ◌≡◌, length, take, ℕ, ◌%◌, ◌^◌, ◌<◌, ◌≤◌};
 ghost use Rattle.image.specs.Place.{Place, stopped_at};
 ghost use Rattle.image.specs.Rules.{run};
 ghost use Rattle.image.specs.Windows.{of_windows, bad_windows};
 ghost use Rattle.dma.specs.Requests.{concerned};
-ghost use Rattle.flags.specs.Flags.{set_flags, collected};
+ghost use Rattle.flags.specs.Flags.{set_flags};
 ghost use Rattle.nested.specs.Pages.{reached};
 ghost use Rattle.scalable.specs.Answers.{outcome_of, entry_of, translation_of, TranslationNames, TranslationReachable};
 ghost use Rattle.scalable.specs.Requests.{translated, pasid_too_wide, decision, taken_rules, scalable_answer, scalable_answer_place, scalable_written};
@@ -16,7 +16,7 @@ mod translation;
 
 use dma::meets_interrupt_range;
 use faults::Stop;
-use flags::{Flags, set_flags};
+use flags::set_flags;
 use image::{Memory, bad_windows, first_span};
 use nested::Reached;
 use pasid::{Pasid, ScalableFault, ScalableReason, ScalableRegisters, scalable_fault};
@@ -84,24 +84,25 @@ fn answer(
     }
 }
 
-// The collected flags that are set: none where the page is refused.
-fn flags_to_set(translated: Result<Translation, Stop<ScalableReason>>, flags: &Flags) -> &[u64]
+// How many of the collected flags are set: none where the page is refused.
+fn flags_to_set(translated: Result<Translation, Stop<ScalableReason>>) -> usize
     requires { TranslationReachable translated }
-    ensures { (request : ScalableRequest) → result.now ≡ (decision request (translation_of translated (collected flags.now))).flags }
+    ensures flags_value { (request : ScalableRequest) (flags : List ℕ) → take result flags ≡ (decision request (translation_of translated flags)).flags }
+    ensures upper_bound { result ≤ 47 }
 {
     match translated {
-        Ok(Translation::Through) => &[],
+        Ok(Translation::Through) => 0,
         Ok(Translation::Page(page)) => {
             if meets_interrupt_range(page.level, page.frame) {
-                return &[];
+                return 0;
             }
-            flags.as_slice()
+            page.count
         }
-        Err(_) => &[],
+        Err(_) => 0,
     }
 }
 
-// A request that is admitted.
+// A request that is admitted. It collects at most 47 flags: nested, with 5 and 5 levels, 5 × (5 + 1 + 2) + 1 and 5 + 1.
 fn take_up(
     registers: ScalableRegisters,
     windows: &[u64],
@@ -116,14 +117,15 @@ fn take_up(
     if pasid_too_wide(request.pasid) {
         return ScalableAnswer::Refused(Refusal::WidePasid);
     }
-    let mut flags = Flags::new();
+    let mut flags = [0u64; 47];
     let memory = Memory {
         first: first_span(windows),
         windows,
         image,
     };
     let translated = translate(&memory, registers, request, &mut flags);
-    set_flags(windows, image, flags_to_set(translated, &flags));
+    let count = flags_to_set(translated);
+    set_flags(windows, image, &flags[..count]);
     answer(request, translated)
 }
 

@@ -1,10 +1,9 @@
 // From the root entry to a page or a fault.
-ghost use Rattle.std.specs.Prelude.{false, ◌≡◌, ◌%◌, ◌≤◌};
+ghost use Rattle.std.specs.Prelude.{false, ◌≡◌, length, ◌%◌, ◌≤◌};
 ghost use Rattle.image.specs.Place.{entry_at, last_tried, stopped_at};
 ghost use Rattle.image.specs.Rules.{run};
 ghost use Rattle.image.specs.Answers.{memory_of};
-ghost use Rattle.flags.specs.Flags.{collected};
-ghost use Rattle.nested.specs.Answers.{pages_of, PagesNames};
+ghost use Rattle.nested.specs.Answers.{pages_of, PagesNames, PagesGrows};
 ghost use Rattle.nested.specs.Pages.{Reachable, PagesWalkable};
 ghost use Rattle.scalable.specs.Answers.{translation_of, TranslationNames, TranslationReachable};
 ghost use Rattle.scalable.specs.Requests.{paged_rules, type_rules, translation_rules, Walkable};
@@ -14,7 +13,6 @@ use crate::lookup::find_pasid_entry;
 use dma::overflows;
 use faults::Stop;
 use first::not_canonical;
-use flags::Flags;
 use image::Memory;
 use nested::{Asked, Reached, Walk, walk_pages};
 use pasid::{ScalableReason, ScalableRegisters};
@@ -32,12 +30,12 @@ fn find_pages(
     memory: &Memory,
     walk: Walk,
     at: u64,
-    flags: &mut Flags,
+    flags: &mut [u64],
 ) -> Result<Reached, Stop<ScalableReason>>
-    requires { PagesWalkable walk.space.entry }
-    ensures flags_after { pages_of result (collected flags.new) ≡ run (paged_rules walk.space.registers walk.asked.address walk.asked.write walk.space.entry) (memory_of memory.now) }
+    requires { PagesWalkable walk.space.entry × (47 ≤ length flags.old) }
+    ensures flags_after { pages_of result flags.new ≡ run (paged_rules walk.space.registers walk.asked.address walk.asked.write walk.space.entry) (memory_of memory.now) }
     ensures pages_names { PagesNames result (last_tried (entry_at at) (paged_rules walk.space.registers walk.asked.address walk.asked.write walk.space.entry) (memory_of memory.now)) }
-    ensures reachable { Reachable (pages_of result (collected flags.new)) }
+    ensures reachable { Reachable (pages_of result flags.new) × PagesGrows result 47 }
 {
     let entry = walk.space.entry;
     let address = walk.asked.address;
@@ -56,10 +54,10 @@ fn translate_in(
     memory: &Memory,
     walk: Walk,
     at: u64,
-    flags: &mut Flags,
+    flags: &mut [u64],
 ) -> Result<Translation, Stop<ScalableReason>>
-    requires { Walkable walk.space.entry }
-    ensures flags_after { translation_of result (collected flags.new) ≡ run (type_rules walk.space.registers walk.asked.address walk.asked.write walk.space.entry) (memory_of memory.now) }
+    requires { Walkable walk.space.entry × (47 ≤ length flags.old) }
+    ensures flags_after { translation_of result flags.new ≡ run (type_rules walk.space.registers walk.asked.address walk.asked.write walk.space.entry) (memory_of memory.now) }
     ensures translation_names { TranslationNames result (last_tried (entry_at at) (type_rules walk.space.registers walk.asked.address walk.asked.write walk.space.entry) (memory_of memory.now)) }
     ensures translation_reachable { TranslationReachable result }
 {
@@ -74,10 +72,10 @@ pub(crate) fn translate(
     memory: &Memory,
     registers: ScalableRegisters,
     request: ScalableRequest,
-    flags: &mut Flags,
+    flags: &mut [u64],
 ) -> Result<Translation, Stop<ScalableReason>>
-    requires { (registers.base.root_table % 4096 ≡ 0) × (registers.base.haw ≤ 52) }
-    ensures flags_after { translation_of result (collected flags.new) ≡ run (translation_rules registers request.address request.write request.pasid request.source.id) (memory_of memory.now) }
+    requires { (registers.base.root_table % 4096 ≡ 0) × (registers.base.haw ≤ 52) × (47 ≤ length flags.old) }
+    ensures flags_after { translation_of result flags.new ≡ run (translation_rules registers request.address request.write request.pasid request.source.id) (memory_of memory.now) }
     ensures translation_names { TranslationNames result (stopped_at (translation_rules registers request.address request.write request.pasid request.source.id) (memory_of memory.now)) }
     ensures translation_reachable { TranslationReachable result }
 {

@@ -1,5 +1,5 @@
--- What the code answers, in VT-d's numbers, with the flags that are collected then.
-use Rattle.std.specs.Prelude.{ℕ, ◌+◌, ◌≤◌, List, [], ◌≡◌, Result, Ok, Err}
+-- What the code answers, in VT-d's numbers, over the buffer that the flags are collected in.
+use Rattle.std.specs.Prelude.{ℕ, ◌+◌, ◌≤◌, List, [], ◌≡◌, take, Result, Ok, Err}
 use Rattle.image.specs.Bits.{bit}
 use Rattle.image.specs.Place.{Place}
 use Rattle.dma.specs.Walk.{Step, done, down}
@@ -13,12 +13,12 @@ use Rattle.second.specs.declared.step.Page.{Page}
 use Rattle.second.specs.declared.step.SecondStep.{SecondStep}
 use Rattle.second.specs.declared.step.SecondStep.TheVariants as step
 
--- the joined rights are a number's two low bits
+-- the joined rights are a number's two low bits, the flags so far are the buffer's first
 abbrev pub handed_by : Above → (flags : List ℕ) → SecondHanded
-handed_by above flags = record { top = above.top; read = bit above.rights 0; write = bit above.rights 1; flags = flags }
+handed_by above flags = record { top = above.top; read = bit above.rights 0; write = bit above.rights 1; flags = take above.count flags }
 
 abbrev pub walked_of : Result Page (Stop ScalableReason) → (flags : List ℕ) → Walked
-walked_of (Ok p) flags = page p.frame p.level p.writable flags
+walked_of (Ok p) flags = page p.frame p.level p.writable (take p.count flags)
 walked_of (Err s) flags = fault (number_of s.reason) s.fpd
 
 abbrev pub step_of : Result SecondStep (Stop ScalableReason) → (flags : List ℕ) → Step SecondHanded Walked
@@ -39,11 +39,11 @@ StepReachable (Ok (step.Page p)) = Reachable (walked_of (Ok p) [])
 StepReachable (Err s) = Unit {0}
 
 -- how many flags there are then, of so many before
-abbrev pub StepGrown : Result SecondStep (Stop ScalableReason) → (count after : ℕ) → Type 0
-StepGrown (Ok (step.Down table above)) count after = (count ≤ after) × (after ≤ count + 1)
-StepGrown (Ok (step.Page p)) count after = (count ≤ after) × (after ≤ count + 2)
-StepGrown (Err s) count after = Unit {0}
+abbrev pub StepGrown : Result SecondStep (Stop ScalableReason) → (count : ℕ) → Type 0
+StepGrown (Ok (step.Down table above)) count = (count ≤ above.count) × (above.count ≤ count + 1)
+StepGrown (Ok (step.Page p)) count = (count ≤ p.count) × (p.count ≤ count + 2)
+StepGrown (Err s) count = Unit {0}
 
-abbrev pub Grown : Result Page (Stop ScalableReason) → (count most after : ℕ) → Type 0
-Grown (Ok p) count most after = (count ≤ after) × (after ≤ most)
-Grown (Err s) count most after = Unit {0}
+abbrev pub Grown : Result Page (Stop ScalableReason) → (count most : ℕ) → Type 0
+Grown (Ok p) count most = (count ≤ p.count) × (p.count ≤ most)
+Grown (Err s) count most = Unit {0}

@@ -1,10 +1,9 @@
 // What the second-level walk makes of an entry.
-ghost use Rattle.std.specs.Prelude.{not, ◌&&◌, ◌||◌, ◌≡◌, ◌++◌, ◌+◌, ◌%◌, ◌^◌, ◌<◌, ◌≤◌};
+ghost use Rattle.std.specs.Prelude.{not, ◌&&◌, ◌||◌, ◌≡◌, ◌++◌, length, take, ◌+◌, ◌%◌, ◌^◌, ◌<◌, ◌≤◌};
 ghost use Rattle.image.specs.Bits.{bit};
 ghost use Rattle.std.specs.Prelude.{if◌then◌else◌};
 ghost use Rattle.image.specs.Place.{entry_at};
 ghost use Rattle.image.specs.Answers.{memory_of};
-ghost use Rattle.flags.specs.Flags.{collected};
 ghost use Rattle.dma.specs.Walk.{place_in};
 ghost use Rattle.pasid.specs.Reason.{number_of};
 ghost use Rattle.second.specs.Answers.{handed_by, step_of, StepNames, StepReachable, StepGrown};
@@ -12,15 +11,16 @@ ghost use Rattle.second.specs.Second.{flag_clear, flags_not_snooped, second_flag
 
 use dma::{Fetch, fetch_entry, is_leaf, page_reserved};
 use faults::Stop;
-use flags::Flags;
+use flags::push;
 use image::{Memory, bit, field, in_place};
 use pasid::{PasidEntry, ScalableReason, ScalableRegisters};
 
-// What an entry is handed by those above it: whether there are none, and their joined rights, R bit 0 and W bit 1.
+// What an entry is handed by those above it: whether there are none, their joined rights, R bit 0 and W bit 1, and how many flags are collected.
 #[derive(Clone, Copy)]
 pub struct Above {
     pub top: bool,
     pub rights: u64,
+    pub count: usize,
 }
 
 // The rights that a walk needs. Where it needs W, its page is to be written.
@@ -46,6 +46,8 @@ pub struct Page {
     pub level: u32,
     // All entries had W.
     pub writable: bool,
+    // How many flags are collected.
+    pub count: usize,
 }
 
 #[derive(Clone, Copy)]
@@ -116,18 +118,26 @@ fn denied(wanted: Wanted, e: u64) -> ScalableReason
 }
 
 // The flags of an entry that is used.
-fn collect(entry: PasidEntry, dirty: bool, at: u64, e: u64, flags: &mut Flags)
-    requires { (at < 2 ^ 60) × (flags.old.count + 2 ≤ 47) }
-    ensures flags_after { collected flags.new ≡ collected flags.old ++ second_flags entry dirty at e }
-    ensures count_after { (flags.old.count ≤ flags.new.count) × (flags.new.count ≤ flags.old.count + (if dirty then 2 else 1)) }
+fn collect(
+    entry: PasidEntry,
+    dirty: bool,
+    at: u64,
+    e: u64,
+    flags: &mut [u64],
+    count: usize,
+) -> usize
+    requires { (at < 2 ^ 60) × (count + 2 ≤ length flags.old) }
+    ensures flags_after { take result flags.new ≡ take count flags.old ++ second_flags entry dirty at e }
+    ensures lower_bound { (count ≤ result) × (result ≤ count + (if dirty then 2 else 1)) }
 {
     if !(entry.slade & flag_clear(dirty, e)) {
-        return;
+        return count;
     }
-    flags.push(at, 8);
+    let n = push(flags, count, at, 8);
     if dirty {
-        flags.push(at, 9);
+        return push(flags, n, at, 9);
     }
+    n
 }
 
 fn second_step(
@@ -137,12 +147,12 @@ fn second_step(
     level: u32,
     at: u64,
     e: u64,
-    flags: &mut Flags,
+    flags: &mut [u64],
 ) -> Result<SecondStep, Stop<ScalableReason>>
-    requires { (0 < level) × (at < 2 ^ 60) × (flags.old.count + 2 ≤ 47) }
-    ensures flags_after { step_of result (collected flags.new) ≡ second_step space.registers space.entry wanted level at (handed_by above (collected flags.old)) e }
+    requires { (0 < level) × (at < 2 ^ 60) × (above.count + 2 ≤ length flags.old) }
+    ensures flags_after { step_of result flags.new ≡ second_step space.registers space.entry wanted level at (handed_by above flags.old) e }
     ensures step_names { StepNames result (entry_at at) }
-    ensures step_reachable { StepReachable result × StepGrown result flags.old.count flags.new.count }
+    ensures step_reachable { StepReachable result × StepGrown result above.count }
 {
     let rights = join(above.rights, e);
     if field(rights, 1, 0) == 0 {
@@ -159,15 +169,20 @@ fn second_step(
     }
     // The frame last: so the next table stays in a register of the machine code.
     if is_leaf(level, e) {
-        collect(space.entry, wanted.write, at, e, flags);
+        let count = collect(space.entry, wanted.write, at, e, flags, above.count);
         return Ok(SecondStep::Page(Page {
             frame: in_place(e, 51, 12),
             level,
             writable: field(rights, 1, 1) == 1,
+            count,
         }));
     }
-    collect(space.entry, false, at, e, flags);
-    let below = Above { top: false, rights };
+    let count = collect(space.entry, false, at, e, flags, above.count);
+    let below = Above {
+        top: false,
+        rights,
+        count,
+    };
     Ok(SecondStep::Down(in_place(e, 51, 12), below))
 }
 
@@ -180,12 +195,12 @@ pub(crate) fn second_entry(
     below: u32,
     table: u64,
     above: Above,
-    flags: &mut Flags,
+    flags: &mut [u64],
 ) -> Result<SecondStep, Stop<ScalableReason>>
-    requires { (below < 5) × (table % 4096 ≡ 0) × (table < 2 ^ 52) × (flags.old.count + 2 ≤ 47) }
-    ensures flags_after { step_of result (collected flags.new) ≡ second_over space.registers space.entry wanted address (memory_of memory.now) below table (handed_by above (collected flags.old)) }
+    requires { (below < 5) × (table % 4096 ≡ 0) × (table < 2 ^ 52) × (above.count + 2 ≤ length flags.old) }
+    ensures flags_after { step_of result flags.new ≡ second_over space.registers space.entry wanted address (memory_of memory.now) below table (handed_by above flags.old) }
     ensures step_names { StepNames result (entry_at (place_in address table below)) }
-    ensures step_reachable { StepReachable result × StepGrown result flags.old.count flags.new.count }
+    ensures step_reachable { StepReachable result × StepGrown result above.count }
 {
     let Fetch { at, found } = fetch_entry(memory, address, below, table);
     let Ok(e) = found else {

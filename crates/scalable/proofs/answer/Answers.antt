@@ -1,4 +1,5 @@
 use mathlib.Core.Path.{◌≡◌, ap, sym, ◌∙◌}
+use lib.ListN.{take}
 use Rattle.std.specs.Prelude.{Ok}
 use Rattle.scalable.specs.Answers.{translation_of}
 use Rattle.scalable.specs.Requests.{decision}
@@ -11,5 +12,5 @@ returns-in-Ok-Page-clause-by_index c =
     let inner : c.in-Ok-Page.field-0 ≡ Page c.in-Ok-Page.page = rw c.in-Ok-Page.is at c.in-Ok-Page.field-0-is in
     let page : a.translated ≡ Ok (Page c.in-Ok-Page.page) = rw inner at c.in-Ok-Page.is in
     λ flags.
-    c.page_answer.ensures.result_value a.request flags
+    c.page_answer.ensures.result_value a.request (take c.in-Ok-Page.page.count flags)
     ∙ sym (ap (λ t. (decision a.request (translation_of t flags)).outcome) page)

@@ -5,7 +5,7 @@ use lib.ListN.{length}
 use Rattle.image.specs.Place.{Place}
 use Rattle.image.specs.Windows.{of_windows}
 use Rattle.image.proofs.GoodWindows.{three-each}
-use Rattle.flags.specs.Flags.{set_flags, collected}
+use Rattle.flags.specs.Flags.{set_flags}
 use Rattle.scalable.specs.Answers.{TranslationNames}
 use Rattle.scalable.specs.Requests.{Decision, decision}
 use Rattle.scalable.proofs.Admitted.{too_wide, narrow, narrow_at}
@@ -30,12 +30,12 @@ returns c =
     let q = a.request in
     let m = of_windows a.windows.now a.image.now in
     let t = c.translate-translated in
-    let buffer = collected t.new.flags in
+    let buffer = t.new.flags in
     let slim = sym c.pasid_too_wide.ensures ∙ c.if-pasid_too_wide.false in
     let whole = ap (decision q) t.ensures.flags_after ∙ narrow a.registers q m slim in
     let stopped = narrow_at a.registers q m slim in
     let there = subst (λ (place : Place). TranslationNames t.result place) stopped t.ensures.translation_names in record {
       result_value = c.answer.ensures.by_index buffer ∙ ap (λ (d : Decision). d.outcome) whole;
       result_value_2 = c.answer.ensures.result_value _ there;
-      image_after = c.set_flags.ensures ∙ ap (λ (l : List ℕ). set_flags a.windows.now l a.image.now) (c.flags_to_set.ensures q ∙ ap (λ (d : Decision). d.flags) whole);
+      image_after = c.set_flags.ensures ∙ ap (λ (l : List ℕ). set_flags a.windows.now l a.image.now) (c.flags_to_set-count.ensures.flags_value q buffer ∙ ap (λ (d : Decision). d.flags) whole);
     }

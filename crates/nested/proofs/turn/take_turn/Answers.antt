@@ -1,12 +1,12 @@
 use Prim.Native.Nat.{suc, ◌-◌}
 use mathlib.Core.Path.{◌≡◌, ◌∙◌}
 use native.Mathlib.Omega.{arith}
+use lib.ListN.{take}
 use Rattle.std.proofs.lemmas.Result.{err_from_is_err_and}
 use Rattle.image.specs.Answers.{memory_of}
 use Rattle.image.specs.Place.{entry_at}
-use Rattle.flags.specs.Flags.{collected}
 use Rattle.nested.specs.Pages.{first_handed}
-use Rattle.nested.proofs.Firsts.{entered, entered_at, grows-more}
+use Rattle.nested.proofs.Firsts.{entered, entered_at}
 use Rattle.nested.proofs.Rests.{onward, onward-at}
 use Rattle.nested.proofs.Turns.{turned, failed}
 use Rattle.nested.proofs.turn.take_turn.Goals as goal
@@ -20,7 +20,7 @@ returns-in_err-step-in-Continue c =
     let m = memory_of a.memory.now in
     let told = rw c.in-Continue.is at c.in_ok-here.ensures in
     let e = c.in_err-step-in-Continue.ensures in
-    let given = first_handed s.top (collected a.flags.now) in
+    let given = first_handed s.top (take s.count a.flags.now) in
     let this : s.level ≡ suc (s.level - 1) = omega (arith, told.0) in
     let over = entered w.space.registers w.space.entry w.asked.address w.asked.write m (s.level - 1) s.at given told.4 in
     let stepped = rw this at e.flags_after in
@@ -39,12 +39,11 @@ returns-in_ok-step-in-Continue c =
     let m = memory_of a.memory.now in
     let told = rw c.in-Continue.is at c.in_ok-here.ensures in
     let n = c.after_level in
-    let given = first_handed s.top (collected a.flags.now) in
+    let given = first_handed s.top (take s.count a.flags.now) in
     let this : s.level ≡ suc (s.level - 1) = omega (arith, told.0) in
     let over = entered w.space.registers w.space.entry w.asked.address w.asked.write m (s.level - 1) s.at given told.4 in
     let stepped = rw this at c.in_ok-step-in-Continue.ensures.flags_after in
     let there = entered_at w.space.registers w.space.entry w.asked.address w.asked.write m (s.level - 1) s.at given told.4 (entry_at s.last) in
-    turned n.result w s m a.flags.now c.level_entry.new.flags _ (entry_at c.in-Continue.here.at) (n.ensures.by_index _) n.ensures.turn_last
-    (n.ensures.turn_fits _ (grows-more c.in_ok-step-in-Continue.step _ _ _ (omega (arith, told.0, told.3, (c.requires.0 told.0).4)) c.in_ok-step-in-Continue.ensures.level_grows))
+    turned n.result w s m a.flags.now c.level_entry.new.flags _ (entry_at c.in-Continue.here.at) (n.ensures.by_index _) n.ensures.turn_last n.ensures.turn_fits
     (onward w.space.registers w.space.entry w.asked.address w.asked.write m s.level s.at given told.0 _ (stepped ∙ over))
     (onward-at w.space.registers w.space.entry w.asked.address w.asked.write m s.level s.at given told.0 (entry_at s.last) there _ (stepped ∙ over))

@@ -60,5 +60,5 @@ returns c =
     ] in record {
       flags_after = e.0 ∙ ap (λ q. run q m) same;
       pages_names = subst (λ q. PagesNames c.walk_pages.result (last_tried (entry_at a.at) q m)) same e.1;
-      reachable = e.2;
+      reachable = (e.2, e.3);
     }

@@ -50,8 +50,10 @@ returns-in_err-found-clause-translation_names c =
 pub translate_in-requires : goal.translate_in-requires
 translate_in-requires c =
     let a = c.args in
-    let good = Finds a.registers c.requires.1 in
-    subst good (sym c.in_ok-found.ensures.result_value) (finds a.registers c.requires.1 a.request.pasid a.request.source.id (memory_of a.memory.now))
+    let good = Finds a.registers c.requires.1 in (
+      subst good (sym c.in_ok-found.ensures.result_value) (finds a.registers c.requires.1 a.request.pasid a.request.source.id (memory_of a.memory.now)),
+      c.requires.2,
+    )
 
 pub returns-clause-flags_after : goal.returns-clause-flags_after
 returns-clause-flags_after c =
