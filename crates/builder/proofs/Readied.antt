@@ -52,12 +52,12 @@ module _ (registers : Registers) (windows bytes : List ℕ) (start size copy mar
 
     -- of the tree that the code makes
     pub in_reach : registers.haw ≤ 52 → UsableContext c → bad_region registers windows bytes start size ≡ false → top_outside start size c.top ≡ false
-        → (start < 2 ^ 53) × (c.top - start < 2 ^ 52) × (c.levels - 1 < 5)
+        → (c.top - start < 2 ^ 52) × (c.levels - 1 < 5)
     in_reach haw u region top =
         let r = region-fine registers windows bytes start size haw region in
         let t = neither (ltb c.top start) (leb size (c.top - start)) top in
         let inside = leb-false size (c.top - start) t.1 in
-        (omega (arith, r.2), omega (arith, r.2, inside), omega (arith, u.0, u.1))
+        (omega (arith, r.2, inside), omega (arith, u.0, u.1))
 
   module _ (source : ℕ) where
     pub looked : (bad_windows windows (length bytes) || registers_bad registers) ≡ false → not registers.te ≡ false

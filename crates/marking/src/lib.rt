@@ -18,34 +18,35 @@ fn is_free(marks: &[u8], table: u64) -> bool
         .is_some_and(|mark| *mark == 0)
 }
 
-fn leads_to_free(marks: &[u8], tree: Tree, e: u64) -> bool
-    ensures { result ≡ leads_to_free tree.start marks.now e }
+fn leads_to_free(marks: &[u8], start: u64, e: u64) -> bool
+    requires { start < 2 ^ 53 }
+    ensures { result ≡ leads_to_free start marks.now e }
 {
-    let table = table_of(tree.start, e);
-    (e == tree.start + table + 3) & is_free(marks, table)
+    let table = table_of(start, e);
+    (e == start + table + 3) & is_free(marks, table)
 }
 
 #[tactic(auto, unfolding(crate::specs::Marking::mark_entry))]
-fn mark_entry(marks: &mut [u8], tree: Tree, below: u32, e: u64) -> bool
-    requires { below < 5 }
-    ensures { (result, marks.new) ≡ entry_marked tree.start below e marks.old }
+fn mark_entry(marks: &mut [u8], start: u64, below: u32, e: u64) -> bool
+    requires { (start < 2 ^ 53) × (below < 5) }
+    ensures { (result, marks.new) ≡ entry_marked start below e marks.old }
 {
     if !is_present(e) | maps_page(below, e) {
         return true;
     }
-    if !leads_to_free(marks, tree, e) {
+    if !leads_to_free(marks, start, e) {
         return false;
     }
-    mark(marks, table_of(tree.start, e) / Page4K::SPAN, below as u8);
+    mark(marks, table_of(start, e) / Page4K::SPAN, below as u8);
     true
 }
 
-fn mark_entries(bytes: &[u8], marks: &mut [u8], tree: Tree, below: u32, table: u64) -> bool
-    requires { (below < 5) × (table < 2 ^ 63) }
-    ensures { (result, marks.new) ≡ entries_marked bytes.now tree.start below 512 table marks.old }
+fn mark_entries(bytes: &[u8], marks: &mut [u8], start: u64, below: u32, table: u64) -> bool
+    requires { (start < 2 ^ 53) × (below < 5) × (table < 2 ^ 63) }
+    ensures { (result, marks.new) ≡ entries_marked bytes.now start below 512 table marks.old }
 {
     for word in 0..512 {
-        if !mark_entry(marks, tree, below, entry_of(bytes, table + 8 * word)) {
+        if !mark_entry(marks, start, below, entry_of(bytes, table + 8 * word)) {
             return false;
         }
     }
@@ -61,7 +62,7 @@ fn level_of(marks: &[u8], page: usize) -> u8
 
 #[tactic(auto, unfolding(crate::specs::Marking::mark_table))]
 fn mark_table(bytes: &[u8], marks: &mut [u8], tree: Tree, below: u32, page: usize) -> bool
-    requires { (below < 5) × (4096 * page < 2 ^ 63) }
+    requires { (tree.start < 2 ^ 53) × (below < 5) × (4096 * page < 2 ^ 63) }
     ensures { (result, marks.new) ≡ table_marked bytes.now (tree_by tree) below page marks.old }
 {
     if level_of(marks, page) != below as u8 + 1 {
@@ -71,10 +72,9 @@ fn mark_table(bytes: &[u8], marks: &mut [u8], tree: Tree, below: u32, page: usiz
     if (table != tree.top) & is_empty(bytes, table) {
         return false;
     }
-    mark_entries(bytes, marks, tree, below, table)
+    mark_entries(bytes, marks, tree.start, below, table)
 }
 
-// That the region ends below 2^53 is asked for: a struct that lent the marks would want a clause on the lender's name in each function.
 fn mark_level(bytes: &[u8], marks: &mut [u8], tree: Tree, below: u32) -> bool
     requires { (tree.start + 4096 * length marks.old < 2 ^ 53) × (below < 5) }
     ensures { (result, marks.new) ≡ level_marked bytes.now (tree_by tree) below (length marks.old) 0 marks.old }

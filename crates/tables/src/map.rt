@@ -20,8 +20,6 @@ struct Leaf {
     entry: u64,
 }
 
-// That the region ends below 2^53 is asked for: a struct that lent the marks would want a clause on the lender's name in each function.
-
 // A table in the lowest free page, whose place it answers, with its entry at a place.
 fn new_table(bytes: &mut [u8], marks: &mut [u8], start: u64, at: u64, level: u8) -> u64
     requires { start + 4096 * length marks.old < 2 ^ 53 }

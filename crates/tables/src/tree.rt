@@ -1,5 +1,4 @@
-// Where a context's tables are: no more than five levels of them, with the top one's place below 2^52, in a region
-// that begins below 2^53.
+// Where a context's tables are: no more than five levels of them, and the top one's place below 2^52.
 ghost use Rattle.std.specs.Prelude.{◌^◌, ◌<◌};
 
 #[derive(Clone, Copy)]
@@ -10,5 +9,5 @@ pub struct Tree {
     pub top: u64,
     // How many levels of tables come below the top one.
     pub below: u32,
-    ghost in_reach: { (start < 2 ^ 53) × (top < 2 ^ 52) × (below < 5) },
+    ghost in_reach: { (top < 2 ^ 52) × (below < 5) },
 }
