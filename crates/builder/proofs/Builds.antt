@@ -6,7 +6,7 @@ use Rattle.registers.specs.declared.Registers.{Registers}
 use Rattle.marking.specs.Marking.{mark_all}
 use Rattle.region.specs.Copy.{copied_in, copied_out}
 use Rattle.tables.specs.Tables.{tables}
-use Rattle.tables.specs.Tree.{Tree}
+use Rattle.tables.specs.declared.Tree.{Tree}
 use Rattle.builder.specs.Answers.{readiness_of, unready}
 use Rattle.builder.specs.Build.{all_taken, not_ready, at_item, lent, after_items, from_copy, when_ready, built}
 use Rattle.builder.specs.Items.{Taken, take_items}

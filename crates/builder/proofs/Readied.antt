@@ -1,5 +1,5 @@
 -- Laws of what comes before any item.
-use Prim.Native.Nat.{ℕ, ◌+◌, ◌-◌, ◌/◌, ◌%◌, ◌^◌, ◌<◌, ◌≤◌}
+use Prim.Native.Nat.{ℕ, ◌+◌, ◌-◌, ◌/◌, ◌%◌, ◌^◌, ◌≤◌}
 use mathlib.Core.Bool.{true, false, not, ◌||◌}
 use mathlib.Core.Path.{◌≡◌}
 use mathlib.Core.List.{List}
@@ -37,27 +37,22 @@ region-fine registers windows bytes start size haw h =
 
 module _ (registers : Registers) (windows bytes : List ℕ) (start size copy marks : ℕ) where
   module _ (c : Context) where
-    pub usable : registers.haw ≤ 52 → bad_region registers windows bytes start size ≡ false → sized size copy marks ≡ true
-        → TablesReady registers copy marks (tree_of start c)
-    usable haw region size_is =
+    pub usable : registers.haw ≤ 52 → UsableContext c → bad_region registers windows bytes start size ≡ false → sized size copy marks ≡ true
+        → top_outside start size c.top ≡ false → TablesReady registers copy marks (tree_of start c)
+    usable haw u region size_is top =
         let r = region-fine registers windows bytes start size haw region in
         let s = both (eqb copy size) (eqb marks (size / 4096)) size_is in
         let Copy-is = eqb-true copy size s.0 in
-        let marks-is = eqb-true marks (size / 4096) s.1 in (
+        let marks-is = eqb-true marks (size / 4096) s.1 in
+        let t = neither (ltb c.top start) (leb size (c.top - start)) top in
+        let inside = leb-false size (c.top - start) t.1 in (
           omega (arith, haw),
           r.0,
           omega (arith, r.2, Copy-is),
           omega (arith, r.1, Copy-is, marks-is),
+          omega (arith, r.2, inside),
+          omega (arith, u.0, u.1),
         )
-
-    -- of the tree that the code makes
-    pub in_reach : registers.haw ≤ 52 → UsableContext c → bad_region registers windows bytes start size ≡ false → top_outside start size c.top ≡ false
-        → (c.top - start < 2 ^ 52) × (c.levels - 1 < 5)
-    in_reach haw u region top =
-        let r = region-fine registers windows bytes start size haw region in
-        let t = neither (ltb c.top start) (leb size (c.top - start)) top in
-        let inside = leb-false size (c.top - start) t.1 in
-        (omega (arith, r.2, inside), omega (arith, u.0, u.1))
 
   module _ (source : ℕ) where
     pub looked : (bad_windows windows (length bytes) || registers_bad registers) ≡ false → not registers.te ≡ false

@@ -3,7 +3,7 @@ use Rattle.std.proofs.Common.{◌≡◌, ◌≢◌, ℕ, ◌+◌, ◌-◌, ◌<�
 use borrow.Author.Tests.{eq-eqb, ne_eqb}
 use Rattle.registers.specs.declared.Registers.{Registers}
 use Rattle.tables.specs.Tables.{Tables}
-use Rattle.tables.specs.Tree.{Tree}
+use Rattle.tables.specs.declared.Tree.{Tree}
 use Rattle.tables.proofs.Folds.{again}
 use Rattle.builder.specs.Answers.{item_error_number}
 use Rattle.builder.specs.declared.reasons.ItemError.{ItemError}

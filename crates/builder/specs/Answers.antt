@@ -1,8 +1,7 @@
 -- What the code's answers say, in the definitions' terms.
 use Rattle.std.specs.Prelude.{ℕ, Result, Ok, Err}
 use Rattle.registers.specs.Refusal.{refusal_number}
-use Rattle.tables.specs.Answers.{tree_by}
-use Rattle.tables.specs.declared.tree.Tree.{Tree}
+use Rattle.tables.specs.declared.Tree.{Tree}
 use Rattle.builder.specs.Build.{Built, all_taken, refused, not_ready, at_item}
 use Rattle.builder.specs.Items.{Taken}
 use Rattle.builder.specs.Ready.{Readiness, refusal, not_yet, ready}
@@ -44,7 +43,7 @@ taken_of count (Ok _) = record { index = count; reason = 0 }
 taken_of count (Err item) = record { index = item.index; reason = item_error_number item.error }
 
 abbrev pub readiness_of : Result Tree Unready → Readiness
-readiness_of (Ok tree) = ready (tree_by tree)
+readiness_of (Ok tree) = ready tree
 readiness_of (Err (Refused refusal_is)) = refusal (refusal_number refusal_is)
 readiness_of (Err (NotYet reason)) = not_yet (not_ready_number reason)
 

@@ -7,7 +7,7 @@ use Rattle.registers.specs.declared.Registers.{Registers}
 use Rattle.marking.specs.Marking.{Marked, mark_all}
 use Rattle.region.specs.Copy.{copied_in, copied_out}
 use Rattle.tables.specs.Tables.{Tables, tables}
-use Rattle.tables.specs.Tree.{Tree}
+use Rattle.tables.specs.declared.Tree.{Tree}
 use Rattle.builder.specs.Items.{Taken, take_items}
 use Rattle.builder.specs.Ready.{Readiness, refusal, not_yet, ready, readiness}
 

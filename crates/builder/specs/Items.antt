@@ -6,7 +6,7 @@ use Rattle.registers.specs.declared.Registers.{Registers}
 use Rattle.tables.specs.Mapped.{mapped}
 use Rattle.tables.specs.Tables.{Tables}
 use Rattle.tables.specs.Unmapped.{unmapped}
-use Rattle.tables.specs.Tree.{Tree}
+use Rattle.tables.specs.declared.Tree.{Tree}
 use Rattle.builder.specs.Reasons.{unmaps, levels_below, leaf_of, item_reason}
 use Rattle.builder.specs.declared.items.Item.{Item}
 

@@ -8,7 +8,7 @@ use Rattle.registers.specs.declared.Registers.{Registers}
 use Rattle.dma.specs.Lookup.{on_lookup, lookup_rules}
 use Rattle.dma.specs.declared.context.Context.{Context}
 use Rattle.region.specs.Region.{bad_region}
-use Rattle.tables.specs.Tree.{Tree}
+use Rattle.tables.specs.declared.Tree.{Tree}
 
 pub data Readiness : Type 0 where
   refusal : (number : ℕ) → Readiness
@@ -50,6 +50,8 @@ TablesReady registers copy marks tree =
     × (tree.start % 4096 ≡ 0)
     × (tree.start + copy < 2 ^ 53)
     × (4096 * marks ≡ copy)
+    × (tree.top < 2 ^ 52)
+    × (tree.below < 5)
 
 abbrev pub IfReady : (Tree → Type 0) → Readiness → Type 0
 IfReady P (refusal number) = Unit {0}

@@ -1,6 +1,5 @@
 // A list of pages to map or unmap, taken in order.
 ghost use Rattle.std.specs.Prelude.{◌≡◌, ◌+◌, ◌*◌, ◌/◌, ◌^◌, ◌<◌, ◌≤◌, length};
-ghost use Rattle.tables.specs.Answers.{tree_by};
 ghost use Rattle.tables.specs.Tables.{tables};
 ghost use Rattle.builder.specs.Answers.{reason_of, taken_of};
 ghost use Rattle.builder.specs.Items.{item_at, take_item, take_items};
@@ -44,8 +43,8 @@ fn take_item(
     tree: Tree,
     item: Item,
 ) -> Result<(), ItemError>
-    requires { (registers.haw < 53) × (tree.start + 4096 * length marks.old < 2 ^ 53) }
-    ensures { (reason_of result, tables copy.new marks.new) ≡ take_item registers (tree_by tree) item (tables copy.old marks.old) }
+    requires { (registers.haw < 53) × (tree.start + 4096 * length marks.old < 2 ^ 53) × (tree.top < 2 ^ 52) × (tree.below < 5) }
+    ensures { (reason_of result, tables copy.new marks.new) ≡ take_item registers tree item (tables copy.old marks.old) }
 {
     check_item(registers, tree.below + 1, item)?;
     if unmaps(item) {
@@ -70,8 +69,8 @@ pub(crate) fn take_items(
     tree: Tree,
     items: &[u64],
 ) -> Result<(), BadItem>
-    requires { (registers.haw < 53) × (tree.start + 4096 * length marks.old < 2 ^ 53) }
-    ensures { (taken_of (length items.now / 4) result, tables copy.new marks.new) ≡ take_items registers (tree_by tree) items.now (length items.now / 4) 0 (tables copy.old marks.old) }
+    requires { (registers.haw < 53) × (tree.start + 4096 * length marks.old < 2 ^ 53) × (tree.top < 2 ^ 52) × (tree.below < 5) }
+    ensures { (taken_of (length items.now / 4) result, tables copy.new marks.new) ≡ take_items registers tree items.now (length items.now / 4) 0 (tables copy.old marks.old) }
 {
     for i in 0..items.len() / 4 {
         if let Err(error) = take_item(registers, copy, marks, tree, item_at(items, i)) {

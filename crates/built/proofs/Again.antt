@@ -22,7 +22,7 @@ use Rattle.marking.specs.Marking.{mark_all}
 use Rattle.region.specs.Copy.{copied_in, word_shown}
 use Rattle.region.specs.Region.{bad_region}
 use Rattle.tables.specs.Tables.{Tables, held_entry, present, absent, empty_table}
-use Rattle.tables.specs.Tree.{Tree}
+use Rattle.tables.specs.declared.Tree.{Tree}
 use Rattle.builder.specs.Build.{Built, all_taken, not_ready, at_item, LentBuffers, lent, after_items, when_ready, built}
 use Rattle.builder.specs.Ready.{Readiness, refusal, not_yet, ready, sized, top_outside, tree_of, in_context, readiness}
 use Rattle.leaves.specs.WellBuilt.{Placed, NoneEmpty}

@@ -37,7 +37,7 @@ use Rattle.translation.specs.declared.TranslationRequest.{TranslationRequest}
 use Rattle.translation.proofs.Entries.{check-own, check-lost}
 use Rattle.translation.proofs.Forks as translation-forks
 use Rattle.agreement.specs.Claims.{lacking}
-use Rattle.tables.specs.Tree.{Tree}
+use Rattle.tables.specs.declared.Tree.{Tree}
 use Rattle.builder.specs.Build.{Built, all_taken, LentBuffers}
 use Rattle.builder.specs.Items.{item_at}
 use Rattle.builder.specs.Reasons.{unmaps, levels_below, leaf_of, item_reason}

@@ -19,7 +19,7 @@ use Rattle.marking.specs.Marking.{Marked, mark_all}
 use Rattle.region.specs.Copy.{copied_in, copied_out}
 use Rattle.region.specs.Region.{bad_region}
 use Rattle.tables.specs.Tables.{Tables, tables}
-use Rattle.tables.specs.Tree.{Tree}
+use Rattle.tables.specs.declared.Tree.{Tree}
 use Rattle.builder.specs.Build.{Built, all_taken, refused, not_ready, at_item, LentBuffers, lent, after_items, when_ready, built}
 use Rattle.builder.specs.Items.{take_items}
 use Rattle.builder.specs.Ready.{Readiness, refusal, not_yet, ready, sized, top_outside, tree_of, in_context, readiness}

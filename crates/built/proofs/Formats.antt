@@ -29,7 +29,7 @@ use Rattle.translation.specs.declared.Rights.{Rights}
 use Rattle.translation.proofs.Entries.{check-clear, check-own}
 use Rattle.tables.specs.Tables.{present, maps_page, table_entry}
 use Rattle.tables.specs.Way.{way}
-use Rattle.tables.specs.Tree.{Tree}
+use Rattle.tables.specs.declared.Tree.{Tree}
 use Rattle.leaves.specs.Leaves.{Leaf, on_leaf, leaf_over}
 use Rattle.leaves.specs.WellBuilt.{WellBuilt}
 use Rattle.built.proofs.Walked.{Shown, address-in, by-leaf}

@@ -10,7 +10,7 @@ use Rattle.image.specs.Windows.{byte_at, of_windows}
 use Rattle.registers.specs.declared.Registers.{Registers}
 use Rattle.interrupts.specs.Claims.{Shows}
 use Rattle.tables.specs.Tables.{tables}
-use Rattle.tables.specs.Tree.{Tree}
+use Rattle.tables.specs.declared.Tree.{Tree}
 use Rattle.builder.specs.Build.{Built, all_taken, LentBuffers}
 use Rattle.leaves.proofs.Entries.{length-stored}
 use Rattle.built.specs.Inside.{InRegion, BuildsInside, RefusalLeaves}

@@ -11,7 +11,7 @@ use Rattle.tables.specs.Pages.{lowest, free_pages}
 use Rattle.tables.specs.Tables.{Tables, tables, present, table_entry, empty_table, words_zeroed}
 use Rattle.tables.specs.Unmapped.{without_table, freed_tables, leaf_here, unmapped}
 use Rattle.tables.specs.Way.{way}
-use Rattle.tables.specs.Tree.{Tree}
+use Rattle.tables.specs.declared.Tree.{Tree}
 use Rattle.builder.specs.Items.{item_at, take_item, take_items}
 use Rattle.builder.specs.Reasons.{unmaps, levels_below, leaf_of, item_reason}
 use Rattle.builder.specs.declared.items.Item.{Item}

@@ -35,7 +35,7 @@ use Rattle.translation.specs.declared.TranslationRequest.{TranslationRequest}
 use Rattle.translation.proofs.Admissions as translation-admissions
 use Rattle.tables.specs.Tables.{present}
 use Rattle.tables.specs.Way.{way}
-use Rattle.tables.specs.Tree.{Tree}
+use Rattle.tables.specs.declared.Tree.{Tree}
 use Rattle.leaves.specs.Leaves.{Leaf, leaf_over, leaf_place, left}
 use Rattle.leaves.specs.Leaves as leaves
 use Rattle.built.specs.Claims.{Unlisted, lacks_rights}

@@ -36,7 +36,7 @@ use Rattle.region.specs.Copy.{is_whole, word_shown}
 use Rattle.region.specs.Region.{not_pages, pages_shown, bad_region}
 use Rattle.region.specs.Shared.{shares_tables}
 use Rattle.tables.specs.Tables.{Tables, tables, held_entry}
-use Rattle.tables.specs.Tree.{Tree}
+use Rattle.tables.specs.declared.Tree.{Tree}
 use Rattle.builder.specs.Build.{LentBuffers}
 use Rattle.builder.specs.Items.{item_at, changed, take_item, take_items}
 use Rattle.builder.specs.Reasons.{item_reason}

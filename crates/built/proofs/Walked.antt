@@ -16,7 +16,7 @@ use Rattle.dma.proofs.Steps.{index-lt}
 use Rattle.dma.proofs.Walks.{walk_step_lem, walk-tried}
 use Rattle.tables.specs.Tables.{held_entry, present, maps_page, table_entry, table_of}
 use Rattle.tables.specs.Way.{ends, way_to, way}
-use Rattle.tables.specs.Tree.{Tree}
+use Rattle.tables.specs.declared.Tree.{Tree}
 use Rattle.tables.specs.declared.way.Stop.{Stop}
 use Rattle.leaves.specs.Leaves.{none, leaf, on_leaf, leaf_at_stop, leaf_over}
 use Rattle.leaves.proofs.Addresses.{table-back}

@@ -12,7 +12,7 @@ use lib.ListN.{length, get_or, set, replicate, length-set, length-replicate, get
 use lib.Seq.{get_or-set_same}
 use Rattle.std.specs.Prelude.{if◌then◌else◌}
 use Rattle.tables.specs.Tables.{held_entry, present, maps_page, table_entry, table_of, empty_table}
-use Rattle.tables.specs.Tree.{Tree}
+use Rattle.tables.specs.declared.Tree.{Tree}
 use Rattle.marking.specs.Marking.{Marked, then_mark, free_page, leads_to_free, mark_entry, mark_entries, mark_table, mark_level, mark_levels, mark_all}
 use Rattle.std.proofs.lemmas.List.{get_or_default}
 use Rattle.leaves.specs.Claims.{PassAgain, EmptyPasses}

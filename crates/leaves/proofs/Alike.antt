@@ -6,7 +6,7 @@ use mathlib.Core.List.{List}
 use native.Mathlib.Omega.{arith}
 use lib.ListN.{length}
 use Rattle.tables.specs.Tables.{held_entry, absent}
-use Rattle.tables.specs.Tree.{Tree}
+use Rattle.tables.specs.declared.Tree.{Tree}
 use Rattle.leaves.specs.WellBuilt.{WellBuilt, NoneEmpty}
 
 module _ (bytes bytes' marks : List ℕ) (tree : Tree) (same : (x : ℕ) → held_entry bytes' (8 * x) ≡ held_entry bytes (8 * x)) where

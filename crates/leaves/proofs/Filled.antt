@@ -11,7 +11,7 @@ use lib.Seq.{get_or-set_same}
 use Rattle.image.specs.Memory.{with_word}
 use Rattle.image.proofs.Choices.{both}
 use Rattle.tables.specs.Tables.{held_entry, present, maps_page, absent, empty_table, table_entry, words_zeroed}
-use Rattle.tables.specs.Tree.{Tree}
+use Rattle.tables.specs.declared.Tree.{Tree}
 use Rattle.leaves.specs.WellBuilt.{WellBuilt, NoneEmpty}
 use Rattle.leaves.proofs.Entries.{entry-stored, each-absent}
 use Rattle.leaves.proofs.Steps.{contradicts, other-kept, other-mark, made-leads, made_other}

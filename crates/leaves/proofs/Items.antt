@@ -17,7 +17,7 @@ use Rattle.dma.specs.Translation.{overflows}
 use Rattle.tables.specs.Mapped.{mapped}
 use Rattle.tables.specs.Tables.{Tables, present, maps_page}
 use Rattle.tables.specs.Unmapped.{unmapped}
-use Rattle.tables.specs.Tree.{Tree}
+use Rattle.tables.specs.declared.Tree.{Tree}
 use Rattle.builder.specs.Items.{item_at, changed, take_item, take_items}
 use Rattle.builder.specs.Reasons.{unmaps, rights, is_large, levels_below, leaf_of, bad_size, bad_alignment, bad_place, place_reason, map_reason, item_reason}
 use Rattle.builder.specs.declared.items.Item.{Item}

@@ -12,7 +12,7 @@ use Rattle.tables.specs.Mapped.{new_table, with_leaf, mapped}
 use Rattle.tables.specs.Pages.{lowest, free_pages}
 use Rattle.tables.specs.Tables.{Tables, held_entry, present, maps_page}
 use Rattle.tables.specs.Way.{way}
-use Rattle.tables.specs.Tree.{Tree}
+use Rattle.tables.specs.declared.Tree.{Tree}
 use Rattle.tables.specs.declared.way.Stop.{Stop}
 use Rattle.leaves.specs.Leaves.{Leaf, leaf, leaf_over}
 use Rattle.leaves.specs.WellBuilt.{leads_on, WellBuilt, NoneEmpty}

@@ -15,7 +15,7 @@ use Rattle.image.proofs.Choices.{both}
 use Rattle.dma.specs.Walk.{place_in}
 use Rattle.tables.specs.Tables.{held_entry, present, maps_page, table_of}
 use Rattle.tables.specs.Way.{ends, stop_in, way_to, way}
-use Rattle.tables.specs.Tree.{Tree}
+use Rattle.tables.specs.declared.Tree.{Tree}
 use Rattle.tables.specs.declared.way.Stop.{Stop}
 use Rattle.leaves.specs.Leaves.{Leaf, none, leaf, leaf_at_stop, leaf_over, leaf_place}
 use Rattle.leaves.specs.WellBuilt.{leads_on, Leads, WellBuilt}

@@ -18,7 +18,7 @@ use Rattle.std.specs.Prelude.{if◌then◌else◌}
 use Rattle.image.specs.Memory.{with_word}
 use Rattle.tables.specs.Tables.{held_entry, present, table_entry, table_of, words_zeroed}
 use Rattle.tables.specs.Way.{way_to}
-use Rattle.tables.specs.Tree.{Tree}
+use Rattle.tables.specs.declared.Tree.{Tree}
 use Rattle.leaves.specs.Leaves.{none, leaf, leaf_over}
 use Rattle.leaves.specs.WellBuilt.{leads_on, Leads, WellBuilt}
 use Rattle.leaves.proofs.Addresses.{above, index, number, index-small, above-next, above-split, placed, table-back}

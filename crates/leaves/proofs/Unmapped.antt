@@ -13,7 +13,7 @@ use Rattle.image.proofs.Choices.{both}
 use Rattle.tables.specs.Tables.{Tables, tables, held_entry, present, maps_page, empty_table}
 use Rattle.tables.specs.Unmapped.{without_table, freed_tables, leaf_here, unmapped}
 use Rattle.tables.specs.Way.{stop_in, way}
-use Rattle.tables.specs.Tree.{Tree}
+use Rattle.tables.specs.declared.Tree.{Tree}
 use Rattle.tables.specs.declared.way.Stop.{Stop}
 use Rattle.leaves.specs.Leaves.{none}
 use Rattle.leaves.specs.WellBuilt.{leads_on, WellBuilt, NoneEmpty}

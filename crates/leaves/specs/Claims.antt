@@ -2,7 +2,7 @@
 use Rattle.std.specs.Prelude.{ℕ, ◌+◌, ◌*◌, ◌^◌, ◌<◌, ◌≤◌, true, false, List, ◌≡◌, length}
 use Rattle.registers.specs.declared.Registers.{Registers}
 use Rattle.tables.specs.Tables.{Tables, empty_table}
-use Rattle.tables.specs.Tree.{Tree}
+use Rattle.tables.specs.declared.Tree.{Tree}
 use Rattle.marking.specs.Marking.{mark_all}
 use Rattle.builder.specs.Items.{item_at, take_items}
 use Rattle.leaves.specs.Leaves.{leaf_over, leaf_place, holds, left}

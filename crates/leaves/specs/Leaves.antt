@@ -4,7 +4,7 @@ use Rattle.std.specs.Prelude.{if◌then◌else◌}
 use Rattle.image.specs.Place.{Place, no_entry, entry_at}
 use Rattle.tables.specs.Tables.{present}
 use Rattle.tables.specs.Way.{way}
-use Rattle.tables.specs.Tree.{Tree}
+use Rattle.tables.specs.declared.Tree.{Tree}
 use Rattle.tables.specs.declared.way.Stop.{Stop}
 use Rattle.builder.specs.Items.{item_at}
 use Rattle.builder.specs.Reasons.{unmaps, levels_below, leaf_of}

@@ -3,7 +3,7 @@
 -- n / 512.
 use Rattle.std.specs.Prelude.{ℕ, suc, ◌+◌, ◌*◌, ◌/◌, ◌%◌, ◌^◌, ◌<◌, ◌≤◌, Bool, true, false, not, ◌&&◌, List, ◌≡◌, length, get_or}
 use Rattle.tables.specs.Tables.{held_entry, present, maps_page, table_entry, empty_table}
-use Rattle.tables.specs.Tree.{Tree}
+use Rattle.tables.specs.declared.Tree.{Tree}
 
 -- a region of so many pages, and the top table in it: both begin at multiples of 4096, the region ends at or below 2^52, and there is
 -- more than one level

@@ -1,7 +1,7 @@
 -- The marking's definitions by their first turn and at their end: for the code's loops.
 use Rattle.std.proofs.Common.{◌≡◌, ℕ, suc, ◌+◌, ◌≤◌, Bool, true, false, List, length, ◌∙◌}
 use Rattle.tables.specs.Tables.{held_entry}
-use Rattle.tables.specs.Tree.{Tree}
+use Rattle.tables.specs.declared.Tree.{Tree}
 use Rattle.tables.proofs.Folds.{none_left}
 use Rattle.marking.specs.Marking.{Marked, then_mark, mark_entry, mark_entries, mark_table, mark_level, mark_levels}
 

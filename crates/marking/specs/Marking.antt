@@ -5,7 +5,7 @@
 use Rattle.std.specs.Prelude.{ℕ, zero, suc, ◌+◌, ◌*◌, ◌/◌, Bool, true, false, not, ◌&&◌, ◌||◌, List, eqb, length, get_or, set, replicate}
 use Rattle.std.specs.Prelude.{if◌then◌else◌}
 use Rattle.tables.specs.Tables.{held_entry, present, maps_page, table_entry, table_of, empty_table}
-use Rattle.tables.specs.Tree.{Tree}
+use Rattle.tables.specs.declared.Tree.{Tree}
 
 -- good so far or not, and the marks
 abbrev pub Marked : Type 0

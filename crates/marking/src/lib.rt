@@ -3,7 +3,6 @@
 #![tactic(auto)]
 
 ghost use Rattle.std.specs.Prelude.{◌≡◌, ◌+◌, ◌*◌, ◌^◌, ◌<◌, length, get_or};
-ghost use Rattle.tables.specs.Answers.{tree_by};
 ghost use Rattle.marking.specs.Marking.{free_page, leads_to_free, mark_entry as entry_marked, mark_entries as entries_marked, mark_table as table_marked, mark_level as level_marked, mark_levels as levels_marked, mark_all};
 
 use registers::Page4K;
@@ -63,7 +62,7 @@ fn level_of(marks: &[u8], page: usize) -> u8
 #[tactic(auto, unfolding(crate::specs::Marking::mark_table))]
 fn mark_table(bytes: &[u8], marks: &mut [u8], tree: Tree, below: u32, page: usize) -> bool
     requires { (tree.start < 2 ^ 53) × (below < 5) × (4096 * page < 2 ^ 63) }
-    ensures { (result, marks.new) ≡ table_marked bytes.now (tree_by tree) below page marks.old }
+    ensures { (result, marks.new) ≡ table_marked bytes.now tree below page marks.old }
 {
     if level_of(marks, page) != below as u8 + 1 {
         return true;
@@ -77,7 +76,7 @@ fn mark_table(bytes: &[u8], marks: &mut [u8], tree: Tree, below: u32, page: usiz
 
 fn mark_level(bytes: &[u8], marks: &mut [u8], tree: Tree, below: u32) -> bool
     requires { (tree.start + 4096 * length marks.old < 2 ^ 53) × (below < 5) }
-    ensures { (result, marks.new) ≡ level_marked bytes.now (tree_by tree) below (length marks.old) 0 marks.old }
+    ensures { (result, marks.new) ≡ level_marked bytes.now tree below (length marks.old) 0 marks.old }
 {
     for page in 0..marks.len() {
         if !mark_table(bytes, marks, tree, below, page) {
@@ -88,8 +87,8 @@ fn mark_level(bytes: &[u8], marks: &mut [u8], tree: Tree, below: u32) -> bool
 }
 
 fn mark_levels(bytes: &[u8], marks: &mut [u8], tree: Tree) -> bool
-    requires { tree.start + 4096 * length marks.old < 2 ^ 53 }
-    ensures { (result, marks.new) ≡ levels_marked bytes.now (tree_by tree) (tree.below + 1) marks.old }
+    requires { (tree.start + 4096 * length marks.old < 2 ^ 53) × (tree.below < 5) }
+    ensures { (result, marks.new) ≡ levels_marked bytes.now tree (tree.below + 1) marks.old }
 {
     for below in (0..=tree.below).rev() {
         if !mark_level(bytes, marks, tree, below) {
@@ -102,8 +101,8 @@ fn mark_levels(bytes: &[u8], marks: &mut [u8], tree: Tree) -> bool
 // Whether the tables are as built here, a page of the region for each mark.
 #[tactic(auto, unfolding(crate::specs::Marking::mark_all))]
 pub fn mark_tables(bytes: &[u8], marks: &mut [u8], tree: Tree) -> bool
-    requires { tree.start + 4096 * length marks.old < 2 ^ 53 }
-    ensures { (result, marks.new) ≡ mark_all bytes.now (tree_by tree) (length marks.old) }
+    requires { (tree.start + 4096 * length marks.old < 2 ^ 53) × (tree.below < 5) }
+    ensures { (result, marks.new) ≡ mark_all bytes.now tree (length marks.old) }
 {
     marks.fill(0);
     if !is_free(marks, tree.top) {

@@ -7,7 +7,7 @@ use Rattle.tables.specs.Pages.{lowest}
 use Rattle.tables.specs.Tables.{Tables, tables, empty_table}
 use Rattle.tables.specs.Unmapped.{without_table, freed_tables, leaf_here, unmapped}
 use Rattle.tables.specs.Way.{way}
-use Rattle.tables.specs.Tree.{Tree}
+use Rattle.tables.specs.declared.Tree.{Tree}
 use Rattle.tables.specs.declared.way.Stop.{Stop}
 use Rattle.tables.proofs.Folds.{again, none_left}
 

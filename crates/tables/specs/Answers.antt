@@ -1,13 +1,7 @@
 -- What the code's answers say, in the definitions' terms.
 use Rattle.std.specs.Prelude.{ℕ, Result, Ok, Err}
-use Rattle.tables.specs.Tree.{Tree}
 use Rattle.tables.specs.declared.error.PageError.{PageError}
 use Rattle.tables.specs.declared.error.PageError.TheVariants.{Overlap, TooFewPages, NoSuchPage}
-use Rattle.tables.specs.declared.tree.Tree.{Tree as TreeCode}
-
--- the tree that the code's is
-abbrev pub tree_by : TreeCode → Tree
-tree_by tree = record { start = tree.start; top = tree.top; below = tree.below }
 
 abbrev pub page_error_number : PageError → ℕ
 page_error_number Overlap = 6

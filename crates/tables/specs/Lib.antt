@@ -2,6 +2,5 @@ pub mod Answers
 pub mod Mapped
 pub mod Pages
 pub mod Tables
-pub mod Tree
 pub mod Unmapped
 pub mod Way

@@ -6,7 +6,7 @@ use Rattle.dma.specs.Walk.{place_in}
 use Rattle.tables.specs.Pages.{lowest, free_pages}
 use Rattle.tables.specs.Tables.{Tables, tables, present, table_entry, words_zeroed}
 use Rattle.tables.specs.Way.{way}
-use Rattle.tables.specs.Tree.{Tree}
+use Rattle.tables.specs.declared.Tree.{Tree}
 use Rattle.tables.specs.declared.way.Stop.{Stop}
 
 -- a new table of a level in the lowest free page, all zero, with its entry at a place of the table above

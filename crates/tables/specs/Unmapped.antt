@@ -4,7 +4,7 @@ use Rattle.std.specs.Prelude.{if◌then◌else◌}
 use Rattle.image.specs.Memory.{with_word}
 use Rattle.tables.specs.Tables.{Tables, tables, present, maps_page, empty_table}
 use Rattle.tables.specs.Way.{way}
-use Rattle.tables.specs.Tree.{Tree}
+use Rattle.tables.specs.declared.Tree.{Tree}
 use Rattle.tables.specs.declared.way.Stop.{Stop}
 
 -- a table's page is free, and its entry at a place of the table above is 0

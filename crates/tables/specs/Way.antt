@@ -5,7 +5,7 @@ use Rattle.std.specs.Prelude.{if◌then◌else◌}
 use Rattle.dma.specs.Walk.{place_in}
 use Rattle.tables.specs.Tables.{held_entry, present, maps_page, table_of}
 use Rattle.tables.specs.declared.way.Stop.{Stop}
-use Rattle.tables.specs.Tree.{Tree}
+use Rattle.tables.specs.declared.Tree.{Tree}
 
 -- the entry on the way to a place in a table
 abbrev pub stop_in : (bytes : List ℕ) (place below table : ℕ) → Stop

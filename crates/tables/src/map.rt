@@ -1,6 +1,6 @@
 // A page is mapped.
 ghost use Rattle.std.specs.Prelude.{◌≡◌, ◌+◌, ◌-◌, ◌*◌, ◌^◌, ◌<◌, length};
-ghost use Rattle.tables.specs.Answers.{reason_of, tree_by};
+ghost use Rattle.tables.specs.Answers.{reason_of};
 ghost use Rattle.tables.specs.Mapped.{new_table, with_leaf, map_at, mapped};
 ghost use Rattle.tables.specs.Pages.{lowest};
 ghost use Rattle.tables.specs.Tables.{tables};
@@ -78,8 +78,8 @@ pub fn map_page(
     last: u32,
     leaf: u64,
 ) -> Result<(), PageError>
-    requires { (tree.start + 4096 * length marks.old < 2 ^ 53) × (last < 2) }
-    ensures { (reason_of result, tables bytes.new marks.new) ≡ mapped (tree_by tree) place last leaf (tables bytes.old marks.old) }
+    requires { (tree.start + 4096 * length marks.old < 2 ^ 53) × (tree.top < 2 ^ 52) × (tree.below < 5) × (last < 2) }
+    ensures { (reason_of result, tables bytes.new marks.new) ≡ mapped tree place last leaf (tables bytes.old marks.old) }
 {
     let stop = way_to(bytes, tree, place, last);
     let leaf = Leaf {

@@ -1,6 +1,6 @@
 // A page is unmapped.
-ghost use Rattle.std.specs.Prelude.{◌≡◌, ◌+◌, ◌-◌, ◌<◌};
-ghost use Rattle.tables.specs.Answers.{reason_of, tree_by};
+ghost use Rattle.std.specs.Prelude.{◌≡◌, ◌+◌, ◌-◌, ◌^◌, ◌<◌};
+ghost use Rattle.tables.specs.Answers.{reason_of};
 ghost use Rattle.tables.specs.Tables.{tables};
 ghost use Rattle.tables.specs.Unmapped.{leaf_here, without_table, freed_tables, unmapped};
 
@@ -21,7 +21,8 @@ fn release_table(bytes: &mut [u8], marks: &mut [u8], table: u64, at: u64)
 
 // The empty tables on the way to a place, from a level up, the top one apart.
 fn release_from(bytes: &mut [u8], marks: &mut [u8], tree: Tree, place: u64, from: u32)
-    ensures { tables bytes.new marks.new ≡ freed_tables (tree_by tree) place (tree.below - from) from (tables bytes.old marks.old) }
+    requires { (tree.top < 2 ^ 52) × (tree.below < 5) }
+    ensures { tables bytes.new marks.new ≡ freed_tables tree place (tree.below - from) from (tables bytes.old marks.old) }
 {
     for below in from..tree.below {
         let stop = way_to(bytes, tree, place, below);
@@ -48,8 +49,8 @@ pub fn unmap_page(
     place: u64,
     last: u32,
 ) -> Result<(), PageError>
-    requires { last < 2 }
-    ensures { (reason_of result, tables bytes.new marks.new) ≡ unmapped (tree_by tree) place last (tables bytes.old marks.old) }
+    requires { (tree.top < 2 ^ 52) × (tree.below < 5) × (last < 2) }
+    ensures { (reason_of result, tables bytes.new marks.new) ≡ unmapped tree place last (tables bytes.old marks.old) }
 {
     let stop = way_to(bytes, tree, place, last);
     if !is_leaf_here(last, stop) {

@@ -1,6 +1,5 @@
 // The way to a place, from the top table down.
 ghost use Rattle.std.specs.Prelude.{◌≡◌, ◌^◌, ◌<◌, ◌≤◌};
-ghost use Rattle.tables.specs.Answers.{tree_by};
 ghost use Rattle.tables.specs.Way.{ends as way_ends, stop_in, way};
 
 use crate::Tree;
@@ -39,7 +38,8 @@ fn stop_in(bytes: &[u8], place: u64, below: u32, table: u64) -> Stop
 }
 
 pub(crate) fn way_to(bytes: &[u8], tree: Tree, place: u64, last: u32) -> Stop
-    ensures value { result ≡ way bytes.now (tree_by tree) place last }
+    requires { (tree.top < 2 ^ 52) × (tree.below < 5) }
+    ensures value { result ≡ way bytes.now tree place last }
     ensures below_le_below { (result.below ≤ tree.below) × (result.table < 2 ^ 52) }
 {
     let mut table = tree.top;

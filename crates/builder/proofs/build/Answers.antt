@@ -3,7 +3,6 @@ use Rattle.std.proofs.lemmas.Result.{err_from_is_err_and}
 use Rattle.image.specs.Windows.{of_windows}
 use Rattle.registers.specs.declared.refusal.Refusal.TheVariants.{BadRegisters}
 use Rattle.region.specs.Copy.{copied_in}
-use Rattle.tables.specs.Answers.{tree_by}
 use Rattle.builder.specs.declared.ready.Unready.TheVariants.{Refused}
 use Rattle.builder.specs.Answers.{readiness_of, taken_of}
 use Rattle.builder.specs.Ready.{ready, readiness, TablesReady, IfReady}
@@ -14,15 +13,15 @@ use Rattle.builder.proofs.build.Goals.{After-copy_in, In_ok-tree}
 use Rattle.builder.proofs.build.Goals as goal
 
 -- what the first answer says of ready tables
-is : (k : In_ok-tree) → readiness_of k.make_ready.result ≡ ready (tree_by k.in_ok-tree.tree)
+is : (k : In_ok-tree) → readiness_of k.make_ready.result ≡ ready k.in_ok-tree.tree
 is k = ap readiness_of k.in_ok-tree.was
 
-usable : (k : In_ok-tree) → TablesReady k.args.registers (length k.args.copy.now) (length k.args.marks.now) (tree_by k.in_ok-tree.tree)
+usable : (k : In_ok-tree) → TablesReady k.args.registers (length k.args.copy.now) (length k.args.marks.now) k.in_ok-tree.tree
 usable k =
     subst (IfReady (TablesReady k.args.registers (length k.args.copy.now) (length k.args.marks.now))) (is k)
     k.make_ready.ensures.if_ready
 
-readied : (k : In_ok-tree) → readiness k.args.registers k.args.windows.now k.args.memory.now k.args.start k.args.size (length k.args.copy.now) (length k.args.marks.now) k.args.source.id ≡ ready (tree_by k.in_ok-tree.tree)
+readied : (k : In_ok-tree) → readiness k.args.registers k.args.windows.now k.args.memory.now k.args.start k.args.size (length k.args.copy.now) (length k.args.marks.now) k.args.source.id ≡ ready k.in_ok-tree.tree
 readied k =
     let seen = k.in-Some.ensures in
     sym (rw (seen.1, seen.2) at k.make_ready.ensures.result_value) ∙ is k
@@ -50,18 +49,18 @@ copy_in-requires c = let u = usable (goal.at.copy_in-requires c).In_ok-tree in (
 pub mark_tables-requires : goal.mark_tables-requires
 mark_tables-requires c =
     let u = usable (goal.at.mark_tables-requires c).In_ok-tree in
-    omega (arith, u.2, u.3)
+    (omega (arith, u.2, u.3), u.5)
 
 pub returns-then-not-mark_tables : goal.returns-then-not-mark_tables
 returns-then-not-mark_tables c =
     let a = c.args in
-    not_marked a.registers a.windows.now a.items.now a.memory.now _ a.marks.now (tree_by c.in_ok-tree.tree) c.mark_tables.ensures (c.if-not-mark_tables.true)
+    not_marked a.registers a.windows.now a.items.now a.memory.now _ a.marks.now c.in_ok-tree.tree c.mark_tables.ensures (c.if-not-mark_tables.true)
     ∙ ready_built a.registers a.windows.now a.items.now a.memory.now a.copy.now a.marks.now a.source.id a.start a.size (readied (goal.at.returns-then-not-mark_tables c).In_ok-tree) (copied (goal.at.returns-then-not-mark_tables c).After-copy_in)
 
 pub take_items-requires : goal.take_items-requires
 take_items-requires c =
     let u = usable (goal.at.take_items-requires c).In_ok-tree in
-    (u.0, omega (arith, u.2, u.3))
+    (u.0, omega (arith, u.2, u.3), u.4, u.5)
 
 pub returns-in_err-take_items : goal.returns-in_err-take_items
 returns-in_err-take_items c =
@@ -69,7 +68,7 @@ returns-in_err-take_items c =
     let item = c.in_err-take_items.field-0.0 in
     let p = err_from_is_err_and c.from_residual-in_err-take_items.result c.from_residual-in_err-take_items.ensures.1 in
     rw (p.1, p.2)
-    (stopped_at a.registers a.windows.now a.items.now a.memory.now _ a.marks.now (tree_by c.in_ok-tree.tree) c.mark_tables.ensures (c.if-not-mark_tables.false) (taken_of (length a.items.now / 4) (Err item)) c.in_err-take_items.ensures (some_number item.error)
+    (stopped_at a.registers a.windows.now a.items.now a.memory.now _ a.marks.now c.in_ok-tree.tree c.mark_tables.ensures (c.if-not-mark_tables.false) (taken_of (length a.items.now / 4) (Err item)) c.in_err-take_items.ensures (some_number item.error)
     ∙ ready_built a.registers a.windows.now a.items.now a.memory.now a.copy.now a.marks.now a.source.id a.start a.size (readied (goal.at.returns-in_err-take_items c).In_ok-tree) (copied (goal.at.returns-in_err-take_items c).After-copy_in))
 
 pub copy_out-requires : goal.copy_out-requires
@@ -78,5 +77,5 @@ copy_out-requires c = let u = usable (goal.at.copy_out-requires c).In_ok-tree in
 pub returns : goal.returns
 returns c =
     let a = c.args in
-    finished a.registers a.windows.now a.items.now a.memory.now _ a.marks.now (tree_by c.in_ok-tree.tree) c.mark_tables.ensures (c.if-not-mark_tables.false) (taken_of (length a.items.now / 4) (Ok tt)) c.in_ok-take_items.ensures refl c.copy_out.ensures
+    finished a.registers a.windows.now a.items.now a.memory.now _ a.marks.now c.in_ok-tree.tree c.mark_tables.ensures (c.if-not-mark_tables.false) (taken_of (length a.items.now / 4) (Ok tt)) c.in_ok-take_items.ensures refl c.copy_out.ensures
     ∙ ready_built a.registers a.windows.now a.items.now a.memory.now a.copy.now a.marks.now a.source.id a.start a.size (readied (goal.at.returns c).In_ok-tree) (copied (goal.at.returns c).After-copy_in)
