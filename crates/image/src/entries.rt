@@ -100,7 +100,7 @@ pub fn place_in(span: Span, at: u64) -> usize
 }
 
 // The 4 KiB page of a table, as a part of the run: as much of it as the window in which it begins holds.
-pub(crate) fn table_page<'a>(span: Span, image: &'a [u8], table: u64) -> &'a [u8]
+pub fn table_page<'a>(span: Span, image: &'a [u8], table: u64) -> &'a [u8]
     requires { (bad_window (window_by span) (length image.now) ≡ false) × (holds_all (window_by span) 1 table ≡ true) }
     ensures { result.now ≡ page_from (window_by span) image.now table }
 {

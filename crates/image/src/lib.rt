@@ -13,7 +13,7 @@ mod memory;
 mod windows;
 
 pub use buffer::{fetch8, store8, word_or_zero};
-pub use entries::{find_window, first_span, place_in, place64};
+pub use entries::{find_window, first_span, place_in, place64, table_page};
 pub use entry::Entry;
 pub use memory::Memory;
 pub use windows::{bad_several, bad_windows};
