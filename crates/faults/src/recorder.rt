@@ -15,7 +15,8 @@ pub struct Recorder {
     pub overflow: bool,
 }
 
-// What became of a call. A clear also tells whether a record stood there, or overflow was set.
+// What became of a call. A clear also tells whether a record stood there, or overflow was set. An enum and no Result: C gets a refusal as one
+// of these numbers.
 #[derive(Clone, Copy, Debug, PartialEq, Eq)]
 pub enum RecorderAnswer {
     // Refusal 3.

@@ -45,6 +45,7 @@ impl From<Stop<Reason>> for BlockedBy {
     }
 }
 
+// An enum and no Result: a blocked request is an answer as much as a remapped one, and a refusal is neither.
 #[derive(Clone, Copy, Debug, PartialEq, Eq)]
 pub enum InterruptAnswer {
     // The request goes on unchanged.

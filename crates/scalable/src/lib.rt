@@ -31,6 +31,7 @@ pub struct ScalableRequest {
     pub pasid: Pasid,
 }
 
+// An enum and no Result: a blocked request is an answer as much as a granted one, and a refusal is neither.
 #[derive(Clone, Copy)]
 pub enum ScalableAnswer {
     // The host address.

@@ -82,6 +82,7 @@ fn flags_not_snooped(
     flag_clear(is_leaf(level, e) & dirty, e)
 }
 
+// As first's of the same name, with two other reasons: one function for both would be handed all four.
 fn unfetchable(top: bool) -> ScalableReason
     ensures { number_of result ≡ (if top then 0x7B else 0x78) }
 {

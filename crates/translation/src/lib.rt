@@ -54,6 +54,7 @@ impl PageSize {
     }
 }
 
+// An enum and no Result: a blocked request is an answer as much as a page, and a refusal is neither.
 #[derive(Clone, Copy, Debug, PartialEq, Eq)]
 pub enum TranslationAnswer {
     // TE is off: the address itself.
