@@ -1,5 +1,6 @@
 pub mod Everything
 pub mod FirstNamed
+pub mod Gathered
 pub mod OneAnswer
 pub mod OneScalable
 pub mod OneWindow

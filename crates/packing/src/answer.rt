@@ -4,7 +4,6 @@ ghost use Rattle.image.specs.Bytes.{bytes_of, spell};
 ghost use Rattle.image.specs.Answers.{place_of};
 ghost use Rattle.image.specs.Choice.{one-if};
 ghost use Rattle.image.specs.Place.{no_entry};
-ghost use Rattle.registers.specs.Refusal.{refusal_number};
 ghost use Rattle.faults.specs.Answers.{fault_of};
 ghost use Rattle.dma.specs.Answers as dma;
 ghost use Rattle.dma.specs.Requests.{granted};
@@ -17,7 +16,6 @@ use dma::MemoryAnswer;
 use faults::{Fault, FaultRecord, record_of};
 use image::store8;
 use interrupts::{InterruptAnswer, Notice, Remapped};
-use registers::Refusal;
 
 pub const BLOCKED: u8 = 1;
 
@@ -109,10 +107,11 @@ pub fn pack_granted(address: u64) -> Packed
     }
 }
 
-pub fn pack_refusal(refusal: Refusal) -> Packed
-    ensures { bytes_of_packed result ≡ refused_bytes (refusal_number refusal) }
+// By its number, which is what C gets.
+pub fn pack_refusal(number: u8) -> Packed
+    ensures { bytes_of_packed result ≡ refused_bytes number }
 {
-    short(head(REFUSED, refusal.number(), 0, 0, 0))
+    short(head(REFUSED, number, 0, 0, 0))
 }
 
 fn pack_memory(answer: MemoryAnswer) -> Packed
@@ -121,7 +120,7 @@ fn pack_memory(answer: MemoryAnswer) -> Packed
     match answer {
         MemoryAnswer::Granted(address) => pack_granted(address),
         MemoryAnswer::Blocked(fault, entry) => pack_fault(fault, entry),
-        MemoryAnswer::Refused(refusal) => pack_refusal(refusal),
+        MemoryAnswer::Refused(refusal) => pack_refusal(refusal.number()),
     }
 }
 
@@ -173,7 +172,7 @@ pub fn pack_interrupt(answer: InterruptAnswer) -> Packed
             pack_posted(posted.descriptor, posted.vector, posted.notification)
         }
         InterruptAnswer::Blocked(fault, entry) => pack_fault(fault, entry),
-        InterruptAnswer::Refused(refusal) => pack_refusal(refusal),
+        InterruptAnswer::Refused(refusal) => pack_refusal(refusal.number()),
     }
 }
 
