@@ -1,12 +1,12 @@
 -- A take by what its tests and its fetch tell.
 use Prim.Native.Nat.{ℕ, ◌%◌}
-use mathlib.Core.Bool.{true, false}
+use mathlib.Core.Bool.{Bool, true, false}
 use mathlib.Core.List.{List}
 use mathlib.Core.Path.{◌≡◌, refl, ap, sym, ◌∙◌}
 use borrow.Author.Tests.{eq-eqb, ne_eqb}
 use lib.ListN.{length}
 use Rattle.image.specs.Bits.{bit}
-use Rattle.std.specs.Prelude.{Option, Some, None}
+use Rattle.std.specs.Prelude.{Option, Some, None, if◌then◌else◌}
 use Rattle.image.specs.Memory.{missing, found, entry}
 use Rattle.image.specs.Rules.{run}
 use Rattle.image.specs.Windows.{windows_of, here, on_spot, spot_in, of_windows, bad_windows}
@@ -30,9 +30,13 @@ module _ (registers : Registers) (descriptor : ℕ) (windows image : List ℕ) w
   pub refuses-windows : bad_windows windows (length image) ≡ true → Answers (refused 1) image
   refuses-windows h = both (rw h) refl
 
-  pub refuses-registers : bad_windows windows (length image) ≡ false → registers_bad registers ≡ true → Answers (refused 1) image
+  pub refuses-registers : registers_bad registers ≡ true → Answers (refused 1) image
   unfolding take_rules run
-  refuses-registers good h = both (rw (good, h)) refl
+  refuses-registers h = both (by (bad_windows windows (length image))) refl
+    where
+      by : (t : Bool) → refused 1 ≡ (if t then refused 1 else run (take_rules registers descriptor) (of_windows windows image))
+      by true = refl
+      by false = rw h
 
   module _ (good : bad_windows windows (length image) ≡ false) (fit : registers_bad registers ≡ false) where
     pub unaligned : (descriptor % 64 ≡ 0 → ⊥) → Answers (refused 5) image

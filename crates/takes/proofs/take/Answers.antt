@@ -28,8 +28,7 @@ returns-in_default c =
 pub returns-then-bad : goal.returns-then-bad
 returns-then-bad c =
     let a = c.args in
-    let told = refuses-registers a.registers a.descriptor a.windows.now a.image.now (fine c.in-Some.memory c.in-Some.ensures)
-    (sym c.bad.ensures ∙ c.if-bad.true) in
+    let told = refuses-registers a.registers a.descriptor a.windows.now a.image.now (sym c.bad.ensures ∙ c.if-bad.true) in
     record { result_value = told.0; image_after = told.1 }
 
 pub returns-then-descriptor-ne0 : goal.returns-then-descriptor-ne0
