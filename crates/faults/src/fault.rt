@@ -2,7 +2,7 @@
 ghost use Rattle.std.specs.Prelude.{◌≡◌, ◌+◌, ◌^◌, ◌<◌};
 ghost use Rattle.faults.specs.Answers.{fault_of, high_word};
 ghost use Rattle.faults.specs.Reason.{number_of};
-ghost use Rattle.faults.specs.Record.{silenced, recordable, index_field, memory_fault, translation_fault, interrupt_fault};
+ghost use Rattle.faults.specs.Record.{within, silenced, recordable, index_field, memory_fault, translation_fault, interrupt_fault};
 
 use crate::reason::Reason;
 use registers::{Page4K, SourceId};
@@ -17,11 +17,22 @@ pub struct Fault {
     pub recordable: bool,
 }
 
-#[tactic(auto, unfolding(crate::specs::Record::silenced))]
+// For the numbers of reasons.
+pub fn lies_within(low: u8, high: u8, n: u8) -> bool
+    ensures { result ≡ within low high n }
+{
+    (low <= n) & (n <= high)
+}
+
+// Comparisons and no `matches!`: of a match the compiler makes a jump table over the reasons, with the record's packing once for each.
 fn is_silenced(number: u8) -> bool
     ensures { result ≡ silenced number }
 {
-    matches!(number, 0x02..=0x07 | 0x0B..=0x0D | 0x22 | 0x24 | 0x26..=0x28)
+    lies_within(0x02, 0x07, number)
+        | lies_within(0x0B, 0x0D, number)
+        | (number == 0x22)
+        | (number == 0x24)
+        | lies_within(0x26, 0x28, number)
 }
 
 // A reason that FPD doesn't silence is always recordable. Without FPD, the usual case, none is looked at.

@@ -8,7 +8,7 @@ mod recorder;
 mod slots;
 mod stop;
 
-pub use fault::{Fault, high_word, interrupt_fault, memory_fault, translation_fault};
+pub use fault::{Fault, high_word, interrupt_fault, lies_within, memory_fault, translation_fault};
 pub use reason::Reason;
 pub use recorder::{FaultRecord, Recorder, RecorderAnswer, record_of, slot_count};
 pub use stop::Stop;

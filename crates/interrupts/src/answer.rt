@@ -25,12 +25,13 @@ pub enum Delivery {
     Post(Posted),
 }
 
-// Why the table blocks a request, with FPD as it was read by then, and the host address of the entry concerned, where there is one.
+// Why the table blocks a request, with FPD as it was read by then, and the host address of the entry concerned, where there is one: first, as
+// the notification of a post and for the same reason.
 #[derive(Clone, Copy, Debug, PartialEq, Eq)]
 pub struct BlockedBy {
+    pub entry: Option<u64>,
     pub reason: Reason,
     pub fpd: bool,
-    pub entry: Option<u64>,
 }
 
 impl From<Stop<Reason>> for BlockedBy {

@@ -6,7 +6,7 @@ ghost use Rattle.pasid.specs.Record.{recordable, pasid_word, scalable_fault};
 
 use crate::Pasid;
 use crate::reason::ScalableReason;
-use faults::high_word;
+use faults::{high_word, lies_within};
 use registers::{Page4K, SourceId};
 
 // The record's 128 bits are two words, bit 64 the lowest of high.
@@ -18,12 +18,15 @@ pub struct ScalableFault {
     pub high: u64,
 }
 
-// FPD silences neither faults of the root entry nor 40h, 50h and 58h.
-#[tactic(auto, unfolding(crate::specs::Record::silenced))]
+// FPD silences neither faults of the root entry nor 40h, 50h and 58h. Comparisons, as in `faults`.
 fn may_record(fpd: bool, number: u8) -> bool
     ensures { result ≡ recordable fpd number }
 {
-    !(fpd & matches!(number, 0x41..=0x47 | 0x51..=0x52 | 0x59..=0x5D | 0x70..=0x86))
+    !(fpd
+        & (lies_within(0x41, 0x47, number)
+            | lies_within(0x51, 0x52, number)
+            | lies_within(0x59, 0x5D, number)
+            | lies_within(0x70, 0x86, number)))
 }
 
 // PASID value in 123:104, PASID present in 95: bits 59:40 and 31 of the upper word.
