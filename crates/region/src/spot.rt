@@ -5,6 +5,7 @@ ghost use Rattle.image.specs.Answers.{memory_of};
 ghost use Rattle.region.specs.Copy.{place_shown, word_shown, stored_at};
 
 use image::{Memory, store8};
+use registers::Page4K;
 
 fn holds_all(windows: &[u64], i: usize, size: u64, at: u64) -> bool
     requires { i + 3 ≤ length windows.now }
@@ -39,7 +40,8 @@ pub(crate) fn word_shown(memory: &Memory, at: u64) -> u64
     requires { at % 8 ≡ 0 }
     ensures { result ≡ word_shown (memory_of memory.now) at }
 {
-    memory.entry::<u64>(at).unwrap_or(0)
+    let offset = at % Page4K::SPAN;
+    memory.table_entry::<u64>(at - offset, offset).unwrap_or(0)
 }
 
 // Another word at a host address.
