@@ -7,7 +7,7 @@ use native.Mathlib.Omega.{arith}
 use lib.Dec.{T, eqb, eqb→eq}
 use lib.ListN.{length, get_or, set, drop}
 use lib.Ieee.{Float}
-use Rattle.std.specs.List.{zip, list_all, list_any, range_with_len}
+use Rattle.std.specs.List.{zip, list_all, list_any, fold, range_with_len}
 use Rattle.std.proofs.lemmas.List.Folds.{list_all-map, list_all-append}
 use Rattle.std.proofs.lemmas.List.FromFn.{fill_by_all, map-range_with_len_more}
 use Rattle.std.proofs.lemmas.Slice.Zip.{length-zip, get_or-zip}
@@ -38,6 +38,14 @@ pub some_is_any : {A : Type 0} (test : A → Bool) (xs : List A) → list_any te
 unfolding some
 some_is_any test [] = refl
 some_is_any test (x ∷ xs) = ap (λ (t : Bool). test x || t) (some_is_any test xs)
+
+-- likewise where all of the list are looked at
+pub some_is_fold : {A : Type 0} (test : A → Bool) (so_far : Bool) (xs : List A) → fold (λ (t : Bool) (x : A). t || test x) so_far xs ≡ (so_far || some test xs)
+unfolding some
+some_is_fold test true [] = refl
+some_is_fold test false [] = refl
+some_is_fold test true (x ∷ xs) = some_is_fold test true xs
+some_is_fold test false (x ∷ xs) = some_is_fold test (test x) xs
 
 -- a test of one number more
 pub all_more : (f : ℕ → Bool) (n : ℕ) → (list_all f (range_with_len 0 n) && f n) ≡ list_all f (range_with_len 0 (n + 1))

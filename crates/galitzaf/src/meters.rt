@@ -28,7 +28,10 @@ fn meter(kind: u8, low: f64, high: f64, load: f64) -> Meter
 fn unknown_kind(kinds: &[u8]) -> bool
     ensures { result ≡ some (λ kind. ltb 2 kind) kinds.now }
 {
-    kinds.iter().any(|kind| 2 < *kind)
+    // All are looked at: the compiler takes many at once, where `any` would stop at the first.
+    kinds
+        .iter()
+        .fold(false, |unknown, kind| unknown | (2 < *kind))
 }
 
 fn malformed_row(kinds: &[u8], lows: &[f64], highs: &[f64], loads: &[f64]) -> bool

@@ -65,14 +65,16 @@ pub fn galitzaf_trace_next(bytes: &[u8], cursor: &mut [u64], entry: &mut [u8]) -
     let Some(step) = next(bytes, at) else {
         return END;
     };
-    write(cursor, step.next);
-    match step.found {
+    // The entry first, then the place behind it.
+    let status = match step.found {
         Ok(e) => {
             write_entry(entry, e);
             ENTRY
         }
         Err(Damaged) => DAMAGED,
-    }
+    };
+    write(cursor, step.next);
+    status
 }
 
 #[tactic(auto, unfolding(crate::specs::Calls::replay_call))]
@@ -95,13 +97,14 @@ pub fn replay_entry(
     let Some(replayed) = replay(registers, windows, image, bytes, at) else {
         return END;
     };
-    write(cursor, replayed.next);
-    match replayed.compared {
+    let status = match replayed.compared {
         Ok(Compared::Same) => SAME,
         Ok(Compared::Differs(e)) => {
             write_entry(entry, e);
             DIFFERS
         }
         Err(Damaged) => DAMAGED,
-    }
+    };
+    write(cursor, replayed.next);
+    status
 }
