@@ -119,7 +119,14 @@ pub fn region_at(memory: &Memory, tables: Tables, address: u64) -> Region
     let mut at = at_top(tables);
     for _ in 0..tables.levels {
         match table_step(memory, tables.registers, address, at) {
-            Ok(next) => at = next,
+            // Field by field: a copy of the whole would wait until all that the step stored of it is through.
+            Ok(next) => {
+                at = Reached {
+                    level: next.level,
+                    table: next.table,
+                    rights: next.rights,
+                }
+            }
             Err(region) => return region,
         }
     }
