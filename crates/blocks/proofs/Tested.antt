@@ -1,12 +1,22 @@
 -- What is left of the test of a block's entries, one entry on.
 use Prim.Native.Nat.{ℕ, zero, suc, ◌+◌, ◌-◌, ◌≤◌, ◌<◌}
 use mathlib.Core.Path.{◌≡◌, refl}
-use mathlib.Core.List.{List}
-use mathlib.Core.Bool.{Bool, true, false}
+use mathlib.Core.List.{List, [], ◌∷◌}
+use mathlib.Core.Bool.{Bool, true, false, ◌&&◌}
 use native.Mathlib.Omega.{arith}
 use lib.ListN.{take, drop}
 use lib.Seq.{drop-drop}
-use Rattle.blocks.specs.Block.{entries_well}
+use lib.Dec.{eqb}
+use Rattle.std.specs.List.{fold}
+use Rattle.blocks.specs.Block.{zeros, entries_well}
+
+-- bytes
+pub zeros_is_fold : (so_far : Bool) (bytes : List ℕ) → fold (λ (t : Bool) (b : ℕ). t && eqb b 0) so_far bytes ≡ (so_far && zeros bytes)
+unfolding zeros
+zeros_is_fold true [] = refl
+zeros_is_fold false [] = refl
+zeros_is_fold true (b ∷ bs) = zeros_is_fold (eqb b 0) bs
+zeros_is_fold false (b ∷ bs) = zeros_is_fold false bs
 
 -- entries
 pub entry_next : (well : List ℕ → Bool) (xs : List ℕ) (left at : ℕ) → 0 < left → well (take 32 (drop at xs)) ≡ true

@@ -9,13 +9,13 @@ use faults::{Fault, Reason, Stop, interrupt_fault};
 use irte::Remapped;
 use registers::{Refusal, SourceId};
 
-// The notification that is due, and the vector posted to the descriptor at an address. In this order no word
-// that is moved with the answer holds parts of two fields.
+// The vector posted to the descriptor at an address, and the notification that is due. In this order no word that is moved with the answer
+// holds parts of two fields, of these or of another answer's: a notice is moved as one word, and begins at a multiple of 8.
 #[derive(Clone, Copy, Debug, PartialEq, Eq)]
 pub struct Posted {
+    pub vector: u8,
     pub notification: Option<Notice>,
     pub descriptor: u64,
-    pub vector: u8,
 }
 
 // What the table makes of a request that it doesn't block.
@@ -25,13 +25,12 @@ pub enum Delivery {
     Post(Posted),
 }
 
-// Why the table blocks a request, with FPD as it was read by then, and the host address of the entry concerned, where there is one: first, as
-// the notification of a post and for the same reason.
+// Why the table blocks a request, with FPD as it was read by then, and the host address of the entry concerned, where there is one.
 #[derive(Clone, Copy, Debug, PartialEq, Eq)]
 pub struct BlockedBy {
-    pub entry: Option<u64>,
     pub reason: Reason,
     pub fpd: bool,
+    pub entry: Option<u64>,
 }
 
 impl From<Stop<Reason>> for BlockedBy {
