@@ -52,10 +52,10 @@ pub fn cached_request(
     ensures state_after { state.new ≡ cached_state registers state.old request windows.now image.now }
 {
     let Some(memory) = Memory::open(windows, image) else {
-        return MemoryAnswer::Refused(Refusal::BadRegisters);
+        return MemoryAnswer::Refused(Refusal::BadRegisters as u8);
     };
     match admit(registers, in_interrupt_range(request.address), registers.te) {
-        Err(refusal) => MemoryAnswer::Refused(refusal),
+        Err(refusal) => MemoryAnswer::Refused(refusal.number()),
         Ok(Admission::Passed) => MemoryAnswer::Granted(request.address),
         Ok(Admission::Taken) => {
             if let Some(age) = newest(state, request) {

@@ -1,11 +1,9 @@
 -- No two answers of the code stand for the same outcome: a memory request's promise leaves one answer.
 use Prim.Native.Nat.{ℕ, ◌^◌, ◌<◌}
-use mathlib.Core.Path.{◌≡◌, ap, ap₂}
+use mathlib.Core.Path.{◌≡◌, ap₂}
 use native.Mathlib.Omega.{arith}
 use Rattle.image.proofs.Places.{place_of-injective}
 use Rattle.faults.specs.Answers.{fault_of}
-use Rattle.registers.proofs.Refusals.{refusal_number-injective}
-use Rattle.registers.specs.Refusal.{refusal_number}
 use Rattle.faults.proofs.Contents.{fault_of-injective}
 use Rattle.dma.specs.Answers.{outcome_of, entry_of}
 use Rattle.dma.specs.declared.MemoryAnswer.{MemoryAnswer}
@@ -28,6 +26,4 @@ outcome_of-injective (Blocked f at) (Blocked g at') sr ss e p =
 outcome_of-injective (Blocked f at) (Refused n) sr ss e p = let z : ◌≡◌ {A = ℕ} 0 1 = cc in absurd (omega arith)
 outcome_of-injective (Refused n) (Granted y) sr ss e p = let z : ◌≡◌ {A = ℕ} 0 1 = cc in absurd (omega arith)
 outcome_of-injective (Refused n) (Blocked g at') sr ss e p = let z : ◌≡◌ {A = ℕ} 0 1 = cc in absurd (omega arith)
-outcome_of-injective (Refused n) (Refused m) sr ss e p =
-    let same : refusal_number n ≡ refusal_number m = cc in
-    ap Refused (refusal_number-injective n m same)
+outcome_of-injective (Refused n) (Refused m) sr ss e p = cc

@@ -3,7 +3,6 @@ use Rattle.std.specs.Prelude.{ℕ, ◌≡◌, Result, Ok, Err}
 use Rattle.image.specs.Check.{Check, stop, go}
 use Rattle.image.specs.Answers.{place_of}
 use Rattle.image.specs.Place.{Place, no_entry, entry_at}
-use Rattle.registers.specs.Refusal.{refusal_number}
 use Rattle.faults.specs.Reason.{number_of}
 use Rattle.dma.specs.Lookup.{Lookup, context, no_context}
 use Rattle.dma.specs.Translation.{Translation, through, leaf, fault}
@@ -41,13 +40,13 @@ step_of (Err s) = done (fault (number_of s.reason) s.fpd)
 abbrev pub outcome_of : MemoryAnswer → MemoryOutcome
 outcome_of (Granted address) = granted address
 outcome_of (Blocked f place) = blocked (fault_of f)
-outcome_of (Refused r) = refused (refusal_number r)
+outcome_of (Refused number) = refused number
 
 -- the entry concerned, as the answer names it: only a blocked request has one
 abbrev pub entry_of : MemoryAnswer → Place
 entry_of (Granted address) = no_entry
 entry_of (Blocked f place) = place_of place
-entry_of (Refused r) = no_entry
+entry_of (Refused number) = no_entry
 
 -- the last entry tried, as a lookup names it
 abbrev pub lookup_place : Result FoundContext (Stop Reason) → Place

@@ -41,8 +41,8 @@ pub enum MemoryAnswer {
     Granted(u64),
     // With the entry concerned.
     Blocked(Fault, Option<u64>),
-    // For bad registers or windows, an address in the interrupt range, or a page with a byte in it.
-    Refused(Refusal),
+    // By the number of a `Refusal`: bad registers or windows, an address in the interrupt range, or a page with a byte in it.
+    Refused(u8),
 }
 
 // A page that the walk ended with: refusal 4, or the host address.
@@ -52,7 +52,7 @@ fn page_answer(request: MemoryRequest, frame: u64, level: u32) -> MemoryAnswer
     ensures result_value_2 { (place : Place) → entry_of result ≡ concerned (outcome_of result) place }
 {
     if meets_interrupt_range(level, frame) {
-        return MemoryAnswer::Refused(Refusal::InterruptPage);
+        return MemoryAnswer::Refused(Refusal::InterruptPage as u8);
     }
     MemoryAnswer::Granted(host_address(level, frame, request.address))
 }
@@ -83,14 +83,14 @@ pub fn memory_request(
     ensures result_value_2 { entry_of result ≡ memory_answer_place registers request windows.now image.now }
 {
     let Some(memory) = Memory::open(windows, image) else {
-        return MemoryAnswer::Refused(Refusal::BadRegisters);
+        return MemoryAnswer::Refused(Refusal::BadRegisters as u8);
     };
     // `admit` tests them too, which the compiler sees: here refusal 1 is told before there is another one to choose.
     if registers.bad() {
-        return MemoryAnswer::Refused(Refusal::BadRegisters);
+        return MemoryAnswer::Refused(Refusal::BadRegisters as u8);
     }
     match admit(registers, in_interrupt_range(request.address), registers.te) {
-        Err(refusal) => MemoryAnswer::Refused(refusal),
+        Err(refusal) => MemoryAnswer::Refused(refusal.number()),
         Ok(Admission::Passed) => MemoryAnswer::Granted(request.address),
         Ok(Admission::Taken) => answer(request, translate(&memory, registers, request)),
     }

@@ -3,7 +3,6 @@ use Prim.Native.Nat.{ℕ, ◌^◌, ◌<◌}
 use mathlib.Core.Path.{◌≡◌, refl, ap, ap₂, sym, ◌∙◌}
 use native.Mathlib.Omega.{arith}
 use Rattle.std.specs.Prelude.{Option, Some, None}
-use Rattle.registers.proofs.Refusals.{refusal_back, refusal-back}
 use Rattle.image.specs.Answers.{place_of}
 use Rattle.image.proofs.Places.{place_of-injective}
 use Rattle.faults.specs.Answers.{fault_of}
@@ -49,7 +48,7 @@ answer_back fault (rules.remapped r) =
     })
 answer_back fault (rules.posted at vector n) = Posted (record { descriptor = at; vector = vector; notification = notification_back n })
 answer_back fault (rules.blocked f) = fault
-answer_back fault (rules.refused number) = Refused (refusal_back number)
+answer_back fault (rules.refused number) = Refused number
 
 post-back : (fault : InterruptAnswer) (p : post.Posted) → answer_back fault (outcome_of (Posted p)) ≡ Posted p
 post-back fault p =
@@ -60,7 +59,7 @@ back Passed = refl
 back (Remapped r) = refl
 back (Posted p) = post-back (Posted p) p
 back (Blocked f at) = refl
-back (Refused r) = ap Refused (refusal-back r)
+back (Refused n) = refl
 
 same-fault : (r : InterruptAnswer) (g : Fault) (at : Option ℕ) → Sized r → g.low < 2 ^ 64 → outcome_of r ≡ rules.blocked (fault_of g)
     → entry_of r ≡ place_of at → r ≡ Blocked g at
@@ -75,4 +74,4 @@ outcome_of-injective r (Blocked g at) sr ss e p = same-fault r g at sr ss e p
 outcome_of-injective r Passed sr ss e p = sym (back r) ∙ ap (answer_back r) e
 outcome_of-injective r (Remapped x) sr ss e p = sym (back r) ∙ ap (answer_back r) e
 outcome_of-injective r (Posted p) sr ss e q = sym (back r) ∙ ap (answer_back r) e ∙ post-back r p
-outcome_of-injective r (Refused n) sr ss e p = sym (back r) ∙ ap (answer_back r) e ∙ ap Refused (refusal-back n)
+outcome_of-injective r (Refused n) sr ss e p = sym (back r) ∙ ap (answer_back r) e

@@ -2,7 +2,6 @@
 use Rattle.std.specs.Prelude.{◌≡◌, ℕ, Bool, Option, Some, None, Result, Ok, Err}
 use Rattle.image.specs.Answers.{place_of}
 use Rattle.image.specs.Place.{Place, no_entry, entry_at}
-use Rattle.registers.specs.Refusal.{refusal_number}
 use Rattle.faults.specs.Answers.{fault_of}
 use Rattle.faults.specs.Reason.{number_of}
 use Rattle.faults.specs.declared.reason.Reason.{Reason}
@@ -61,7 +60,7 @@ outcome_of Passed = rules.passed
 outcome_of (Remapped r) = rules.remapped (remapped_of r)
 outcome_of (Posted p) = rules.posted p.descriptor p.vector (due_of p.notification)
 outcome_of (Blocked f at) = rules.blocked (fault_of f)
-outcome_of (Refused r) = rules.refused (refusal_number r)
+outcome_of (Refused number) = rules.refused number
 
 -- the entry concerned, as the answer names it: only a blocked request has one, and not each of those
 abbrev pub entry_of : InterruptAnswer → Place
@@ -69,7 +68,7 @@ entry_of Passed = no_entry
 entry_of (Remapped r) = no_entry
 entry_of (Posted p) = no_entry
 entry_of (Blocked f at) = place_of at
-entry_of (Refused r) = no_entry
+entry_of (Refused number) = no_entry
 
 -- the entry that a fault names; where there is no fault, the place handed in
 abbrev pub delivery_place : Result Delivery BlockedBy → Place → Place

@@ -7,7 +7,7 @@ ghost use Rattle.interrupts.specs.Interrupts.{delivered, concerned};
 use crate::descriptor::Notice;
 use faults::{Fault, Reason, Stop, interrupt_fault};
 use irte::Remapped;
-use registers::{Refusal, SourceId};
+use registers::SourceId;
 
 // The vector posted to the descriptor at an address, and the notification that is due. In this order no word that is moved with the answer
 // holds parts of two fields, of these or of another answer's: a notice is moved as one word, and begins at a multiple of 8.
@@ -54,8 +54,8 @@ pub enum InterruptAnswer {
     Posted(Posted),
     // With the entry concerned.
     Blocked(Fault, Option<u64>),
-    // Bad registers or windows, or an address outside the interrupt range.
-    Refused(Refusal),
+    // By the number of a `Refusal`: bad registers or windows, or an address outside the interrupt range.
+    Refused(u8),
 }
 
 pub(crate) fn answer_of(

@@ -59,14 +59,14 @@ fn decide(memory: &Memory, registers: Registers, request: InterruptRequest) -> I
 {
     // As for memory requests: told before `admit` has a refusal to choose.
     if registers.bad() {
-        return InterruptAnswer::Refused(Refusal::BadRegisters);
+        return InterruptAnswer::Refused(Refusal::BadRegisters as u8);
     }
     match admit(
         registers,
         !in_interrupt_range(request.address),
         registers.ire,
     ) {
-        Err(refusal) => InterruptAnswer::Refused(refusal),
+        Err(refusal) => InterruptAnswer::Refused(refusal.number()),
         Ok(Admission::Passed) => InterruptAnswer::Passed,
         Ok(Admission::Taken) => decide_taken(memory, registers, request),
     }
@@ -85,7 +85,7 @@ pub fn interrupt_request(
     ensures image_after { image.new ≡ interrupt_written windows.now (interrupt_answer registers request windows.now image.old) image.old }
 {
     let Some(memory) = Memory::open(windows, image) else {
-        return InterruptAnswer::Refused(Refusal::BadRegisters);
+        return InterruptAnswer::Refused(Refusal::BadRegisters as u8);
     };
     let answer = decide(&memory, registers, request);
     if let InterruptAnswer::Posted(posted) = answer {

@@ -2,7 +2,6 @@
 use Rattle.std.specs.Prelude.{ℕ, ◌^◌, ◌<◌, ◌≤◌, List, ◌≡◌, Result, Ok, Err}
 use Rattle.image.specs.Answers.{place_of}
 use Rattle.image.specs.Place.{Place, no_entry, entry_at}
-use Rattle.registers.specs.Refusal.{refusal_number}
 use Rattle.dma.specs.Requests.{MemoryOutcome, granted, blocked, refused}
 use Rattle.faults.specs.declared.stop.Stop.{Stop}
 use Rattle.pasid.specs.Answers.{fault_of, stop_place}
@@ -45,10 +44,10 @@ TranslationReachable (Err s) = Unit {0}
 abbrev pub outcome_of : ScalableAnswer → MemoryOutcome
 outcome_of (Granted address) = granted address
 outcome_of (Blocked f place) = blocked (fault_of f)
-outcome_of (Refused r) = refused (refusal_number r)
+outcome_of (Refused number) = refused number
 
 -- the entry concerned, as the answer names it: only a blocked request has one
 abbrev pub entry_of : ScalableAnswer → Place
 entry_of (Granted address) = no_entry
 entry_of (Blocked f place) = place_of place
-entry_of (Refused r) = no_entry
+entry_of (Refused number) = no_entry

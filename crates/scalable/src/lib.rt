@@ -38,8 +38,9 @@ pub enum ScalableAnswer {
     Granted(u64),
     // With the entry concerned.
     Blocked(ScalableFault, Option<u64>),
-    // Bad registers or windows, an address in the interrupt range, a page with a byte in it, or a PASID of more than 20 bits.
-    Refused(Refusal),
+    // By the number of a `Refusal`: bad registers or windows, an address in the interrupt range, a page with a byte in it, or a PASID of
+    // more than 20 bits.
+    Refused(u8),
 }
 
 fn pasid_too_wide(pasid: Pasid) -> bool
@@ -55,7 +56,7 @@ fn page_answer(page: Reached) -> ScalableAnswer
     ensures result_value_2 { (place : Place) → entry_of result ≡ concerned (outcome_of result) place }
 {
     if meets_interrupt_range(page.level, page.frame) {
-        return ScalableAnswer::Refused(Refusal::InterruptPage);
+        return ScalableAnswer::Refused(Refusal::InterruptPage as u8);
     }
     ScalableAnswer::Granted(page.host)
 }
@@ -116,7 +117,7 @@ fn take_up(
     ensures image_after { image.new ≡ set_flags windows.now (run (taken_rules registers request) (of_windows windows.now image.old)).flags image.old }
 {
     if pasid_too_wide(request.pasid) {
-        return ScalableAnswer::Refused(Refusal::WidePasid);
+        return ScalableAnswer::Refused(Refusal::WidePasid as u8);
     }
     let mut flags = [0u64; 47];
     let memory = Memory {
@@ -142,17 +143,17 @@ pub fn scalable_request(
     ensures image_after { image.new ≡ scalable_written registers request windows.now image.old }
 {
     if bad_windows(windows, image.len()) {
-        return ScalableAnswer::Refused(Refusal::BadRegisters);
+        return ScalableAnswer::Refused(Refusal::BadRegisters as u8);
     }
     match admit(
         registers.base,
         in_interrupt_range(request.address),
         registers.base.te,
     ) {
-        Err(refusal) => ScalableAnswer::Refused(refusal),
+        Err(refusal) => ScalableAnswer::Refused(refusal.number()),
         Ok(Admission::Passed) => {
             if pasid_too_wide(request.pasid) {
-                return ScalableAnswer::Refused(Refusal::WidePasid);
+                return ScalableAnswer::Refused(Refusal::WidePasid as u8);
             }
             ScalableAnswer::Granted(request.address)
         }

@@ -1,10 +1,8 @@
 -- No two answers of the code stand for the same outcome: a translation request's promise leaves one answer.
 use Prim.Native.Nat.{ℕ, ◌^◌, ◌<◌}
-use mathlib.Core.Path.{◌≡◌, refl, ap, ap₂}
+use mathlib.Core.Path.{◌≡◌, refl, ap₂}
 use native.Mathlib.Omega.{arith}
 use Rattle.image.proofs.Places.{place_of-injective}
-use Rattle.registers.specs.Refusal.{refusal_number}
-use Rattle.registers.proofs.Refusals.{refusal_number-injective}
 use Rattle.faults.specs.Answers.{fault_of}
 use Rattle.faults.proofs.Contents.{fault_of-injective}
 use Rattle.translation.specs.Answers.{size_of, outcome_of, entry_of}
@@ -36,7 +34,7 @@ Sized (Passed address) = Unit {0}
 Sized (Page frame size rights) = Unit {0}
 Sized Empty = Unit {0}
 Sized (Blocked f at) = f.low < 2 ^ 64
-Sized (Refused r) = Unit {0}
+Sized (Refused number) = Unit {0}
 
 pub outcome_of-injective : (r s : TranslationAnswer) → Sized r → Sized s → outcome_of r ≡ outcome_of s → entry_of r ≡ entry_of s → r ≡ s
 outcome_of-injective (Passed x) (Passed y) sr ss e p = cc
@@ -51,9 +49,7 @@ outcome_of-injective Empty Empty sr ss e p = refl
 outcome_of-injective (Blocked f at) (Blocked g at') sr ss e p =
     let same : fault_of f ≡ fault_of g = cc in
     ap₂ Blocked (fault_of-injective f g sr ss same) (place_of-injective at at' p)
-outcome_of-injective (Refused n) (Refused m) sr ss e p =
-    let same : refusal_number n ≡ refusal_number m = cc in
-    ap Refused (refusal_number-injective n m same)
+outcome_of-injective (Refused n) (Refused m) sr ss e p = cc
 outcome_of-injective (Passed x) (Page g t q) sr ss e p = let z : ◌≡◌ {A = ℕ} 0 1 = cc in absurd (omega arith)
 outcome_of-injective (Passed x) Empty sr ss e p = let z : ◌≡◌ {A = ℕ} 0 1 = cc in absurd (omega arith)
 outcome_of-injective (Passed x) (Blocked g at') sr ss e p = let z : ◌≡◌ {A = ℕ} 0 1 = cc in absurd (omega arith)

@@ -2,7 +2,6 @@
 use Rattle.std.specs.Prelude.{ℕ, ◌≡◌, Option, Some, None, Result, Ok, Err}
 use Rattle.image.specs.Answers.{place_of}
 use Rattle.image.specs.Place.{Place, no_entry}
-use Rattle.registers.specs.Refusal.{refusal_number}
 use Rattle.faults.specs.Answers.{fault_of}
 use Rattle.faults.specs.Reason.{number_of}
 use Rattle.faults.specs.declared.reason.Reason.{Reason}
@@ -51,7 +50,7 @@ outcome_of (Passed address) = passed address
 outcome_of (Page frame size rights) = translated frame (size_of size) rights
 outcome_of Empty = translated 0 0 neither
 outcome_of (Blocked f place) = blocked (fault_of f)
-outcome_of (Refused r) = refused (refusal_number r)
+outcome_of (Refused number) = refused number
 
 -- the entry concerned, as the answer names it: only a blocked request has one
 abbrev pub entry_of : TranslationAnswer → Place
@@ -59,4 +58,4 @@ entry_of (Passed address) = no_entry
 entry_of (Page frame size rights) = no_entry
 entry_of Empty = no_entry
 entry_of (Blocked f place) = place_of place
-entry_of (Refused r) = no_entry
+entry_of (Refused number) = no_entry

@@ -65,8 +65,8 @@ pub enum TranslationAnswer {
     Empty,
     // With the entry concerned.
     Blocked(Fault, Option<u64>),
-    // For bad registers or windows, an address in the interrupt range, or a page with a byte in it.
-    Refused(Refusal),
+    // By the number of a `Refusal`: bad registers or windows, an address in the interrupt range, or a page with a byte in it.
+    Refused(u8),
 }
 
 // By the level of a page's entry.
@@ -88,7 +88,7 @@ fn page_answer(request: TranslationRequest, found: Page) -> TranslationAnswer
     ensures result_value_2 { (place : Place) → entry_of result ≡ concerned (outcome_of result) place }
 {
     if meets_interrupt_range(found.level, found.frame) {
-        return TranslationAnswer::Refused(Refusal::InterruptPage);
+        return TranslationAnswer::Refused(Refusal::InterruptPage as u8);
     }
     TranslationAnswer::Page(found.frame, page_size(found.level), found.rights)
 }
@@ -122,14 +122,14 @@ pub fn translation_request(
     ensures result_value_2 { entry_of result ≡ translation_answer_place registers request windows.now image.now }
 {
     let Some(memory) = Memory::open(windows, image) else {
-        return TranslationAnswer::Refused(Refusal::BadRegisters);
+        return TranslationAnswer::Refused(Refusal::BadRegisters as u8);
     };
     // As for memory requests: told before `admit` has a refusal to choose.
     if registers.bad() {
-        return TranslationAnswer::Refused(Refusal::BadRegisters);
+        return TranslationAnswer::Refused(Refusal::BadRegisters as u8);
     }
     match admit(registers, in_interrupt_range(request.address), registers.te) {
-        Err(refusal) => TranslationAnswer::Refused(refusal),
+        Err(refusal) => TranslationAnswer::Refused(refusal.number()),
         Ok(Admission::Passed) => TranslationAnswer::Passed(request.address),
         Ok(Admission::Taken) => answer(request, complete(&memory, registers, request)),
     }

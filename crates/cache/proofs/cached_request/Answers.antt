@@ -54,7 +54,7 @@ returns-in-Err c =
     let m = of_windows a.windows.now a.image.now in
     let is = state-refuses a.registers a.state.now a.request m c.in_interrupt_range.ensures (sym (ap admitted_of c.in-Err.is) ∙ c.admit.ensures) in
     let good = fine c.in-Some.memory c.in-Some.ensures in
-    record { result_value = rw good is.0; result_value_2 = rw good is.1; state_after = rw good is.2 }
+    record { result_value = rw (c.number.ensures, good) is.0; result_value_2 = rw good is.1; state_after = rw good is.2 }
 
 pub returns-in-Ok-Passed : goal.returns-in-Ok-Passed
 returns-in-Ok-Passed c =

@@ -41,7 +41,7 @@ returns-in-Err c =
     let a = c.args in
     let t = memory-told a.registers a.request a.windows.now a.image.now (fine c.in-Some.memory c.in-Some.ensures)
     (refuses a.registers a.request _ c.in_interrupt_range.ensures (sym (ap admitted_of c.in-Err.is) ∙ c.admit.ensures)) in
-    record { result_value = t.0; result_value_2 = t.1 }
+    record { result_value = rw c.number.ensures t.0; result_value_2 = t.1 }
 
 pub returns-in-Ok-Passed : goal.returns-in-Ok-Passed
 returns-in-Ok-Passed c =

@@ -33,7 +33,7 @@ decide_taken-requires c =
 pub returns-in-Err-clause-result_value : goal.returns-in-Err-clause-result_value
 returns-in-Err-clause-result_value c =
     let a = c.args in
-    refuses a.registers a.request (memory_of a.memory.now) c.in_interrupt_range.ensures c.in-Err.ensures
+    rw c.number.ensures (refuses a.registers a.request (memory_of a.memory.now) c.in_interrupt_range.ensures c.in-Err.ensures)
 
 pub returns-in-Err-clause-result_value_2 : goal.returns-in-Err-clause-result_value_2
 returns-in-Err-clause-result_value_2 c =

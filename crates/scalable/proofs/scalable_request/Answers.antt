@@ -45,7 +45,7 @@ returns-in-Err c =
     let a = c.args in
     let is = refuses a.registers a.request (of_windows a.windows.now a.image.now) c.in_interrupt_range.ensures (admitted (goal.at.returns-in-Err c).After-admit c.in-Err.is) in
     let t = said a.registers a.request a.windows.now a.image.now (fine (goal.at.returns-in-Err c).After-admit) (refused (refusal_number c.in-Err.refusal)) is in
-    record { result_value = t.0; result_value_2 = t.1.0; image_after = t.1.1 }
+    record { result_value = rw c.number.ensures t.0; result_value_2 = t.1.0; image_after = t.1.1 }
 
 pub returns-else-pasid_too_wide : goal.returns-else-pasid_too_wide
 returns-else-pasid_too_wide c =
