@@ -85,9 +85,9 @@ pub fn memory_entry(request: MemoryRequest, answer: MemoryAnswer) -> Traced
             ..e
         },
         MemoryAnswer::Blocked(fault, entry) => with_fault(e, fault, entry),
-        MemoryAnswer::Refused(refusal) => Traced {
+        MemoryAnswer::Refused(number) => Traced {
             answer: Answer::Refused as u8,
-            number: refusal.number(),
+            number,
             ..e
         },
     }
@@ -184,9 +184,9 @@ pub fn interrupt_entry(request: InterruptRequest, answer: InterruptAnswer) -> Tr
         InterruptAnswer::Remapped(r) => remapped(request, r),
         InterruptAnswer::Posted(p) => posted(request, p),
         InterruptAnswer::Blocked(fault, entry) => with_fault(e, fault, entry),
-        InterruptAnswer::Refused(refusal) => Traced {
+        InterruptAnswer::Refused(number) => Traced {
             answer: Answer::Refused as u8,
-            number: refusal.number(),
+            number,
             ..e
         },
     }

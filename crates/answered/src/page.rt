@@ -52,9 +52,9 @@ pub fn translation_entry(request: TranslationRequest, answer: TranslationAnswer)
             ..e
         },
         TranslationAnswer::Blocked(fault, entry) => with_fault(e, fault, entry),
-        TranslationAnswer::Refused(refusal) => Traced {
+        TranslationAnswer::Refused(number) => Traced {
             answer: Answer::Refused as u8,
-            number: refusal.number(),
+            number,
             ..e
         },
     }

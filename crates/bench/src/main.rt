@@ -4,7 +4,7 @@
 
 use std::io;
 use unit::{
-    Fault, InterruptAnswer, InterruptRequest, MemoryAnswer, MemoryRequest, Notice, Posted, Refusal,
+    Fault, InterruptAnswer, InterruptRequest, MemoryAnswer, MemoryRequest, Notice, Posted,
     Registers, SourceId,
 };
 
@@ -59,8 +59,8 @@ fn print_fault(rt: &impl Print, fault: Fault, entry: Option<u64>) -> io::Result<
     Ok(())
 }
 
-fn print_refusal(rt: &impl Print, refusal: Refusal) -> io::Result<()> {
-    print!(rt; "refused {:X}", refusal.number())
+fn print_refusal(rt: &impl Print, number: u8) -> io::Result<()> {
+    print!(rt; "refused {number:X}")
 }
 
 // The device that most cases ask for: bus 03h, device and function 10h.
@@ -93,7 +93,7 @@ fn memory(
     match unit::memory_request(registers(), &windows, image, request) {
         MemoryAnswer::Granted(host) => print!(rt; "granted {host:X}")?,
         MemoryAnswer::Blocked(fault, entry) => print_fault(rt, fault, entry)?,
-        MemoryAnswer::Refused(refusal) => print_refusal(rt, refusal)?,
+        MemoryAnswer::Refused(number) => print_refusal(rt, number)?,
     }
     println!(rt;)
 }
@@ -141,7 +141,7 @@ fn interrupt(
         }
         InterruptAnswer::Posted(posted) => print_posted(rt, posted),
         InterruptAnswer::Blocked(fault, entry) => print_fault(rt, fault, entry),
-        InterruptAnswer::Refused(refusal) => print_refusal(rt, refusal),
+        InterruptAnswer::Refused(number) => print_refusal(rt, number),
     }
 }
 

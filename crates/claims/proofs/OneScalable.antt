@@ -3,8 +3,6 @@ use Prim.Native.Nat.{ℕ, ◌^◌, ◌<◌}
 use mathlib.Core.Path.{◌≡◌, refl, ap, ap₂, sym, ◌∙◌}
 use native.Mathlib.Omega.{arith}
 use lib.Dec.{eqb}
-use Rattle.registers.specs.Refusal.{refusal_number}
-use Rattle.registers.proofs.Refusals.{refusal_number-injective}
 use Rattle.std.specs.Prelude.{if◌then◌else◌}
 use Rattle.image.proofs.Places.{place_of-injective}
 use Rattle.faults.proofs.Contents.{one-fault}
@@ -104,5 +102,4 @@ one-scalable-answer (Blocked f at) (Blocked g at') sr ss e p =
 one-scalable-answer (Blocked f at) (Refused m) sr ss e p = let z : ◌≡◌ {A = ℕ} 0 1 = cc in absurd (omega arith)
 one-scalable-answer (Refused n) (Granted y) sr ss e p = let z : ◌≡◌ {A = ℕ} 0 1 = cc in absurd (omega arith)
 one-scalable-answer (Refused n) (Blocked g at') sr ss e p = let z : ◌≡◌ {A = ℕ} 0 1 = cc in absurd (omega arith)
-one-scalable-answer (Refused n) (Refused m) sr ss e p =
-    let same : refusal_number n ≡ refusal_number m = cc in ap Refused (refusal_number-injective n m same)
+one-scalable-answer (Refused n) (Refused m) sr ss e p = cc

@@ -24,26 +24,26 @@ use Rattle.takes.specs.Answers.{take_outcome_of}
 abbrev pub Sized : MemoryAnswer → Type 0
 Sized (Granted address) = Unit {0}
 Sized (Blocked f at) = f.low < 2 ^ 64
-Sized (Refused r) = Unit {0}
+Sized (Refused number) = Unit {0}
 
 abbrev pub SizedTranslation : TranslationAnswer → Type 0
 SizedTranslation (translated.Passed address) = Unit {0}
 SizedTranslation (translated.Page frame size rights) = Unit {0}
 SizedTranslation translated.Empty = Unit {0}
 SizedTranslation (translated.Blocked f at) = f.low < 2 ^ 64
-SizedTranslation (translated.Refused r) = Unit {0}
+SizedTranslation (translated.Refused number) = Unit {0}
 
 abbrev pub SizedInterrupt : InterruptAnswer → Type 0
 SizedInterrupt answer.Passed = Unit {0}
 SizedInterrupt (answer.Remapped r) = Unit {0}
 SizedInterrupt (answer.Posted p) = Unit {0}
 SizedInterrupt (answer.Blocked f at) = f.low < 2 ^ 64
-SizedInterrupt (answer.Refused r) = Unit {0}
+SizedInterrupt (answer.Refused number) = Unit {0}
 
 abbrev pub SizedScalable : ScalableAnswer → Type 0
 SizedScalable (decided.Granted address) = Unit {0}
 SizedScalable (decided.Blocked f at) = f.low < 2 ^ 64
-SizedScalable (decided.Refused r) = Unit {0}
+SizedScalable (decided.Refused number) = Unit {0}
 
 abbrev pub OneMemoryAnswer : Type 0
 OneMemoryAnswer = (r s : MemoryAnswer) → Sized r → Sized s → memory.outcome_of r ≡ memory.outcome_of s → memory.entry_of r ≡ memory.entry_of s → r ≡ s

@@ -68,7 +68,7 @@ fn pack_scalable(answer: ScalableAnswer) -> Packed
             };
             pack_blocked(reason.number(), told, entry)
         }
-        ScalableAnswer::Refused(refusal) => pack_refusal(refusal.number()),
+        ScalableAnswer::Refused(number) => pack_refusal(number),
     }
 }
 

@@ -45,7 +45,7 @@ fn pack_translation(answer: TranslationAnswer) -> Packed
         TranslationAnswer::Page(frame, size, rights) => pack_page(frame, size, rights),
         TranslationAnswer::Empty => short(head(EMPTY, 0, 0, 0, 0)),
         TranslationAnswer::Blocked(fault, entry) => pack_fault(fault, entry),
-        TranslationAnswer::Refused(refusal) => pack_refusal(refusal.number()),
+        TranslationAnswer::Refused(number) => pack_refusal(number),
     }
 }
 

@@ -120,7 +120,7 @@ fn pack_memory(answer: MemoryAnswer) -> Packed
     match answer {
         MemoryAnswer::Granted(address) => pack_granted(address),
         MemoryAnswer::Blocked(fault, entry) => pack_fault(fault, entry),
-        MemoryAnswer::Refused(refusal) => pack_refusal(refusal.number()),
+        MemoryAnswer::Refused(number) => pack_refusal(number),
     }
 }
 
@@ -172,7 +172,7 @@ pub fn pack_interrupt(answer: InterruptAnswer) -> Packed
             pack_posted(posted.descriptor, posted.vector, posted.notification)
         }
         InterruptAnswer::Blocked(fault, entry) => pack_fault(fault, entry),
-        InterruptAnswer::Refused(refusal) => pack_refusal(refusal.number()),
+        InterruptAnswer::Refused(number) => pack_refusal(number),
     }
 }
 
