@@ -1,21 +1,21 @@
-use Rattle.std.proofs.Common.{◌≡◌, ◌+◌, ◌-◌, ◌*◌, ◌≤◌, length, drop, refl, arith, length-drop, drop-drop}
-use Rattle.region.proofs.Laid.{one-more}
+use Rattle.std.proofs.Common.{◌≡◌, ◌+◌, ◌-◌, ◌*◌, ◌≤◌, length, take, drop, arith, rules, length-drop, drop-drop}
+use Rattle.region.proofs.Laid.{none-yet, one-more}
 use Rattle.region.proofs.copy.copy_bytes.Goals as goal
 
 pub loop-n-init : goal.loop-n-init
-loop-n-init c = refl
+loop-n-init c = let a = c.args in none-yet a.write (drop a.read a.from.now) a.to.now
 
 pub loop-n-preserved : goal.loop-n-preserved
 loop-n-preserved c =
     let a = c.args in
     let l = c.loop-n in
     let k = 64 * l.n in
-    let width : (k + 64) - k ≡ 64 = omega arith in
-    let read : (a.place + k + 64) - (a.place + k) ≡ 64 = omega arith in
+    let width : (a.write + k + 64) - (a.write + k) ≡ 64 = omega arith in
     let next : 64 * (l.n + 1) ≡ k + 64 = omega arith in
-    let fits : 64 * l.n ≤ length (drop a.place a.image.now) = rw (length-drop a.place a.image.now) (omega (arith, c.requires, c.loop-n-test.true)) in
+    let fits : k ≤ length (drop a.read a.from.now) = rw (length-drop a.read a.from.now) (omega (arith, c.requires, c.loop-n-test.true)) in
+    let part : c.copy_from_slice.new.self ≡ take 64 (drop (a.read + k) a.from.now) = search rules in
     rw (width, next)
-    (one-more k 64 (drop a.place a.image.now) a.copy.now fits l.invariant (rw (read, ← drop-drop k a.place a.image.now) at c.copy_from_slice.ensures.after))
+    (one-more a.write (drop a.read a.from.now) a.to.now k 64 fits (omega (arith, c.requires, c.loop-n-test.true)) l.invariant (rw (← drop-drop k a.read a.from.now) at part))
 
 pub returns : goal.returns
 returns c =

@@ -1,14 +1,15 @@
-use Rattle.std.proofs.Common.{◌≡◌, ◌*◌, ◌/◌, length, sym, ◌∙◌, arith}
+use Rattle.std.proofs.Common.{◌≡◌, ◌*◌, ◌/◌, length, sym, refl, ◌∙◌, arith}
 use Rattle.image.specs.Windows.{windows_of, spot_in}
-use Rattle.region.proofs.Whole.{spotted, whole-room, copied-bytes}
-use Rattle.region.proofs.copy.copy_whole.Goals as goal
+use Rattle.region.proofs.Whole.{spotted, whole-room, bytes-in}
+use Rattle.region.proofs.copy.whole_in.Goals as goal
 
 pub copy_bytes-requires : goal.copy_bytes-requires
 copy_bytes-requires c =
     let a = c.args in
     let size = length a.copy.now in
     let s = spotted (spot_in (windows_of a.windows.now) size a.start) (sym c.find_place.ensures ∙ c.in-Some.is) in
-    (whole-room a.windows.now a.image.now c.requires a.start size s.is, omega arith, c.if-size-ne0.false)
+    let room = whole-room a.windows.now (length a.image.now) c.requires a.start size s.is in
+    (room, omega arith, c.if-size-ne0.false)
 
 pub returns : goal.returns
 returns c =
@@ -18,4 +19,4 @@ returns c =
     let words : 8 * (size / 8) ≡ size = omega (arith, c.if-size-ne0.false) in
     c.copy_bytes.ensures
     ∙ (rw words at
-    (copied-bytes a.windows.now a.image.now c.requires a.start size s.is (λ i. (c.type_inv.image i).fits) (size / 8) a.copy.now (omega arith) (omega arith)))
+    (bytes-in a.windows.now (length a.image.now) c.requires a.start size s.is a.image.now a.copy.now refl (omega arith) (size / 8) (omega arith) (λ i. (c.type_inv.image i).fits)))
