@@ -1,2 +1,4 @@
+pub mod Laid
 pub mod Tests
 pub mod Turns
+pub mod Whole

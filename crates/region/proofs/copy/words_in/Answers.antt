@@ -1,7 +1,7 @@
 use Rattle.std.proofs.Common.{◌-◌, ◌*◌, ◌/◌, length, ◌∙◌, arith}
 use Rattle.image.specs.Answers.{memory_of}
 use Rattle.region.proofs.Turns.{in_on, in_done}
-use Rattle.region.proofs.copy.copy_in.Goals as goal
+use Rattle.region.proofs.copy.words_in.Goals as goal
 
 pub loop-word-preserved : goal.loop-word-preserved
 loop-word-preserved c =

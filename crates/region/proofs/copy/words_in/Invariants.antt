@@ -1,7 +1,7 @@
 use Rattle.std.proofs.Common.{◌≡◌, ◌-◌, ◌*◌, ◌/◌, length}
 use Rattle.image.specs.Answers.{memory_of}
 use Rattle.region.specs.Copy.{copied_in}
-use Rattle.region.proofs.copy.copy_in.Given as goal
+use Rattle.region.proofs.copy.words_in.Given as goal
 
 -- What is left to copy leads to what the whole does.
 abbrev pub invariant-loop-word : goal.invariant-loop-word
