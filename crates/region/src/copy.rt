@@ -9,7 +9,8 @@ use image::{Memory, store8};
 use tables::entry_of;
 
 // Bytes of a run from a place on, into another. Word by word, loads would wait for the stores before them where the two lie a little apart
-// within their pages, as with a copy from malloc. By an array, since else an overlap is looked for.
+// within their pages, as with a copy from malloc. By an array, since else an overlap is looked for. Not inlined: once for both ways.
+#[inline(never)]
 fn copy_bytes(from: &[u8], read: usize, to: &mut [u8], write: usize, size: usize)
     requires { (read + size ≤ length from.now) × (write + size ≤ length to.old) × (size % 64 ≡ 0) }
     ensures { to.new ≡ take write to.old ++ take size (drop read from.now) ++ drop (write + size) to.old }
