@@ -135,6 +135,6 @@ pub fn region_at(memory: &Memory, tables: Tables, address: u64) -> Region
             Err(region) => return region,
         }
     }
-    // No step leads below level 1.
-    fault_region(1, Reason::PageEntryAccess, above)
+    // No step leads below level 1, so this is never reached; the rights are not told here, so that they stay one word on the walk.
+    empty_region(1)
 }
