@@ -32,13 +32,19 @@ pub(crate) fn fill(
 {
     let most = room(rows.len());
     let mut from = 0;
-    for count in 0..most {
+    // A single call of next_span, which the compiler then puts in here: the last turn only tells whether there is one more.
+    for count in 0..most + 1 {
         let Some((start, region)) = next_span(memory, tables, end, from, known) else {
             return Filled { count, more: false };
         };
+        if count == most {
+            break;
+        }
         put_span(rows, count, end, start, region);
         from = start + table_span(region.level - 1);
     }
-    let more = next_span(memory, tables, end, from, known).is_some();
-    Filled { count: most, more }
+    Filled {
+        count: most,
+        more: true,
+    }
 }

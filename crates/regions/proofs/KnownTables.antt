@@ -185,9 +185,15 @@ module _ (registers : Registers) (m : Memory) (outside : (table : ℕ) → Bool)
   abbrev pub Standing : Tables → (address : ℕ) → Reached → Type 0
   Standing tables address at = OnWalk tables.levels tables.top address at.level at.table at.rights
 
+  pub standing-below : (tables : Tables) (address level table : ℕ) (above : Rights) (next : Reached) → 0 < level
+      → OnWalk tables.levels tables.top address level table above
+      → down next.table next.rights ≡ region_step registers m outside address (level - 1) table above → next.level ≡ level - 1
+      → Standing tables address next
+  standing-below tables address level table above next high on told lower =
+      subst (λ (l : ℕ). OnWalk tables.levels tables.top address l next.table next.rights) (sym lower)
+      (on-down tables.levels tables.top address level table above high on told)
+
   pub standing-down : (tables : Tables) (address : ℕ) (at next : Reached) → Standing tables address at
       → down next.table next.rights ≡ region_step registers m outside address (at.level - 1) at.table at.rights → next.level ≡ at.level - 1
       → Standing tables address next
-  standing-down tables address at next on told lower =
-      subst (λ (l : ℕ). OnWalk tables.levels tables.top address l next.table next.rights) (sym lower)
-      (on-down tables.levels tables.top address at.level at.table at.rights at.walkable.0 on told)
+  standing-down tables address at next = standing-below tables address at.level at.table at.rights next at.walkable.0

@@ -85,12 +85,25 @@ pub fn known_level(memory: &Memory, tables: Tables, address: u64, known: &[u64])
     ensures { IfSome result (λ level. (0 < level) × (level ≤ 5)
         × QuietAround tables.registers (memory_of memory.now) (table_outside memory.now.windows.now) tables.levels tables.top level address) }
 {
-    let mut at = at_top(tables);
+    // Part by part, as region_at.
+    let mut level = tables.levels;
+    let mut table = tables.top;
+    let mut above = at_top(tables).rights;
     for _ in 0..tables.levels {
+        let at = Reached {
+            level,
+            table,
+            rights: above,
+        };
         if is_known(memory, known, at) {
-            return Some(at.level);
+            return Some(level);
         }
-        at = table_step(memory, tables.registers, address, at).ok()?;
+        let Ok(next) = table_step(memory, tables.registers, address, at) else {
+            return None;
+        };
+        level = next.level;
+        table = next.table;
+        above = next.rights;
     }
     None
 }
@@ -104,13 +117,22 @@ pub fn remember_tables(memory: &Memory, tables: Tables, from: u64, last: u64, kn
     ensures { (length known.new ≡ length known.old)
         × Sound tables.registers (memory_of memory.now) (table_outside memory.now.windows.now) known.new }
 {
-    let mut at = at_top(tables);
+    // Part by part, as region_at.
+    let mut level = tables.levels;
+    let mut table = tables.top;
+    let mut above = at_top(tables).rights;
     for _ in 0..tables.levels {
+        let at = Reached {
+            level,
+            table,
+            rights: above,
+        };
         remember(memory, from, last, at, known);
-        let step = table_step(memory, tables.registers, last, at);
-        let Ok(next) = step else {
+        let Ok(next) = table_step(memory, tables.registers, last, at) else {
             return;
         };
-        at = next;
+        level = next.level;
+        table = next.table;
+        above = next.rights;
     }
 }

@@ -116,20 +116,25 @@ pub fn at_top(tables: Tables) -> Reached
 pub fn region_at(memory: &Memory, tables: Tables, address: u64) -> Region
     ensures { region_of result ≡ region_in tables.registers (memory_of memory.now) (table_outside memory.now.windows.now) address tables.levels tables.top both }
 {
-    let mut at = at_top(tables);
+    // Part by part: a copy of the whole would wait until all that the step stored of it is through.
+    let mut level = tables.levels;
+    let mut table = tables.top;
+    let mut above = at_top(tables).rights;
     for _ in 0..tables.levels {
+        let at = Reached {
+            level,
+            table,
+            rights: above,
+        };
         match table_step(memory, tables.registers, address, at) {
-            // Field by field: a copy of the whole would wait until all that the step stored of it is through.
             Ok(next) => {
-                at = Reached {
-                    level: next.level,
-                    table: next.table,
-                    rights: next.rights,
-                }
+                level = next.level;
+                table = next.table;
+                above = next.rights;
             }
             Err(region) => return region,
         }
     }
-    // No step leads below level 1.
-    fault_region(1, Reason::PageEntryAccess, at.rights)
+    // No step leads below level 1, so this is never reached; the rights are not told here, so that they stay one word on the walk.
+    empty_region(1)
 }

@@ -25,6 +25,7 @@ loop-count-init c =
       fresh-zero region a.end
           (λ x y. same-region a.tables.registers (memory_of a.memory.now) (table_outside a.memory.now.windows.now) x y a.tables.levels a.tables.top both),
       c.requires.2,
+      omega arith,
     )
 
 -- the span that was found
@@ -43,11 +44,15 @@ loop-count-preserved c =
     let found = first (goal.at.loop-count-preserved c).In-Some in
     let span = sym c.table_span.ensures.0 in
     let start = c.in-Some.start in
-    let fits : 4 * l.count + 4 ≤ length a.rows.now = omega (arith, c.room-most.ensures, c.loop-count-test.true) in (
+    let fits : 4 * l.count + 4 ≤ length a.rows.now = omega (arith, c.room-most.ensures, l.invariant.5, c.if-count-most.false) in (
       subst (λ (s : ℕ). Done region a.end a.rows.now c.put_span.new.rows (l.count + 1) (start + s)) span
           (done_more region a.end a.rows.now l.invariant.0 found fits c.put_span.ensures),
       subst (λ (s : ℕ). (start + s) % 4096 ≡ 0) span found.page,
       omega (arith, found.below, c.requires.0, c.table_span.ensures.2),
       subst (λ (s : ℕ). Fresh region (start + s)) span found.fresh,
       c.next_span.ensures.known_len_unchanged.1,
+      omega (arith, l.invariant.5, c.if-count-most.false),
     )
+
+pub returns-after-loop-count-clause-filled_with : goal.returns-after-loop-count-clause-filled_with
+returns-after-loop-count-clause-filled_with c = absurd (omega (arith, c.loop-count.invariant.5, c.loop-count-test.false))

@@ -1,4 +1,4 @@
-use Prim.Native.Nat.{◌%◌, ◌^◌, ◌<◌}
+use Prim.Native.Nat.{◌%◌, ◌^◌, ◌<◌, ◌≤◌}
 use mathlib.Core.Path.{◌≡◌}
 use Rattle.image.specs.Answers.{memory_of}
 use Rattle.regions.specs.Known.{Sound}
@@ -15,3 +15,4 @@ invariant-loop-count l =
     × (l.from < 2 ^ 59)
     × Fresh (regions_over l.tables l.memory.windows.now l.memory.image.now) l.from
     × Sound l.tables.registers (memory_of l.memory) (table_outside l.memory.windows.now) l.known
+    × (l.count ≤ l.most)

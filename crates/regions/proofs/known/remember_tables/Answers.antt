@@ -3,7 +3,7 @@ use Rattle.image.specs.Answers.{memory_of}
 use lib.ListN.{length}
 use Rattle.regions.specs.Known.{Sound}
 use Rattle.regions.specs.Outside.{table_outside}
-use Rattle.regions.proofs.KnownTables.{standing-down, sound-after}
+use Rattle.regions.proofs.KnownTables.{standing-below, sound-after}
 use Rattle.regions.proofs.known.remember_tables.Goals.{After-remember}
 use Rattle.regions.proofs.known.remember_tables.Goals as goal
 
@@ -14,8 +14,8 @@ kept : (c : After-remember)
 kept c =
     let a = c.args in
     let l = c.loop in
-    sound-after a.tables.registers (memory_of a.memory.now) (table_outside a.memory.now.windows.now) a.tables.levels a.tables.top a.from a.last l.at.level l.at.table
-    l.at.rights l.known c.remember.new.known l.invariant.0 c.requires.2 l.at.walkable.2 l.at.walkable.1 c.remember.ensures l.invariant.1
+    sound-after a.tables.registers (memory_of a.memory.now) (table_outside a.memory.now.windows.now) a.tables.levels a.tables.top a.from a.last l.level l.table
+    l.above l.known c.remember.new.known l.invariant.0 c.requires.2 l.invariant.1.2 l.invariant.1.1 c.remember.ensures l.invariant.2
 
 pub returns-in_default : goal.returns-in_default
 returns-in_default c =
@@ -26,7 +26,8 @@ pub loop-preserved : goal.loop-preserved
 loop-preserved c =
     let a = c.args in
     let l = c.loop in (
-      standing-down a.tables.registers (memory_of a.memory.now) (table_outside a.memory.now.windows.now) a.tables a.last l.at c.in-Ok.next l.invariant.0
-          c.in-Ok.ensures.onward c.in-Ok.ensures.a_level_down,
+      standing-below a.tables.registers (memory_of a.memory.now) (table_outside a.memory.now.windows.now) a.tables a.last l.level l.table l.above c.in-Ok.next
+          l.invariant.1.0 l.invariant.0 c.in-Ok.ensures.onward c.in-Ok.ensures.a_level_down,
+      c.in-Ok.next.walkable,
       (kept (goal.at.loop-preserved c).After-remember).1,
     )

@@ -2,10 +2,12 @@ use Prim.Native.Nat.{◌+◌}
 use mathlib.Core.Path.{◌≡◌}
 use Rattle.image.specs.Answers.{memory_of}
 use Rattle.regions.specs.Outside.{table_outside}
-use Rattle.regions.proofs.KnownTables.{Standing}
+use Rattle.regions.specs.Walkable.{Walkable}
+use Rattle.regions.proofs.KnownTables.{OnWalk}
 use Rattle.regions.proofs.walk.region_at.Given as goal
 
 abbrev pub invariant-loop : goal.invariant-loop
 invariant-loop l =
-    Standing l.tables.registers (memory_of l.memory) (table_outside l.memory.windows.now) l.tables l.address l.at
-    × (l.at.level + l.counter ≡ l.tables.levels)
+    OnWalk l.tables.registers (memory_of l.memory) (table_outside l.memory.windows.now) l.tables.levels l.tables.top l.address l.level l.table l.above
+    × (l.level + l.counter ≡ l.tables.levels)
+    × Walkable l.level l.table
