@@ -24,7 +24,6 @@ pub fn lies_within(low: u8, high: u8, n: u8) -> bool
     (low <= n) & (n <= high)
 }
 
-// Comparisons and no `matches!`: of a match the compiler makes a jump table over the reasons, with the record's packing once for each.
 fn is_silenced(number: u8) -> bool
     ensures { result ≡ silenced number }
 {

@@ -185,6 +185,7 @@ fn bad_count(count: usize) -> bool
 }
 
 // Refusal 1's part on windows: these are refused on a run of so many bytes.
+#[inline(never)]
 pub fn bad_several(windows: &[u64], run: usize) -> bool
     ensures { result ≡ bad_windows windows.now run }
 {

@@ -18,7 +18,7 @@ pub struct ScalableFault {
     pub high: u64,
 }
 
-// FPD silences neither faults of the root entry nor 40h, 50h and 58h. Comparisons, as in `faults`.
+// FPD silences neither faults of the root entry nor 40h, 50h and 58h.
 fn may_record(fpd: bool, number: u8) -> bool
     ensures { result ≡ recordable fpd number }
 {
