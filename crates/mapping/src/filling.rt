@@ -32,7 +32,7 @@ pub(crate) fn fill(
 {
     let most = room(rows.len());
     let mut from = 0;
-    // A single call of next_span, which the compiler then puts in here: the last turn only tells whether there is one more.
+    // A single call of next_span, which the compiler then puts in here: the last turn tells whether there is one more, and goes no further.
     for count in 0..most + 1 {
         let Some((start, region)) = next_span(memory, tables, end, from, known) else {
             return Filled { count, more: false };

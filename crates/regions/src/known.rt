@@ -98,9 +98,7 @@ pub fn known_level(memory: &Memory, tables: Tables, address: u64, known: &[u64])
         if is_known(memory, known, at) {
             return Some(level);
         }
-        let Ok(next) = table_step(memory, tables.registers, address, at) else {
-            return None;
-        };
+        let next = table_step(memory, tables.registers, address, at).ok()?;
         level = next.level;
         table = next.table;
         above = next.rights;

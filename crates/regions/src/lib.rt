@@ -26,7 +26,8 @@ pub enum What {
 #[derive(Clone, Copy, Debug, PartialEq, Eq)]
 pub struct Region {
     pub level: u32,
+    // Beside the level, so that no bytes stand empty behind them, which would be copied at each step of a walk.
+    pub rights: Rights,
     // None where no right is left.
     pub what: Option<What>,
-    pub rights: Rights,
 }

@@ -18,7 +18,7 @@ pub struct Tables {
 #[derive(Clone, Copy, Debug, PartialEq, Eq)]
 pub struct Reached {
     pub level: u32,
-    pub table: u64,
     pub rights: Rights,
+    pub table: u64,
     ghost walkable: { Walkable level table },
 }
