@@ -10,9 +10,8 @@ use Rattle.image.proofs.Same.{one_word}
 use Rattle.image.proofs.Stores.{with_words, all-stored}
 use Rattle.image.proofs.WindowBytes.{byte-spot}
 use Rattle.image.proofs.WindowEntries.{wider, spot_in_lem}
-use Rattle.image.proofs.Words.{words_in, spell-run, whole_word}
-use Rattle.tables.specs.Tables.{held_entry}
-use Rattle.region.specs.Copy.{place_shown, word_shown, stored_at, copied_in, copied_out}
+use Rattle.image.proofs.Words.{words_in, spell-run}
+use Rattle.region.specs.Copy.{place_shown, word_shown, copied_in}
 
 -- a spot whose place was told
 pub record Spotted (spot : Spot) (place : ℕ) : Type 0 where
@@ -64,10 +63,6 @@ module _ (windows : List ℕ) (len : ℕ) (fine : bad_windows windows len ≡ fa
   unfolding word_shown of_windows entry_in word_at
   shown-there run i h = rw (one_word (of_windows windows run) (start + i), word-spot i h)
 
-  stored-there : (run : List ℕ) (word i : ℕ) → i + 8 ≤ size → stored_at windows (start + i) word run ≡ with_word run (place + i) word
-  unfolding stored_at
-  stored-there run word i h = rw (word-spot i h)
-
   words-in : (run : List ℕ) (n i : ℕ) → i + 8 * n ≤ size → (copy : List ℕ)
       → copied_in (of_windows windows run) start n i copy ≡ with_words copy i (words_in run n (place + i))
   unfolding copied_in with_words words_in
@@ -75,16 +70,6 @@ module _ (windows : List ℕ) (len : ℕ) (fine : bad_windows windows len ≡ fa
   words-in run (suc n) i h copy =
       let next : place + i + 8 ≡ place + (i + 8) = omega arith in
       rw (shown-there run i (omega arith), next) (words-in run n (i + 8) (omega arith) (with_word copy i (word_at run (place + i))))
-
-  words-out : (copy : List ℕ) → size ≤ length copy → (n i : ℕ) → i + 8 * n ≤ size → (run : List ℕ)
-      → copied_out windows copy start n i run ≡ with_words run (place + i) (words_in copy n i)
-  unfolding copied_out with_words words_in held_entry
-  words-out copy room zero i h run = refl
-  words-out copy room (suc n) i h run =
-      let next : place + (i + 8) ≡ place + i + 8 = omega arith in
-      let one = with_word run (place + i) (word_at copy i) in
-      rw (whole_word copy i (omega arith), stored-there run (word_at copy i) i (omega arith))
-      (words-out copy room n (i + 8) (omega arith) one ∙ ap (λ (at : ℕ). with_words one at (words_in copy n (i + 8))) next)
 
   module _ (run copy : List ℕ) (same : length run ≡ len) (room : size ≤ length copy) (n : ℕ) (h : 8 * n ≤ size) where
     from : place + 0 ≡ place
@@ -94,8 +79,3 @@ module _ (windows : List ℕ) (len : ℕ) (fine : bad_windows windows len ≡ fa
     bytes-in are =
         bytes-stored run copy are n place 0 (omega (arith, whole-room)) (omega arith)
         ∙ sym (rw from at (words-in run n 0 (omega arith) copy))
-
-    pub bytes-out : AreBytes copy → take place run ++ take (8 * n) (drop 0 copy) ++ drop (place + 8 * n) run ≡ copied_out windows copy start n 0 run
-    bytes-out are =
-        bytes-stored copy run are n 0 place (omega arith) (omega (arith, whole-room))
-        ∙ sym (rw from at (words-out copy room n 0 (omega arith) run))

@@ -1,4 +1,4 @@
-// The words of a region, to a copy and back. Where a single window shows the whole region, as mostly, they are the bytes there.
+// The words of a region, to a copy and back.
 ghost use Rattle.std.specs.Prelude.{false, ◌≡◌, ◌+◌, ◌/◌, ◌%◌, ◌^◌, ◌<◌, ◌≤◌, ◌++◌, length, take, drop, if◌then◌else◌};
 ghost use Rattle.image.specs.Answers.{memory_of};
 ghost use Rattle.image.specs.Windows.{of_windows, bad_windows};
@@ -8,9 +8,8 @@ use crate::spot::{find_place, store_at, word_shown};
 use image::{Memory, store8};
 use tables::entry_of;
 
-// Bytes of a run from a place on, into another. Word by word, loads would wait for the stores before them where the two lie a little apart
-// within their pages, as with a copy from malloc. By an array, since else an overlap is looked for. Not inlined: once for both ways.
-#[inline(never)]
+// Bytes of a run from a place on, into another, 64 at a time: word by word, loads would wait for the stores before them where the two lie a
+// little apart within their pages, as with a copy from malloc. By an array, since else the compiler looks for an overlap.
 fn copy_bytes(from: &[u8], read: usize, to: &mut [u8], write: usize, size: usize)
     requires { (read + size ≤ length from.now) × (write + size ≤ length to.old) × (size % 64 ≡ 0) }
     ensures { to.new ≡ take write to.old ++ take size (drop read from.now) ++ drop (write + size) to.old }
@@ -22,6 +21,7 @@ fn copy_bytes(from: &[u8], read: usize, to: &mut [u8], write: usize, size: usize
     }
 }
 
+// Where a single window shows the whole region, as mostly, its words are the bytes there.
 fn whole_in(windows: &[u64], image: &[u8], copy: &mut [u8], start: u64) -> bool
     requires { bad_windows windows.now (length image.now) ≡ false }
     ensures { copy.new ≡ if result then copied_in (of_windows windows.now image.now) start (length copy.old / 8) 0 copy.old else copy.old }
@@ -55,35 +55,12 @@ pub fn copy_in(memory: &Memory, copy: &mut [u8], start: u64)
     }
 }
 
-fn whole_out(windows: &[u64], image: &mut [u8], copy: &[u8], start: u64) -> bool
-    requires { bad_windows windows.now (length image.old) ≡ false }
-    ensures { image.new ≡ if result then copied_out windows.now copy.now start (length copy.now / 8) 0 image.old else image.old }
-{
-    let size = copy.len();
-    if size % 64 != 0 {
-        return false;
-    }
-    let Some(place) = find_place(windows, image.len(), size as u64, start) else {
-        return false;
-    };
-    copy_bytes(copy, 0, image, place as usize, size);
-    true
-}
-
-fn words_out(windows: &[u64], image: &mut [u8], copy: &[u8], start: u64)
+// Word by word, so that guest memory is stored from the lowest word up.
+pub fn copy_out(windows: &[u64], image: &mut [u8], copy: &[u8], start: u64)
     requires { (bad_windows windows.now (length image.old) ≡ false) × (start + length copy.now < 2 ^ 63) }
     ensures { image.new ≡ copied_out windows.now copy.now start (length copy.now / 8) 0 image.old }
 {
     for word in 0..copy.len() as u64 / 8 {
         store_at(windows, image, start + 8 * word, entry_of(copy, 8 * word));
-    }
-}
-
-pub fn copy_out(windows: &[u64], image: &mut [u8], copy: &[u8], start: u64)
-    requires { (bad_windows windows.now (length image.old) ≡ false) × (start + length copy.now < 2 ^ 63) }
-    ensures { image.new ≡ copied_out windows.now copy.now start (length copy.now / 8) 0 image.old }
-{
-    if !whole_out(windows, image, copy, start) {
-        words_out(windows, image, copy, start);
     }
 }

@@ -1,6 +1,6 @@
 use Rattle.std.proofs.Common.{◌≡◌, ◌-◌, ◌*◌, ◌/◌, length}
 use Rattle.region.specs.Copy.{copied_out}
-use Rattle.region.proofs.copy.words_out.Given as goal
+use Rattle.region.proofs.copy.copy_out.Given as goal
 
 -- What is left to copy leads to what the whole does.
 abbrev pub invariant-loop-word : goal.invariant-loop-word

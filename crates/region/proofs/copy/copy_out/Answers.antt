@@ -1,6 +1,6 @@
 use Rattle.std.proofs.Common.{◌-◌, ◌*◌, ◌/◌, length, ◌∙◌, arith}
 use Rattle.region.proofs.Turns.{out_on, out_done}
-use Rattle.region.proofs.copy.words_out.Goals as goal
+use Rattle.region.proofs.copy.copy_out.Goals as goal
 
 pub loop-word-preserved : goal.loop-word-preserved
 loop-word-preserved c =
