@@ -1,6 +1,6 @@
 -- The marking's definitions by their first turn and at their end: for the code's loops.
-use Rattle.std.proofs.Common.{◌≡◌, ℕ, suc, ◌+◌, ◌≤◌, Bool, true, false, List, length, ◌∙◌}
-use Rattle.tables.specs.Tables.{held_entry}
+use Rattle.std.proofs.Common.{◌≡◌, ℕ, zero, suc, ◌+◌, ◌≤◌, Bool, true, false, not, ◌||◌, List, length, refl, ◌∙◌}
+use Rattle.tables.specs.Tables.{held_entry, present, maps_page}
 use Rattle.tables.specs.declared.Tree.{Tree}
 use Rattle.tables.proofs.Folds.{none_left}
 use Rattle.marking.specs.Marking.{Marked, then_mark, mark_entry, mark_entries, mark_table, mark_level, mark_levels}
@@ -24,6 +24,19 @@ module _ (bytes : List ℕ) (start below at : ℕ) (marks : List ℕ) (n : ℕ) 
   pub entries_done : n ≤ 0 → (true, marks) ≡ mark_entries bytes start below n at marks
   unfolding mark_entries
   entries_done h = rw (none_left n h)
+
+-- no entry of a table of the last level leads to another
+either : (b : Bool) → (b || true) ≡ true
+either true = refl
+either false = refl
+
+pub no_tables : (bytes : List ℕ) (start n at : ℕ) (marks : List ℕ) → (true, marks) ≡ mark_entries bytes start 0 n at marks
+unfolding mark_entries mark_entry
+no_tables bytes start zero at marks = refl
+no_tables bytes start (suc n) at marks =
+    let e = held_entry bytes at in
+    let maps : (not (present e) || maps_page 0 e) ≡ true = either (not (present e)) in
+    rw maps (no_tables bytes start n (at + 8) marks)
 
 module _ (bytes : List ℕ) (tree : Tree) (below page : ℕ) (marks : List ℕ) where
   level_first : (n k : ℕ) → n ≡ suc k

@@ -44,6 +44,10 @@ fn mark_entries(bytes: &[u8], marks: &mut [u8], start: u64, below: u32, table: u
     requires { (start < 2 ^ 53) × (below < 5) × (table < 2 ^ 63) }
     ensures { (result, marks.new) ≡ entries_marked bytes.now start below 512 table marks.old }
 {
+    // No entry of such a table leads to another.
+    if below == 0 {
+        return true;
+    }
     for word in 0..512 {
         if !mark_entry(marks, start, below, entry_of(bytes, table + 8 * word)) {
             return false;

@@ -1,8 +1,11 @@
 use Rattle.std.proofs.Common.{ℕ, ◌+◌, ◌-◌, ◌*◌, ap, ◌∙◌, arith}
 use Rattle.tables.proofs.Folds.{again}
 use Rattle.marking.specs.Marking.{mark_entry, mark_entries}
-use Rattle.marking.proofs.Turns.{good, bad, entries_first, entries_done}
+use Rattle.marking.proofs.Turns.{good, bad, entries_first, entries_done, no_tables}
 use Rattle.marking.proofs.mark_entries.Goals as goal
+
+pub returns-then-below-eq0 : goal.returns-then-below-eq0
+returns-then-below-eq0 c = let a = c.args in rw c.if-below-eq0.true (no_tables a.bytes.now a.start 512 a.table a.marks.now)
 
 pub returns-then-not-mark_entry : goal.returns-then-not-mark_entry
 returns-then-not-mark_entry c =
